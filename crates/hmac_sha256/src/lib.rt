@@ -1,0 +1,2 @@
+//! (head paragraph)
+#![tactic(auto)]
