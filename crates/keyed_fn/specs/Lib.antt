@@ -1,0 +1,2 @@
+pub mod KeyedFn
+pub mod KeyFormulas
