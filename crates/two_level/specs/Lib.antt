@@ -1,1 +1,3 @@
 pub mod Shape
+pub mod Plan
+pub mod Planned
