@@ -1,0 +1,2 @@
+pub mod KeyBlock
+pub mod Codes

@@ -1,0 +1,2 @@
+pub mod Fips198
+pub mod IsMac

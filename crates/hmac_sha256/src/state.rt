@@ -1,0 +1,48 @@
+ghost use Rattle.std.specs.Prelude.{◌≡◌, ◌++◌, ℕ, List, []};
+
+use crate::key_block::{INNER_MASK, OUTER_MASK, key_block, mask_in_place};
+use sha2::{Digest, Sha256};
+
+/// HMAC-SHA-256 of a text that comes in pieces, one after another.
+#[derive(Drop)]
+pub struct Hmac {
+    inner: Sha256,
+    outer: Sha256,
+}
+
+impl Hmac {
+    ghost use Rattle.hmac_sha256.specs.Fips198.{hmac_of};
+    ghost use Rattle.hmac_sha256.specs.IsMac.{IsMac};
+
+    /// Begins with a key of any length and no text.
+    pub fn new(key: &[u8]) -> Hmac
+        ensures { IsMac result key.now [] }
+    {
+        let mut inner_block = key_block(key);
+        let mut outer_block = inner_block;
+        mask_in_place(&mut inner_block, INNER_MASK);
+        mask_in_place(&mut outer_block, OUTER_MASK);
+        let mut inner = Sha256::new();
+        inner.update(inner_block.as_slice());
+        let mut outer = Sha256::new();
+        outer.update(outer_block.as_slice());
+        Hmac { inner, outer }
+    }
+
+    /// Appends the bytes to the text.
+    pub fn update(&mut self, bytes: &[u8])
+        ensures { (key text : List ℕ) → IsMac self.old key text → IsMac self.new key (text ++ bytes.now) }
+    {
+        self.inner.update(bytes);
+    }
+
+    /// The 32 bytes of the code of the whole text.
+    pub fn finish(self) -> [u8; 32]
+        ensures { (key text : List ℕ) → IsMac self key text → result ≡ hmac_of key text }
+    {
+        let Hmac { inner, mut outer } = self;
+        let digest = inner.finalize();
+        outer.update(digest.as_slice());
+        outer.finalize()
+    }
+}
