@@ -1,0 +1,43 @@
+ghost use Rattle.std.specs.Prelude.{◌≡◌, ℕ, ◌^◌, ◌≤◌, List, [], length, take, drop, Some, IfOk, IfSome, IsOk};
+ghost use Rattle.std.specs.Io.{ReadsAtMost};
+ghost use Rattle.sse_outside.specs.Causes.{HasCause};
+
+use crate::hand_out::hand_out;
+use crate::{Disk, Failed};
+use std::alloc::Global;
+
+/// A disk in memory that never fails: its count of faults is 0.
+#[derive(Drop)]
+pub struct SteadyDisk {
+    bytes: Vec<u8>,
+    ghost in_limit: { length bytes.items ≤ 2 ^ 63 },
+}
+
+impl SteadyDisk {
+    /// An empty disk.
+    pub fn new(alloc: Global) -> SteadyDisk
+        ensures content { ⟦<SteadyDisk as Disk>⟧.content result ≡ Some [] }
+    {
+        SteadyDisk {
+            bytes: Vec::new(alloc),
+        }
+    }
+}
+
+impl Disk for SteadyDisk {
+    ghost content = { λ s. Some s.bytes.items };
+
+    ghost faults = { λ _. 0 };
+
+    fn len(&mut self) -> Result<u64, Failed> {
+        Ok(self.bytes.len() as u64)
+    }
+
+    fn read_at(&mut self, at: u64, out: &mut [u8]) -> Result<usize, Failed> {
+        let at = at as usize;
+        if at >= self.bytes.len() {
+            return Ok(0);
+        }
+        Ok(hand_out(&self.bytes, at, out))
+    }
+}
