@@ -1,0 +1,3 @@
+pub mod Rfc8439
+pub mod Pad
+pub mod Xored

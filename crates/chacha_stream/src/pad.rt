@@ -1,0 +1,18 @@
+ghost use Rattle.std.specs.Prelude.{◌≡◌, ◌^◌, ◌≤◌, length};
+ghost use Rattle.chacha_stream.specs.Pad.{chacha_pad};
+
+use rand_chacha::ChaCha20Rng;
+use rand_core::{Rng, SeedableRng};
+
+/// Writes pad number `n` over `out`: the first bytes of the ChaCha20 key stream (RFC 8439, 2.4) under
+/// `key`, the nonce being four zero bytes and then `n`, low byte first, the block counter from 0.
+///
+/// At most 2^38 bytes, which are the 2^32 blocks of 64 bytes that the counter of the standard can number.
+pub fn pad_into(key: &[u8; 32], n: u64, out: &mut [u8])
+    requires { length out.old ≤ 2 ^ 38 }
+    ensures { out.new ≡ chacha_pad key.now n (length out.old) }
+{
+    let mut stream = ChaCha20Rng::from_seed(*key);
+    stream.set_stream(n);
+    stream.fill_bytes(out);
+}
