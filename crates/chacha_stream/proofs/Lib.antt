@@ -1,3 +1,4 @@
 pub mod Blocks
 pub mod Streams
 pub mod Rows
+pub mod Laws

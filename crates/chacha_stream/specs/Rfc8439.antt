@@ -1,6 +1,6 @@
 -- ChaCha20 as in RFC 8439, 2.1 to 2.4, under its names and in its order. A word is a number below
 -- 2 ^ 32, a state a list of 16 words, and bytes are numbers below 256.
-use Rattle.std.specs.Prelude.{ℕ, zero, suc, ◌+◌, ◌*◌, ◌/◌, ◌%◌, ◌^◌, List, [], ◌∷◌, map, flat_map, bit_xor, slice_index, slice_set}
+use Rattle.std.specs.Prelude.{ℕ, zero, suc, ◌+◌, ◌*◌, ◌/◌, ◌%◌, ◌^◌, List, [], ◌∷◌, flat_map, bit_xor, slice_index, slice_set}
 use Rattle.std.specs.List.{range_with_len}
 use Rattle.std.specs.Int.{w32, to_le_bytes, rotate_left}
 

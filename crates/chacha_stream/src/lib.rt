@@ -7,8 +7,10 @@
 //! is a prefix of a longer one, so a pad number is to be spent once; nothing here keeps count of that.
 #![tactic(auto)]
 
-mod in_place;
+mod masking;
 mod pad;
+#[cfg(test)]
+mod tests;
 
-pub use in_place::xor;
-pub use pad::pad_into;
+pub use masking::xor;
+pub use pad::{pad_into, xor_in_place};

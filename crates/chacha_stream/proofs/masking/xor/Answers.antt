@@ -1,6 +1,6 @@
 use Rattle.std.proofs.Common.{length, arith}
 use Rattle.std.proofs.lemmas.List.FromFn.{fill_by_all}
-use Rattle.chacha_stream.proofs.in_place.xor.Goals as goal
+use Rattle.chacha_stream.proofs.masking.xor.Goals as goal
 
 pub returns : goal.returns
 returns c =

@@ -1,6 +1,6 @@
 use Rattle.std.proofs.Common.{◌≡◌, ◌<◌, ◌≤◌, ℕ, get_or}
 use Rattle.std.specs.Prelude.{bit_xor}
-use Rattle.chacha_stream.proofs.in_place.xor.Given as goal
+use Rattle.chacha_stream.proofs.masking.xor.Given as goal
 
 abbrev pub invariant-loop-i : goal.invariant-loop-i
 invariant-loop-i l = record {
