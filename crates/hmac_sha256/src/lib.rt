@@ -12,3 +12,6 @@ mod state;
 
 pub use one_call::hmac;
 pub use state::Hmac;
+
+#[cfg(test)]
+mod tests;

@@ -1,2 +1,4 @@
 pub mod KeyedFn
 pub mod KeyFormulas
+pub mod Toy
+pub mod ToyLaws

@@ -7,5 +7,7 @@
 #![tactic(auto)]
 
 mod keyed;
+mod toy;
 
 pub use keyed::Keyed;
+pub use toy::Toy;
