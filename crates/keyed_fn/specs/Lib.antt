@@ -2,3 +2,4 @@ pub mod KeyedFn
 pub mod KeyFormulas
 pub mod Toy
 pub mod ToyLaws
+pub use Rattle.chacha_stream.specs.Xored

@@ -7,7 +7,10 @@
 #![tactic(auto)]
 
 mod keyed;
+mod real;
 mod toy;
 
+pub use chacha_stream::xor;
 pub use keyed::Keyed;
+pub use real::Real;
 pub use toy::Toy;
