@@ -1,9 +1,11 @@
 -- Values of the toy keyed function under the key of 32 zero bytes, computed by hand: for the word `a` the
 -- key of part p rises by one from p + 194, for the word `c` from p + 198.
-use Rattle.std.proofs.Common.{◌≡◌, List, ℕ, [], ◌∷◌, refl}
+use Rattle.std.proofs.Common.{◌≡◌, List, ℕ, [], ◌∷◌, ◌++◌, refl}
 use Rattle.std.specs.Prelude.{replicate}
+use Rattle.std.specs.Int.{w64, to_be_bytes}
+use Rattle.chacha_stream.specs.Xored.{xored}
 use Rattle.keyed_fn.specs.KeyedFn.{KeyedFn, keyed_fn}
-use Rattle.keyed_fn.specs.KeyFormulas.{part_key, list_label, plus_label, revocation, token_of, mark_of}
+use Rattle.keyed_fn.specs.KeyFormulas.{part_key, list_label, cell_pad, block_pad, plus_label, plus_pad, revocation, token_of, mark_of}
 use Rattle.keyed_fn.specs.Toy.{toy_prf, toy_pad}
 
 -- the toy function, and its key of zeros
@@ -41,10 +43,26 @@ label_of_a : list_label toy (part_key toy zero_key 1 (0x61 ∷ [])) ≡
     0xc3 ∷ 0xc5 ∷ 0xc7 ∷ 0xc9 ∷ 0xcb ∷ 0xcd ∷ 0xcf ∷ 0xd1 ∷ 0xd3 ∷ 0xd5 ∷ 0xd7 ∷ 0xd9 ∷ 0xdb ∷ 0xdd ∷ 0xdf ∷ 0xe1 ∷ []
 label_of_a = refl
 
+-- the cell of `a` that holds identifier 1 alone: its kind 0 and the identifier, under the pad of the cell
+cell_of_a : xored (0 ∷ to_be_bytes w64 1) (cell_pad toy (part_key toy zero_key 2 (0x61 ∷ [])) 9) ≡
+    0xc4 ∷ 0xc5 ∷ 0xc6 ∷ 0xc7 ∷ 0xc8 ∷ 0xc9 ∷ 0xca ∷ 0xcb ∷ 0xcd ∷ []
+cell_of_a = refl
+
+-- block 0 of `a` that holds the identifiers 1 and 2, under its pad
+block_of_a :
+    xored (to_be_bytes w64 1 ++ to_be_bytes w64 2) (block_pad toy (part_key toy zero_key 2 (0x61 ∷ [])) 0 16) ≡
+    0xc5 ∷ 0xc6 ∷ 0xc7 ∷ 0xc8 ∷ 0xc9 ∷ 0xca ∷ 0xcb ∷ 0xcd ∷ 0xcd ∷ 0xce ∷ 0xcf ∷ 0xd0 ∷ 0xd1 ∷ 0xd2 ∷ 0xd3 ∷ 0xd6 ∷ []
+block_of_a = refl
+
 -- the label of addition 0 of `a`
 addition_label_of_a : plus_label toy (part_key toy zero_key 3 (0x61 ∷ [])) 0 ≡
     0xc5 ∷ 0xc7 ∷ 0xc9 ∷ 0xcb ∷ 0xcd ∷ 0xcf ∷ 0xd1 ∷ 0xd3 ∷ 0xd5 ∷ 0xd7 ∷ 0xd9 ∷ 0xdb ∷ 0xdd ∷ 0xdf ∷ 0xe1 ∷ 0xe3 ∷ []
 addition_label_of_a = refl
+
+-- addition 0 of `a`, of identifier 4, under its pad
+addition_of_a : xored (to_be_bytes w64 4) (plus_pad toy (part_key toy zero_key 4 (0x61 ∷ [])) 0) ≡
+    0xc6 ∷ 0xc7 ∷ 0xc8 ∷ 0xc9 ∷ 0xca ∷ 0xcb ∷ 0xcc ∷ 0xc9 ∷ []
+addition_of_a = refl
 
 -- the revocation number of identifier 1 under the key of `a`
 revocation_of_1 : revocation toy (part_key toy zero_key 5 (0x61 ∷ [])) 1 ≡

@@ -14,3 +14,6 @@ pub use chacha_stream::xor;
 pub use keyed::Keyed;
 pub use real::Real;
 pub use toy::Toy;
+
+#[cfg(test)]
+mod tests;
