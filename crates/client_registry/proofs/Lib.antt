@@ -1,0 +1,4 @@
+pub mod Positions
+pub mod FirstClashLaws
+pub mod SeenWords
+pub mod DocumentLaws

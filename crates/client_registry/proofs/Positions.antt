@@ -1,0 +1,26 @@
+use Rattle.std.proofs.Common.{◌≡◌, ℕ, suc, ◌+◌, Bool, true, false, not, cond, ◌||◌, inl, inr, List, [], ◌∷◌, length, None, Some, is_some, nat_lt, position, refl, sym, ◌∙◌, arith}
+use Rattle.std.specs.List.{list_any, position_or_len, prefix_len}
+use Rattle.std.proofs.lemmas.Bool.{lt-ltb, le-ltb, cases_lt}
+
+-- one more on both sides
+nat_lt-suc : (n m : ℕ) → nat_lt n m ≡ nat_lt (1 + n) (suc m)
+nat_lt-suc n m =
+    elim (cases_lt n m) [ inl lt ↦ lt-ltb n m lt ∙ sym (lt-ltb (1 + n) (suc m) (omega arith)) | inr ge ↦ le-ltb n m ge ∙ sym (le-ltb (1 + n) (suc m) (omega arith)) ]
+
+-- some element passes exactly where the first place that passes lies within
+list_any-position_or_len : {X : Type 0} (p : X → Bool) (xs : List X) → list_any p xs ≡ nat_lt (position_or_len p xs) (length xs)
+list_any-position_or_len p [] = refl
+list_any-position_or_len p (x ∷ xs) =
+    elim (p x) as (λ b. (b || list_any p xs) ≡ nat_lt (cond (not b) (1 + prefix_len (λ y. not (p y)) xs) 0) (suc (length xs))) [
+      | true ↦ sym (lt-ltb 0 (suc (length xs)) (omega arith))
+      | false ↦ list_any-position_or_len p xs ∙ nat_lt-suc (position_or_len p xs) (length xs)
+    ]
+
+is_some-cond : (b : Bool) (n : ℕ) → is_some (cond b (Some n) None) ≡ b
+is_some-cond true n = refl
+is_some-cond false n = refl
+
+-- some element passes exactly where there is a first place that does
+pub is_some-position : {X : Type 0} (p : X → Bool) (xs : List X) → is_some (position p xs) ≡ list_any p xs
+is_some-position p xs =
+    is_some-cond (nat_lt (position_or_len p xs) (length xs)) (position_or_len p xs) ∙ sym (list_any-position_or_len p xs)

@@ -1,0 +1,13 @@
+use Rattle.std.proofs.Common.{◌<◌, ◌≤◌, ℕ, IfSome, None, Option, Some, arith, length, ap, unwrap_or}
+use Rattle.std.proofs.lemmas.Str.{utf8_valid_len-IsUtf8}
+use Rattle.client_registry.proofs.word.clean_len.Goals as goal
+
+-- a place within n, or n where there is none, is at most n
+unwrap_or_within : (o : Option ℕ) (n : ℕ) → IfSome o (λ place. place < n) → unwrap_or o n ≤ n
+unwrap_or_within None n h = omega arith
+unwrap_or_within (Some place) n h = omega arith
+
+pub returns-in-Ok : goal.returns-in-Ok
+returns-in-Ok c =
+    let len = length c.args.bytes.now in
+    omega (arith, utf8_valid_len-IsUtf8 c.args.bytes.now c.in-Ok.ensures.cases.1, c.unwrap_or-allowed.ensures, ap (λ o. unwrap_or o len) c.first_forbidden.ensures.first, unwrap_or_within c.first_forbidden.result len c.first_forbidden.ensures.within)

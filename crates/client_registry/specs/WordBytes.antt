@@ -1,0 +1,6 @@
+use Rattle.std.specs.Prelude.{ℕ, List}
+use Rattle.client_registry.specs.declared.word.Word.{Word}
+
+-- the bytes of a word
+abbrev pub word_bytes : Word → List ℕ
+word_bytes word = word.bytes.items

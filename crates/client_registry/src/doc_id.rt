@@ -1,0 +1,37 @@
+ghost use Rattle.std.specs.Prelude.{◌≡◌, ◌<◌, ◌≤◌, ◌^◌};
+
+/// The number zero, which is no identifier.
+#[derive(Clone, Copy, Debug, PartialEq, Eq)]
+pub struct Zero;
+
+/// The identifier of a document: 1 to 2^64-1.
+#[derive(Clone, Copy, Debug, PartialEq, Eq)]
+pub struct DocId {
+    number: u64,
+    pub ghost some: { 1 ≤ number },
+    pub ghost fits: { number < 2 ^ 64 },
+}
+
+impl DocId {
+    ghost use Rattle.std.specs.Prelude.{IfOk, ◌↔◌};
+    ghost use Rattle.client_registry.specs.IdNumber.{id_number};
+
+    /// The identifier of this number. Error: `Zero` exactly where the number is 0.
+    pub fn new(number: u64) -> Result<DocId, Zero>
+        ensures ok { IfOk result (λ id. id_number id ≡ number) }
+        ensures zero { (result ≡ Err (record {})) ↔ (number ≡ 0) }
+    {
+        if number == 0 {
+            return Err(Zero);
+        }
+        Ok(DocId { number })
+    }
+
+    /// The number.
+    pub fn get(&self) -> u64
+        ensures number { result ≡ id_number self.now }
+        ensures some { 1 ≤ result }
+    {
+        self.number
+    }
+}
