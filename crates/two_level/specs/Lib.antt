@@ -1,3 +1,5 @@
 pub mod Shape
 pub mod Plan
 pub mod Planned
+pub mod Laid
+pub mod Opened
