@@ -10,9 +10,16 @@ mod fields;
 mod key;
 mod line;
 mod number;
+mod pieces;
+mod printing;
 mod reading;
+mod refusal;
+mod shown;
+mod text;
 
 pub use bad_line::BadLine;
 pub use fields::Fields;
 pub use line::Line;
+pub use printing::print;
 pub use reading::read_line;
+pub use shown::Shown;

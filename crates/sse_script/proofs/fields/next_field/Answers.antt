@@ -1,6 +1,6 @@
-use Rattle.std.proofs.Common.{◌≡◌, ◌∙◌, ap, arith, drop, length, take, ◌<◌, sym, refl}
+use Rattle.std.proofs.Common.{arith}
 use Rattle.std.proofs.lemmas.List.Sums.{prefix_len-le-length}
-use Rattle.sse_script.proofs.FieldsLemmas.{Cut, spaces, field_len, fields_of_some, fields_of_none}
+use Rattle.sse_script.proofs.FieldsLemmas.{Cut, fields_of_some, fields_of_none}
 use Rattle.sse_script.proofs.fields.next_field.Goals as goal
 
 pub split_at-requires : goal.split_at-requires

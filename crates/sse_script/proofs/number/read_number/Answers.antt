@@ -1,4 +1,4 @@
-use Rattle.std.proofs.Common.{◌≡◌, ◌∙◌, ap, arith, sym, refl}
+use Rattle.std.proofs.Common.{◌∙◌, sym}
 use Rattle.sse_script.proofs.NumberLemmas.{number_of-parse, numeral_is_utf8}
 use Rattle.sse_script.proofs.number.read_number.Goals as goal
 

@@ -1,0 +1,71 @@
+ghost use Rattle.std.specs.Prelude.{◌≡◌, [], ◌∷◌, ◌++◌, length, take, codes, IfOk, OnOk, string_bytes, decimal};
+ghost use Rattle.std.specs.List.{concat};
+ghost use Rattle.hex.specs.Hex.{encode_lower};
+ghost use Rattle.sse_script.specs.Texts.{ids_text};
+
+use std::alloc::{AllocError, Global};
+use std::fmt::Write;
+
+/// A number between two texts.
+pub fn one(alloc: Global, front: &str, n: u64, back: &str) -> Result<String, AllocError>
+    ensures { IfOk result (λ text. string_bytes text ≡ concat (front.now ∷ decimal n ∷ back.now ∷ [])) }
+{
+    format!(in alloc; "{front}{n}{back}")
+}
+
+/// What is wrong with the word at this position, and a number; the line's end behind it.
+pub fn word(alloc: Global, position: u32, wrong: &str, n: u64) -> Result<String, AllocError>
+    ensures { IfOk result (λ text. string_bytes text
+        ≡ concat (codes "refused: word " ∷ decimal position ∷ wrong.now ∷ decimal n ∷ (10 ∷ []) ∷ [])) }
+{
+    format!(in alloc; "refused: word {position}{wrong}{n}\n")
+}
+
+/// Two things of a kind that are equal, by their numbers; the line's end behind it.
+pub fn equal(alloc: Global, things: &str, first: u32, second: u32) -> Result<String, AllocError>
+    ensures { IfOk result (λ text. string_bytes text
+        ≡ concat (codes "stopped: " ∷ things.now ∷ decimal first ∷ codes " and " ∷ decimal second ∷ codes " are equal" ∷ (10 ∷ []) ∷ [])) }
+{
+    format!(in alloc; "stopped: {things}{first} and {second} are equal\n")
+}
+
+/// The first 16 bytes of a reply, fewer where it is shorter, in hexadecimal digits; the line's end behind it.
+pub fn bad_reply(alloc: Global, reply: &[u8]) -> Result<String, AllocError>
+    ensures { IfOk result (λ text. string_bytes text
+        ≡ concat (codes "stopped: " ∷ codes "reply " ∷ encode_lower (take 16 reply.now) ∷ (10 ∷ []) ∷ [])) }
+{
+    let digits = hex::encode(alloc, at_most_16(reply))?;
+    format!(in alloc; "stopped: reply {digits}\n")
+}
+
+fn at_most_16(bytes: &[u8]) -> &[u8]
+    ensures { result.now ≡ take 16 bytes.now }
+{
+    if bytes.len() > 16 {
+        &bytes[..16]
+    } else {
+        bytes
+    }
+}
+
+/// How many identifiers there are, and each behind a space; the line's end behind it.
+pub fn found(alloc: Global, ids: &[u64]) -> Result<String, AllocError>
+    ensures { IfOk result (λ text. string_bytes text
+        ≡ concat (codes "found " ∷ decimal (length ids.now) ∷ codes ":" ∷ ids_text ids.now ∷ (10 ∷ []) ∷ [])) }
+{
+    let count = ids.len();
+    let mut text = format!(in alloc; "found {count}:")?;
+    push_ids(&mut text, ids)?;
+    text.push_str("\n")?;
+    Ok(text)
+}
+
+/// Puts each identifier, behind a space, at the end of the text.
+fn push_ids(text: &mut String, ids: &[u64]) -> Result<(), AllocError>
+    ensures { OnOk result (string_bytes text.new ≡ string_bytes text.old ++ ids_text ids.now) }
+{
+    for id in ids {
+        write!(text, " {id}")?;
+    }
+    Ok(())
+}

@@ -1,0 +1,24 @@
+ghost use Rattle.std.specs.Prelude.{◌≡◌, ℕ, ◌≤◌, take, OnOk, IsErrOf};
+ghost use Rattle.std.specs.Io.KnownBytes.{append_known};
+ghost use Rattle.sse_outside.specs.Causes.{Rose};
+ghost use Rattle.sse_script.specs.ShownViews.{shown_view};
+ghost use Rattle.sse_script.specs.Texts.{text_of};
+
+use crate::Shown;
+use crate::text::line_text;
+use sse_outside::{DeviceFault, Sink, print_all};
+use std::alloc::Global;
+
+/// Prints one line, its end (byte 0a) included. Its length may take time and memory in proportion.
+///
+/// After an error the sink has taken some front of that line, and no other byte. `Failed` comes only where the
+/// count of the sink's faults rose.
+pub fn print<W: Sink>(alloc: Global, sink: &mut W, shown: &Shown<'_>) -> Result<(), DeviceFault>
+    ensures all { OnOk result (W.written sink.new ≡ append_known (W.written sink.old) (text_of (shown_view shown.now))) }
+    ensures front { (n : ℕ) × (W.written sink.new ≡ append_known (W.written sink.old) (take n (text_of (shown_view shown.now)))) }
+    ensures later { W.faults sink.old ≤ W.faults sink.new }
+    ensures failed { IsErrOf result DeviceFault.Failed → Rose (W.faults sink.old) (W.faults sink.new) }
+{
+    let text = line_text(alloc, shown)?;
+    print_all(sink, text.as_bytes())
+}
