@@ -11,3 +11,6 @@ mod opening;
 mod token;
 
 pub use token::Token;
+
+#[cfg(test)]
+mod tests;
