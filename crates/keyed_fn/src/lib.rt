@@ -7,11 +7,12 @@
 #![tactic(auto)]
 
 mod keyed;
+mod opening;
 mod real;
 mod toy;
 
-pub use chacha_stream::xor;
 pub use keyed::Keyed;
+pub use opening::{front_at, xor_pad};
 pub use real::Real;
 pub use toy::Toy;
 

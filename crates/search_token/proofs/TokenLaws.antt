@@ -1,10 +1,10 @@
 -- A token and its 160 bytes.
-use Rattle.std.proofs.Common.{◌≡◌, ◌+◌, ◌∙◌, ℕ, List, [], ◌∷◌, ◌++◌, append_assoc, append-nil, sym, ap, refl, length, length-append, take, drop, arith}
+use Rattle.std.proofs.Common.{◌≡◌, ◌∙◌, ℕ, List, [], ◌∷◌, ◌++◌, append_assoc, append-nil, sym, ap, refl, length, length-append, take, drop, arith}
 use Rattle.std.proofs.lemmas.List.{take_all}
 use Rattle.std.proofs.Math.Seq.{take-add, take-append_seam, drop-append_seam}
 use Rattle.keyed_fn.specs.KeyedFn.{KeyedFn, IsKeyedFn}
-use Rattle.keyed_fn.specs.KeyFormulas.{part_key, token_of}
-use Rattle.search_token.specs.TokenKeys.{TokenKeys, token_keys, token_bytes, keys_of_bytes}
+use Rattle.keyed_fn.specs.KeyFormulas.{token_of}
+use Rattle.search_token.specs.TokenKeys.{token_keys, token_bytes, keys_of_bytes}
 
 -- the bytes of a word's token are those of the key formula
 pub token_bytes-token_keys : (f : KeyedFn) (master word : List ℕ) → token_bytes (token_keys f master word) ≡ token_of f master word

@@ -7,7 +7,6 @@
 
 #![tactic(auto)]
 
-mod opening;
 mod token;
 
 pub use token::Token;

@@ -4,8 +4,7 @@ ghost use Rattle.keyed_fn.specs.KeyFormulas as formula;
 ghost use Rattle.keyed_fn.specs.Xored.{xored};
 ghost use Rattle.search_token.specs.TokenKeys.{keys_in_order, keys_of_bytes, token_bytes};
 
-use crate::opening::{front_at, xor_pad};
-use keyed_fn::Keyed;
+use keyed_fn::{Keyed, front_at, xor_pad};
 use std::marker::Model;
 
 /// The keys of the parts 1 to 5 of one word, 32 bytes each. A contract sees the five keys.
@@ -73,6 +72,20 @@ impl Token {
         put_key(&mut bytes, 96, &self.plus_pad_key);
         put_key(&mut bytes, 128, &self.revocation_key);
         bytes
+    }
+
+    /// The key of the pads of the word's list, for the one who encrypts it.
+    pub fn pad_key(&self) -> &[u8; 32]
+        ensures { result.now ≡ self.now.pad_key }
+    {
+        &self.pad_key
+    }
+
+    /// The key of the pads of the word's additions, for the one who encrypts them.
+    pub fn plus_pad_key(&self) -> &[u8; 32]
+        ensures { result.now ≡ self.now.plus_pad_key }
+    {
+        &self.plus_pad_key
     }
 
     /// The 16-byte label of the word's list.
