@@ -1,2 +1,22 @@
-//! (head paragraph)
+//! What only a client has: the master key, the keys that it gives for a word, and pads that are spent once.
+//!
+//! It stands on `search_token` and on the words of `client_registry`, and no crate of the server stands
+//! on it. The theorem that callers use: each call gives the key formula of its name (`keyed_fn`,
+//! specs/KeyFormulas.antt), and what `seal` encrypts is XORed with the pad that its slot names. A slot
+//! can't be copied or dropped, so that each is spent; that no pad number is drawn twice in all is for
+//! the caller to show of its own list.
+
 #![tactic(auto)]
+
+mod list_pads;
+mod master_key;
+mod pad_slot;
+mod place_key;
+
+pub use list_pads::ListPads;
+pub use master_key::MasterKey;
+pub use pad_slot::{PadSlot, plus_slot, seal};
+pub use place_key::PlaceKey;
+
+#[cfg(test)]
+mod tests;
