@@ -1,10 +1,10 @@
 -- Lists planned, laid out and opened by hand.
-use Rattle.std.proofs.Common.{◌≡◌, ℕ, zero, suc, List, [], ◌∷◌, refl}
-use Rattle.std.specs.Prelude.{Option, Some, None, slice_get}
+use Rattle.std.proofs.Common.{◌≡◌, ℕ, [], ◌∷◌, refl}
+use Rattle.std.specs.Prelude.{Some, None}
 use Rattle.two_level.specs.Shape.{Shape}
 use Rattle.two_level.specs.Plan.{Identifiers, DataPointers, BlockPointers, plan, block_count}
 use Rattle.two_level.specs.Laid.{laid, cell_bytes, number_bytes}
-use Rattle.two_level.specs.Opened.{numbers_of, kind_of, opened}
+use Rattle.two_level.specs.Opened.{numbers_of, kind_of, opened, in_array}
 
 -- b numbers in a cell, big in a block
 abbrev shape : ℕ → ℕ → Shape
@@ -13,11 +13,6 @@ shape b big = record { b = b; big = big }
 -- how many blocks n identifiers take
 abbrev blocks_for : Shape → ℕ → ℕ
 blocks_for s n = block_count (plan s n)
-
--- the block at a pointer into an array that isn't encrypted
-abbrev in_array : List (List ℕ) → ℕ → ℕ → Option (List ℕ)
-in_array array number zero = None
-in_array array number (suc place) = slice_get array place
 
 -- one word in n documents, with cells and blocks of two: 0 blocks, 2, 2, 5 (2 of them of pointers), 6
 pub blocks_of_2_row : blocks_for (shape 2 2) 2 ≡ 0

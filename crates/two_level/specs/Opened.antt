@@ -1,4 +1,4 @@
-use Rattle.std.specs.Prelude.{ℕ, ◌+◌, ◌==◌, List, [], ◌∷◌, ◌++◌, length, map, Option, Some, None, option_map, option_and_then, if◌then◌else◌}
+use Rattle.std.specs.Prelude.{ℕ, zero, suc, ◌+◌, ◌==◌, List, [], ◌∷◌, ◌++◌, length, map, Option, Some, None, option_map, option_and_then, slice_get, if◌then◌else◌}
 use Rattle.std.specs.List.{list_all}
 use Rattle.std.specs.Int.{w64, from_be_bytes}
 use Rattle.list_packing.specs.Parts.{parts}
@@ -39,3 +39,8 @@ opened block Identifiers numbers = leading numbers
 opened block DataPointers numbers = option_and_then (followed block 0) (leading numbers)
 opened block BlockPointers numbers =
     option_and_then (λ tops. option_and_then (followed block (length tops)) (followed block 0 tops)) (leading numbers)
+
+-- the block at a pointer into an array in the clear, whatever its number
+abbrev pub in_array : List (List ℕ) → ℕ → ℕ → Option (List ℕ)
+in_array array number zero = None
+in_array array number (suc place) = slice_get array place
