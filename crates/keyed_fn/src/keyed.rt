@@ -1,4 +1,5 @@
 ghost use Rattle.std.specs.Prelude.{◌≡◌, ◌<◌, ◌≤◌, ◌^◌, ℕ, List, length, take, All};
+ghost use Rattle.keyed_fn.specs.KeyedFn.{keyed_fn, IsKeyedFn};
 
 /// A pseudorandom function and a pad, both under a key of 32 bytes.
 ///
@@ -30,4 +31,13 @@ pub trait Keyed {
     ghost pad_bytes: { (key : List ℕ) (n len : ℕ) → All (λ b. b < 256) (pad key n len) };
 
     ghost pad_prefix: { (key : List ℕ) (n a b : ℕ) → a ≤ b → take a (pad key n b) ≡ pad key n a };
+
+    /// The laws together, as definitions over any keyed function take them.
+    ghost laws: { IsKeyedFn (keyed_fn prf pad) } = { record {
+      prf_length = prf_length;
+      prf_bytes = prf_bytes;
+      pad_length = pad_length;
+      pad_bytes = pad_bytes;
+      pad_prefix = pad_prefix;
+    } };
 }

@@ -1,8 +1,7 @@
 //! The search token of a word: the five keys that a server needs to find the word's list and to open it.
-//!
 //! It stands on `keyed_fn` alone and knows neither words nor the master key, so client and server both
-//! use it. The theorem that callers use: each call gives the key formula of its name, under the key of
-//! its part (`keyed_fn`, specs/KeyFormulas.antt), and the 160 bytes are the five keys in order. It
+//! use it. The theorem that callers use: each call gives the key formula of its name (`keyed_fn`,
+//! specs/KeyFormulas.antt) under the key of its part, and the 160 bytes are the five keys in order. It
 //! isn't for making a token out of a word, which needs the master key.
 
 #![tactic(auto)]

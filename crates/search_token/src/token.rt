@@ -22,9 +22,21 @@ impl Model for Token {
 
     ghost Value = { TokenKeys };
 
-    ghost view = { λ t. record { label_key = t.label_key; pad_key = t.pad_key; plus_label_key = t.plus_label_key; plus_pad_key = t.plus_pad_key; revocation_key = t.revocation_key } };
+    ghost view = { λ t. record {
+      label_key = t.label_key;
+      pad_key = t.pad_key;
+      plus_label_key = t.plus_label_key;
+      plus_pad_key = t.plus_pad_key;
+      revocation_key = t.revocation_key;
+    } };
 
-    ghost inverse = { λ k. record { label_key = k.label_key; pad_key = k.pad_key; plus_label_key = k.plus_label_key; plus_pad_key = k.plus_pad_key; revocation_key = k.revocation_key } };
+    ghost inverse = { λ k. record {
+      label_key = k.label_key;
+      pad_key = k.pad_key;
+      plus_label_key = k.plus_label_key;
+      plus_pad_key = k.plus_pad_key;
+      revocation_key = k.revocation_key;
+    } };
 }
 
 impl Token {

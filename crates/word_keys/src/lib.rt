@@ -1,10 +1,8 @@
 //! What only a client has: the master key, the keys that it gives for a word, and pads that are spent once.
-//!
-//! It stands on `search_token` and on the words of `client_registry`, and no crate of the server stands
-//! on it. The theorem that callers use: each call gives the key formula of its name (`keyed_fn`,
-//! specs/KeyFormulas.antt), and what `seal` encrypts is XORed with the pad that its slot names. A slot
-//! can't be copied or dropped, so that each is spent; that no pad number is drawn twice in all is for
-//! the caller to show of its own list.
+//! It stands on `search_token` and on the words of `client_registry`; no crate of the server stands on it.
+//! The theorem that callers use: each call gives the key formula of its name (`keyed_fn`,
+//! specs/KeyFormulas.antt), and `seal` XORs the pad that its slot names. A slot can't be copied or dropped.
+//! That no name is drawn twice isn't shown here: it is a law of the caller's own list of names.
 
 #![tactic(auto)]
 
