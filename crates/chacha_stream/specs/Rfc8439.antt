@@ -69,6 +69,7 @@ abbrev pub block : List ℕ → ℕ → List ℕ → List ℕ
 block key counter nonce =
     flat_map (λ k. to_le_bytes w32 (block_word key counter nonce k)) (range_with_len 0 16)
 
--- byte i of the key stream: blocks of 64 bytes, with the counter from 0 (2.4)
+-- byte i of the key stream: blocks of 64 bytes, with the counter from 0 (2.4); the standard's counter ends
+-- with byte 2 ^ 38, and this one goes on, without wrapping
 unfoldable pub key_stream_byte : List ℕ → List ℕ → ℕ → ℕ
 key_stream_byte key nonce i = slice_index (block key (i / 64) nonce) (i % 64)
