@@ -1,0 +1,7 @@
+pub mod Frames
+pub mod Replies
+pub mod Seen
+pub mod Sizes
+pub mod Fields
+pub mod Tables
+pub mod Reading
