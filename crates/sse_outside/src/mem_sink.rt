@@ -43,3 +43,20 @@ impl Sink for MemSink {
         Ok(bytes.len())
     }
 }
+
+#[cfg(test)]
+mod tests {
+    use super::*;
+    use crate::print_all;
+    use std::test::Fail;
+
+    #[test]
+    fn listed_writes_fail_and_take_nothing(rt: HostRuntime) -> Result<(), Fail> {
+        let mut sink = MemSink::new(rt.alloc(), vec![in rt.alloc(); 1]?);
+        assert_eq!(rt; print_all(&mut sink, b"ab"), Ok(()));
+        assert_eq!(rt; print_all(&mut sink, b"cd"), Err(DeviceFault::Failed));
+        assert_eq!(rt; sink.write(b"ef"), Ok(2));
+        assert_eq!(rt; sink.bytes(), b"abef".as_slice());
+        Ok(())
+    }
+}

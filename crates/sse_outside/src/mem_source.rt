@@ -44,3 +44,28 @@ impl Source for MemSource {
         Ok(count)
     }
 }
+
+#[cfg(test)]
+mod tests {
+    use super::*;
+    use std::test::Fail;
+
+    #[test]
+    fn listed_reads_fail_and_lose_nothing(rt: HostRuntime) -> Result<(), Fail> {
+        let fails = vec![in rt.alloc(); 1, 2]?;
+        let mut source = MemSource::new(b"abcde".to_vec(rt.alloc())?, fails);
+        let mut out = [0; 3];
+        let expected = [
+            (Ok(3), b"abc"),
+            (Err(Failed), b"abc"),
+            (Err(Failed), b"abc"),
+            (Ok(2), b"dec"),
+            (Ok(0), b"dec"),
+        ];
+        for (i, (answer, bytes)) in expected.iter().enumerate() {
+            assert_eq!(rt; source.read(&mut out), *answer, "read {i}");
+            assert_eq!(rt; out, **bytes, "read {i}");
+        }
+        Ok(())
+    }
+}

@@ -37,3 +37,20 @@ impl<W: Write> Sink for StdSink<W> {
         }
     }
 }
+
+#[cfg(test)]
+mod tests {
+    use super::*;
+
+    #[test]
+    fn a_full_device_counts_a_fault(rt: HostRuntime) {
+        let mut room = [0; 4];
+        let mut sink = StdSink::new(room.as_mut_slice());
+        let expected = [(Ok(3), 0), (Ok(1), 0), (Err(DeviceFault::Failed), 1)];
+        for (i, (answer, faults)) in expected.iter().enumerate() {
+            assert_eq!(rt; sink.write(b"abc"), *answer, "write {i}");
+            assert_eq!(rt; sink.faults, *faults, "write {i}");
+        }
+        assert_eq!(rt; room, *b"abca");
+    }
+}

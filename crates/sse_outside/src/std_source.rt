@@ -52,3 +52,47 @@ impl<R: Read> Source for StdSource<R> {
         }
     }
 }
+
+#[cfg(test)]
+mod tests {
+    use super::*;
+    use std::io;
+
+    /// Gives one byte for each number, and an error for each `None`.
+    #[derive(Drop)]
+    struct Scripted<'a>(&'a [Option<u8>]);
+
+    impl Read for Scripted<'_> {
+        fn read(&mut self, buf: &mut [u8]) -> io::Result<usize> {
+            let [first, others @ ..] = self.0 else {
+                return Ok(0);
+            };
+            self.0 = others;
+            match (first, buf) {
+                (Some(byte), [front, ..]) => {
+                    *front = *byte;
+                    Ok(1)
+                }
+                _ => Err(io::Error::from(io::ErrorKind::Other)),
+            }
+        }
+    }
+
+    #[test]
+    fn an_error_of_the_reader_is_a_fault_and_the_end_is_none(rt: HostRuntime) {
+        let mut source = StdSource::new(Scripted(&[Some(7), None, Some(9)]));
+        let mut out = [0; 3];
+        let expected = [
+            (Ok(1), 7, 0),
+            (Err(Failed), 7, 1),
+            (Ok(1), 9, 1),
+            (Ok(0), 9, 1),
+        ];
+        for (i, (answer, front, faults)) in expected.iter().enumerate() {
+            assert_eq!(rt; source.read(&mut out), *answer, "read {i}");
+            assert_eq!(rt; out[0], *front, "read {i}");
+            assert_eq!(rt; source.faults, *faults, "read {i}");
+        }
+        assert_eq!(rt; source.handed_out, 2);
+    }
+}

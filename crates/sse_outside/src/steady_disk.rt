@@ -41,3 +41,16 @@ impl Disk for SteadyDisk {
         Ok(hand_out(&self.bytes, at, out))
     }
 }
+
+#[cfg(test)]
+mod tests {
+    use super::*;
+
+    #[test]
+    fn a_new_disk_is_empty(rt: HostRuntime) {
+        let mut disk = SteadyDisk::new(rt.alloc());
+        assert_eq!(rt; disk.len(), Ok(0));
+        assert_eq!(rt; disk.read_at(0, &mut [0; 2]), Ok(0));
+        assert_eq!(rt; disk.read_at(u64::MAX, &mut [0; 2]), Ok(0));
+    }
+}

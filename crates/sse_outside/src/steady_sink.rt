@@ -39,3 +39,31 @@ impl Sink for SteadySink {
         Ok(bytes.len())
     }
 }
+
+#[cfg(test)]
+mod tests {
+    use super::*;
+    use crate::{Source, SteadySource};
+    use std::test::Fail;
+
+    /// Writes what one read gives.
+    fn pass_on<S: Source, W: Sink>(source: &mut S, sink: &mut W) -> Option<usize> {
+        let mut room = [0; 3];
+        let count = source.read(&mut room).ok()?;
+        if count == 0 {
+            return None;
+        }
+        sink.write(&room[..count]).ok()
+    }
+
+    #[test]
+    fn what_is_read_is_written(rt: HostRuntime) -> Result<(), Fail> {
+        let mut source = SteadySource::new(b"abcde".to_vec(rt.alloc())?);
+        let mut sink = SteadySink::new(rt.alloc());
+        assert_eq!(rt; pass_on(&mut source, &mut sink), Some(3));
+        assert_eq!(rt; pass_on(&mut source, &mut sink), Some(2));
+        assert_eq!(rt; pass_on(&mut source, &mut sink), None);
+        assert_eq!(rt; sink.bytes(), b"abcde".as_slice());
+        Ok(())
+    }
+}
