@@ -4,5 +4,6 @@ pub mod Numbers
 pub mod Shown
 pub mod ShownViews
 pub mod Stops
+pub mod TextLines
 pub mod Texts
 pub mod Views

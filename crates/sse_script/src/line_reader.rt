@@ -1,0 +1,256 @@
+ghost use Rattle.std.specs.Prelude.{◌≡◌, ◌≢◌, ℕ, ◌+◌, ◌^◌, ◌<◌, ◌≤◌, ◌==◌, List, [], length, take, drop, IfOk, OnOk, OnErr, IsErrOf};
+ghost use Rattle.std.specs.Option.{option_map};
+ghost use Rattle.std.specs.List.{position_or_len, after_first};
+ghost use Rattle.std.specs.Io.KnownBytes.{prepend_known, IsAtEnd};
+ghost use Rattle.sse_outside.specs.Causes.{Rose};
+ghost use Rattle.sse_script.specs.TextLines.{lines_left, bytes_to_come, TakesNext};
+
+use crate::{NextLine, ReadStop};
+use sse_outside::Source;
+use std::alloc::{AllocError, Global};
+use std::marker::Model;
+
+/// The most bytes that a line may have, its ending not counted.
+pub const MAX_LINE: usize = 1 << 19;
+
+/// How many bytes are read at once.
+const CHUNK: usize = 1 << 16;
+
+/// Cuts what a source hands out into lines, which end with the byte 0a. Contracts see the bytes that it has read
+/// and not yet given: a caller that takes another source loses them.
+///
+/// It keeps a chunk of 2^16 bytes beside the line, and each byte is looked at once or twice, so that a text of any
+/// length goes through in time in proportion to it, and no more than `MAX_LINE` bytes of a line are ever kept.
+#[derive(Drop)]
+pub struct LineReader {
+    chunk: Vec<u8>,
+    from: usize,
+    to: usize,
+}
+
+impl Model for LineReader {
+    ghost use Rattle.std.specs.Prelude.{◌<◌, ◌≤◌, ℕ, List, length, slice_range};
+
+    ghost Value = { List ℕ };
+
+    ghost view = { λ r. slice_range r.chunk.items r.from r.to };
+
+    ghost invariant = { λ r. (r.from ≤ r.to) × (r.to ≤ length r.chunk.items) × (0 < length r.chunk.items) };
+}
+
+impl LineReader {
+    /// A reader that has read nothing yet.
+    pub fn new(alloc: Global) -> Result<LineReader, AllocError>
+        ensures { IfOk result (λ reader. reader ≡ []) }
+    {
+        Ok(LineReader {
+            chunk: vec![in alloc; 0; CHUNK]?,
+            from: 0,
+            to: 0,
+        })
+    }
+
+    /// Puts the next line of `source`, without its ending, in the place of what `line` holds.
+    ///
+    /// A last line needs no ending: `a`, and `a` with 0a behind it, have one line each, an empty input has none.
+    /// A line of more than `MAX_LINE` bytes is passed over, with its ending. With no line read, `line` is empty.
+    /// `ReadStop::Failed` comes only where the source's count of faults rose. After an error some front of what was
+    /// left is lost, which may end within a line.
+    pub fn next_line<S: Source>(
+        &mut self,
+        source: &mut S,
+        line: &mut Vec<u8>,
+    ) -> Result<NextLine, ReadStop>
+        ensures taken { IfOk result (λ next. TakesNext
+            (lines_left self.old (S.remaining source.old)) (lines_left self.new (S.remaining source.new)) next line.new.items) }
+        ensures short { OnOk result (length line.new.items ≤ MAX_LINE) }
+        ensures nothing { IfOk result (λ next. next ≢ NextLine.Line → line.new.items ≡ []) }
+
+        // What makes a loop over the lines end.
+        ensures less { IfOk result (λ next. next ≢ NextLine.End →
+            bytes_to_come self.new (S.handed_out source.new) < bytes_to_come self.old (S.handed_out source.old)) }
+        ensures later { S.faults source.old ≤ S.faults source.new }
+        ensures failed { IsErrOf result ReadStop.Failed → Rose (S.faults source.old) (S.faults source.new) }
+    {
+        line.clear();
+        'reading: loop {
+            let count = self.line_front();
+            if count > MAX_LINE - line.len() {
+                line.clear();
+                self.consume(count);
+                self.skip_line(source)?;
+                return Ok(NextLine::TooLong);
+            }
+            line.extend_from_slice(self.first(count))?;
+            if count < self.len() {
+                self.consume(count + 1);
+                return Ok(NextLine::Line);
+            }
+            self.consume(count);
+            if self.refill(source)? > 0 {
+                continue;
+            }
+            if line.is_empty() {
+                return Ok(NextLine::End);
+            }
+            return Ok(NextLine::Line);
+        }
+    }
+
+    /// Passes over the rest of a line, with its ending.
+    fn skip_line<S: Source>(&mut self, source: &mut S) -> Result<(), ReadStop>
+        ensures rest { OnOk result (prepend_known self.new (S.remaining source.new)
+            ≡ option_map (after_first (λ b. b == 10)) (prepend_known self.old (S.remaining source.old))) }
+        ensures come { OnOk result (bytes_to_come self.new (S.handed_out source.new) ≤ bytes_to_come self.old (S.handed_out source.old)) }
+        ensures later { S.faults source.old ≤ S.faults source.new }
+        ensures failed { IsErrOf result ReadStop.Failed → Rose (S.faults source.old) (S.faults source.new) }
+    {
+        'skipping: loop {
+            let count = self.line_front();
+            if count < self.len() {
+                self.consume(count + 1);
+                return Ok(());
+            }
+            self.consume(count);
+            if self.refill(source)? == 0 {
+                return Ok(());
+            }
+        }
+    }
+
+    /// The bytes that were read and not yet given.
+    fn pending(&self) -> &[u8]
+        ensures { result.now ≡ self.now }
+    {
+        &self.chunk[self.from..self.to]
+    }
+
+    /// How many bytes are pending.
+    fn len(&self) -> usize
+        ensures { result ≡ length self.now }
+    {
+        self.pending().len()
+    }
+
+    /// How many bytes are pending before the first ending, or in all where there is none.
+    fn line_front(&self) -> usize
+        ensures count { result ≡ position_or_len (λ b. b == 10) self.now }
+        ensures within { result ≤ length self.now }
+    {
+        self.pending().iter().take_while(|b| **b != b'\n').count()
+    }
+
+    /// The first of the bytes that are pending.
+    fn first(&self, count: usize) -> &[u8]
+        requires { count ≤ length self.now }
+        ensures { result.now ≡ take count self.now }
+    {
+        let (first, _) = self.pending().split_at(count);
+        first
+    }
+
+    /// Gives away the first of the bytes that are pending.
+    fn consume(&mut self, count: usize)
+        requires { count ≤ length self.old }
+        ensures { self.new ≡ drop count self.old }
+    {
+        self.from += count;
+    }
+
+    /// Reads more bytes where none is pending, and answers how many: none is the end of the input.
+    fn refill<S: Source>(&mut self, source: &mut S) -> Result<usize, ReadStop>
+        requires { self.old ≡ [] }
+        ensures count { IfOk result (λ n. n ≡ length self.new) }
+        ensures same { OnOk result (prepend_known self.new (S.remaining source.new) ≡ S.remaining source.old) }
+        ensures end { IfOk result (λ n. n ≡ 0 → IsAtEnd (S.remaining source.new)) }
+        ensures handed { IfOk result (λ n. S.handed_out source.new ≡ S.handed_out source.old + n) }
+        ensures within { OnOk result (S.handed_out source.new ≤ 2 ^ 63) }
+        ensures err { OnErr result (self.new ≡ []) }
+        ensures later { S.faults source.old ≤ S.faults source.new }
+        ensures failed { IsErrOf result ReadStop.Failed → Rose (S.faults source.old) (S.faults source.new) }
+    {
+        let count = source.read(&mut self.chunk)?;
+        self.from = 0;
+        self.to = count;
+        Ok(count)
+    }
+}
+
+#[cfg(test)]
+mod tests {
+    use super::*;
+    use sse_outside::{MemSource, SteadySource};
+    use std::test::Fail;
+
+    /// Every line with its kind, a line that is too long among them.
+    fn read_all<S: Source>(
+        alloc: Global,
+        source: &mut S,
+    ) -> Result<Vec<(NextLine, Vec<u8>)>, ReadStop> {
+        let mut reader = LineReader::new(alloc)?;
+        let mut lines = Vec::new(alloc);
+        'lines: loop {
+            let mut line = Vec::new(alloc);
+            let next = reader.next_line(source, &mut line)?;
+            match next {
+                NextLine::Line => lines.push((next, line))?,
+                NextLine::TooLong => lines.push((next, line))?,
+                NextLine::End => return Ok(lines),
+            }
+        }
+    }
+
+    #[test]
+    fn lines_end_with_0a_and_the_last_one_may_not(rt: HostRuntime) -> Result<(), Fail> {
+        let cases: [(&[u8], &[&[u8]]); 6] = [
+            (b"", &[]),
+            (b"\n", &[b""]),
+            (b"a\n", &[b"a"]),
+            (b"a", &[b"a"]),
+            (b"\n\nab\r\nc", &[b"", b"", b"ab\r", b"c"]),
+            (b"a b\n\0\n", &[b"a b", b"\0"]),
+        ];
+        for (text, expected) in cases {
+            let mut source = SteadySource::new(text.to_vec(rt.alloc())?);
+            let lines = read_all(rt.alloc(), &mut source)?;
+            assert_eq!(rt; lines.len(), expected.len(), "in {text:?}");
+            for ((next, line), wanted) in lines.iter().zip(expected) {
+                assert_eq!(rt; *next, NextLine::Line);
+                assert_eq!(rt; line.as_slice(), *wanted, "in {text:?}");
+            }
+        }
+        Ok(())
+    }
+
+    #[test]
+    fn a_line_of_one_byte_more_is_passed_over(rt: HostRuntime) -> Result<(), Fail> {
+        for (count, next, kept) in [
+            (MAX_LINE, NextLine::Line, MAX_LINE),
+            (MAX_LINE + 1, NextLine::TooLong, 0),
+            (3 * MAX_LINE, NextLine::TooLong, 0),
+        ] {
+            let mut text = vec![in rt.alloc(); b'x'; count]?;
+            text.extend_from_slice(b"\nyz")?;
+            let lines = read_all(rt.alloc(), &mut SteadySource::new(text))?;
+            assert_eq!(rt; lines.len(), 2);
+            assert_eq!(rt;
+                (lines[0].0, lines[0].1.len()),
+                (next, kept),
+                "{count} bytes"
+            );
+            assert_eq!(rt; lines[1].1.as_slice(), b"yz".as_slice(), "{count} bytes");
+        }
+        Ok(())
+    }
+
+    #[test]
+    fn a_read_that_fails_within_a_line_stops(rt: HostRuntime) -> Result<(), Fail> {
+        let text = vec![in rt.alloc(); b'x'; CHUNK + 1]?;
+        let mut source = MemSource::new(text, vec![in rt.alloc(); 1]?);
+        assert_eq!(rt;
+            read_all(rt.alloc(), &mut source).err(),
+            Some(ReadStop::Failed)
+        );
+        Ok(())
+    }
+}
