@@ -5,3 +5,6 @@ pub mod Document
 pub mod FirstClash
 pub mod DocumentRule
 pub mod DocView
+pub mod Documents
+pub mod Tally
+pub mod DocsView

@@ -1,15 +1,19 @@
-//! What a client knows of its documents: words, identifiers, and documents of different words. It stands on std
-//! alone for these, and callers see a [`Doc`] as a `Document` of specs/Document.antt. `Word::read` and `Doc::new`
-//! refuse exactly what is no word and no document, with the first cause that stands. It makes no index and
-//! searches nothing.
+//! What a client knows of its documents: words, documents, and the documents collected for a setup, with each
+//! word numbered by its first appearance and the number of documents that hold it. It stands on std and
+//! `indexmap`. Callers see a [`Doc`] as a `Document` of specs/Document.antt and [`Docs`] as the list of them;
+//! `Word::read`, `Doc::new` and `Docs::push` refuse exactly what their `refusal` definitions say, with the first
+//! cause that stands, and change nothing then. It makes no index and searches nothing.
 #![tactic(auto)]
 
+mod collected;
 mod doc_id;
 mod document;
 mod faults;
 mod limits;
+mod tally;
 mod word;
 
+pub use collected::Docs;
 pub use doc_id::{DocId, Zero};
 pub use document::Doc;
 pub use faults::{DocFault, DocsFault, SizeFault, WordFault};
