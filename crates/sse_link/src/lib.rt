@@ -1,2 +1,12 @@
-//! (head paragraph)
+//! What stands between client and server: it carries frames one way and replies the other. `Link` is the trait that the
+//! client is written over, and its ghost members let a contract speak of all that was sent and received. In memory
+//! there are a loopback to a server in this process, which never fails or fails at chosen calls, and a link that plays
+//! back replies, honest or not. It stands on `sse_frames` and `server_core`; it knows no word and no key.
 #![tactic(auto)]
+
+mod link;
+mod link_fault;
+
+pub use link::Link;
+pub use link_fault::LinkFault;
+pub use std::alloc::AllocError as NoMemory;
