@@ -1,0 +1,4 @@
+mod EntryLemmas
+mod Places
+mod SearchLemmas
+mod SlotLemmas

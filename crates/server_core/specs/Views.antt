@@ -1,0 +1,61 @@
+-- What a contract sees of the answers of the code, and of the memory that a frame needs.
+use Rattle.std.specs.Prelude.{ℕ, ◌*◌, ◌≤◌, List, [], ◌∷◌, length}
+use Rattle.sse_frames.specs.Frames.{FrameText, Hello, SetupBegin, SetupDict, SetupArray, SetupEnd, AddFrame, DeleteFrame, SearchFrame}
+use Rattle.sse_frames.specs.Replies as replies
+use Rattle.sse_frames.specs.Replies.{ReplyText}
+use Rattle.server_core.specs.declared.refuse.Refuse.{Refuse}
+use Rattle.server_core.specs.declared.refuse.Refuse.TheVariants.{Number, OutOfPlace, Clash, NoMemory}
+use Rattle.server_core.specs.declared.answer.Answer.{Answer}
+use Rattle.server_core.specs.declared.answer.Answer.TheVariants as answers
+use Rattle.server_core.specs.Pages.{pages}
+use Rattle.server_core.specs.State.{Room}
+
+abbrev pub refuse_reply : Refuse → ReplyText
+refuse_reply (Number next) = replies.Number next
+refuse_reply OutOfPlace = replies.OutOfPlace
+refuse_reply (Clash what place) = replies.Clash what place
+refuse_reply NoMemory = replies.NoMemory
+
+-- the answer to an update frame that isn't taken
+abbrev pub answer_of : Refuse → Answer
+answer_of (Number next) = answers.Number next
+answer_of OutOfPlace = answers.OutOfPlace
+answer_of (Clash what place) = answers.Clash what place
+answer_of NoMemory = answers.NoMemory
+
+-- the replies that an answer stands for, after a search with the list of what it found
+abbrev pub answer_replies : Answer → List ℕ → List ReplyText
+answer_replies (answers.Next q) ids = replies.Next q ∷ []
+answer_replies (answers.Took q) ids = replies.Took q ∷ []
+answer_replies (answers.Number next) ids = replies.Number next ∷ []
+answer_replies (answers.Clash what place) ids = replies.Clash what place ∷ []
+answer_replies answers.Found ids = pages ids
+answer_replies answers.BadList ids = replies.BadList ∷ []
+answer_replies answers.NoMemory ids = replies.NoMemory ∷ []
+answer_replies answers.OutOfPlace ids = replies.OutOfPlace ∷ []
+
+-- the room that a frame needs
+abbrev pub room_of : FrameText → Room
+room_of Hello = record { entries = 0; bytes = 0 }
+room_of (SetupBegin q b big m a) = record { entries = 0; bytes = 0 }
+room_of (SetupDict q width entries) = record { entries = length entries; bytes = length entries * width }
+room_of (SetupArray q width blocks) = record { entries = 0; bytes = 0 }
+room_of (SetupEnd q) = record { entries = 0; bytes = 0 }
+room_of (AddFrame q entries numbers) = record { entries = 0; bytes = 0 }
+room_of (DeleteFrame q numbers) = record { entries = 0; bytes = 0 }
+room_of (SearchFrame token) = record { entries = 0; bytes = 0 }
+
+pub record HasRoom (room : Room) (frame : FrameText) : Type 0 where
+  pub entries : (room_of frame).entries ≤ room.entries
+  pub bytes : (room_of frame).bytes ≤ room.bytes
+
+-- the frames for which a server takes memory: neither Hello nor those that begin and end a setup
+abbrev pub TakesMemory : FrameText → Type 0
+TakesMemory Hello = ⊥
+TakesMemory (SetupBegin q b big m a) = ⊥
+TakesMemory (SetupDict q width entries) = Unit {0}
+TakesMemory (SetupArray q width blocks) = Unit {0}
+TakesMemory (SetupEnd q) = ⊥
+TakesMemory (AddFrame q entries numbers) = Unit {0}
+TakesMemory (DeleteFrame q numbers) = Unit {0}
+TakesMemory (SearchFrame token) = Unit {0}

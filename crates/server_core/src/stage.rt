@@ -1,0 +1,36 @@
+ghost use Rattle.std.specs.Prelude.{◌≡◌};
+ghost use Rattle.server_core.specs.State.{is_empty, is_filling, is_ready};
+
+/// How far a server has come with its setup.
+#[derive(Clone, Copy, Debug, PartialEq, Eq)]
+pub enum Stage {
+    /// Nothing was taken yet.
+    Empty,
+    /// The setup's first frame was taken, and its last one wasn't.
+    Filling,
+    /// The setup is whole: additions, deletions and searches are in place.
+    Ready,
+}
+
+impl Stage {
+    /// Whether nothing was taken yet.
+    pub fn is_empty(self) -> bool
+        ensures { result ≡ is_empty self }
+    {
+        matches!(self, Stage::Empty)
+    }
+
+    /// Whether the setup has begun and isn't whole.
+    pub fn is_filling(self) -> bool
+        ensures { result ≡ is_filling self }
+    {
+        matches!(self, Stage::Filling)
+    }
+
+    /// Whether the setup is whole.
+    pub fn is_ready(self) -> bool
+        ensures { result ≡ is_ready self }
+    {
+        matches!(self, Stage::Ready)
+    }
+}

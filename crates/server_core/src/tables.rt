@@ -1,0 +1,4 @@
+mod dictionary;
+mod slot;
+
+pub use dictionary::Dictionary;
