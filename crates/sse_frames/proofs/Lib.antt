@@ -8,3 +8,4 @@ pub mod Numbers
 pub mod Ids
 pub mod ReplyBodies
 pub mod Pages
+mod Rows

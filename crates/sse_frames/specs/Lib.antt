@@ -5,3 +5,5 @@ pub mod Sizes
 pub mod Fields
 pub mod Tables
 pub mod Reading
+pub mod Order
+pub mod Sending

@@ -31,3 +31,6 @@ pub use reply::Reply;
 pub use reply_reader::read_reply;
 pub use reply_writer::{write_page, write_reply};
 pub use std::alloc::AllocError as NoMemory;
+
+#[cfg(test)]
+mod tests;
