@@ -6,3 +6,4 @@ pub mod TallyLaws
 pub mod WordsLaws
 pub mod IndexedLaws
 pub mod PushLaws
+pub mod AcceptanceLaws

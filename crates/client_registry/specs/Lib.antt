@@ -8,3 +8,5 @@ pub mod DocView
 pub mod Documents
 pub mod Tally
 pub mod DocsView
+pub mod Setup
+pub mod Acceptance

@@ -106,6 +106,7 @@ impl Docs {
     pub fn words(&self) -> usize
         ensures words { result ≡ length (words_of self.now) }
         ensures within { result ≤ MAX_PAIRS }
+        ensures valid { IsCollected self.now }
     {
         self.counts.len()
     }

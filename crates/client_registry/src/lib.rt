@@ -1,8 +1,9 @@
 //! What a client knows of its documents: words, documents, and the documents collected for a setup, with each
-//! word numbered by its first appearance and the number of documents that hold it. It stands on std and
-//! `indexmap`. Callers see a [`Doc`] as a `Document` of specs/Document.antt and [`Docs`] as the list of them;
-//! `Word::read`, `Doc::new` and `Docs::push` refuse exactly what their `refusal` definitions say, with the first
-//! cause that stands, and change nothing then. It makes no index and searches nothing.
+//! word numbered by its first appearance and the number of documents that hold it. It stands on the plan of a
+//! list alone (`two_level`), so that [`size_of`] tells the size of an index, or why there is none, without a key.
+//! Callers see a [`Doc`] as a `Document` of specs/Document.antt and [`Docs`] as the list of them; what is refused
+//! is exactly what a definition named `refusal` gives, the first cause that stands, and nothing is changed then.
+//! It makes no index and searches nothing.
 #![tactic(auto)]
 
 mod collected;
@@ -10,6 +11,7 @@ mod doc_id;
 mod document;
 mod faults;
 mod limits;
+mod size;
 mod tally;
 mod word;
 
@@ -18,5 +20,6 @@ pub use doc_id::{DocId, Zero};
 pub use document::Doc;
 pub use faults::{DocFault, DocsFault, SizeFault, WordFault};
 pub use limits::{MAX_DOCUMENTS, MAX_INDEX_BYTES, MAX_PAIRS, MAX_WORD_BYTES, MAX_WORDS};
+pub use size::{Size, size_of};
 pub use std::alloc::AllocError as NoMemory;
 pub use word::Word;

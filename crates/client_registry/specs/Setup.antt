@@ -1,0 +1,21 @@
+use Rattle.std.specs.Prelude.{ℕ, List}
+use Rattle.two_level.specs.Shape.{Shape}
+use Rattle.client_registry.specs.Document.{Document}
+use Rattle.client_registry.specs.Documents.{words_of, ids_with}
+
+-- a setup: the documents in their order, and the shape of the index
+pub record Setup : Type 0 where
+  pub documents : List Document
+  pub shape : Shape
+
+-- the setup of these documents with b numbers in a cell and big numbers in a block
+abbrev pub setup_of : List Document → ℕ → ℕ → Setup
+setup_of docs b big = record { documents = docs; shape = record { b = b; big = big } }
+
+-- the words of the setup by first appearance; the number of a word is its place here
+abbrev pub setup_words : Setup → List (List ℕ)
+setup_words s = words_of s.documents
+
+-- the identifiers of the setup's documents that hold the word, in the order of the documents
+abbrev pub setup_list : Setup → List ℕ → List ℕ
+setup_list s word = ids_with s.documents word
