@@ -1,5 +1,5 @@
 ghost use Rattle.std.specs.Prelude.{◌≡◌, ◌+◌, ◌<◌, ◌^◌, ◌++◌, length, OnOk, OnErr};
-ghost use Rattle.sse_frames.specs.Frames.{SetupBegin, SetupDict, SetupEnd, InGrammar, frame_bytes};
+ghost use Rattle.sse_frames.specs.Frames.{SetupBegin, SetupDict, SetupEnd, frame_bytes};
 ghost use Rattle.sse_frames.specs.Seen.{seen, entries_in};
 ghost use Rattle.sse_frames.specs.Sizes.{HasSizes, AreEntries};
 
@@ -62,9 +62,10 @@ fn append_end(q: u32, out: &mut Vec<u8>) -> Result<(), AllocError>
 }
 
 /// Appends the frame to the bytes. Without memory they are as before.
+///
+/// Its list has whole items, of a size and in a number that the grammar has; it may break the grammar otherwise.
 pub fn write_frame(frame: &Frame<'_>, out: &mut Vec<u8>) -> Result<(), AllocError>
-    requires grammar { InGrammar (seen frame.now) }
-    requires sizes { HasSizes frame.now }
+    requires { HasSizes frame.now }
     ensures ok { OnOk result (out.new.items ≡ out.old.items ++ frame_bytes (seen frame.now)) }
     ensures err { OnErr result (out.new.items ≡ out.old.items) }
 {
