@@ -9,3 +9,6 @@ pub mod Ids
 pub mod ReplyBodies
 pub mod Pages
 mod Rows
+pub mod Joined
+pub mod Spelling
+pub mod ReplySpelling
