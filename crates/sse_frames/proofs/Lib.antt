@@ -12,3 +12,5 @@ mod Rows
 pub mod Joined
 pub mod Spelling
 pub mod ReplySpelling
+pub mod Stands
+pub mod NoFault

@@ -7,7 +7,7 @@ use Rattle.sse_frames.specs.declared.fault.FrameFault.TheVariants.{BadLength, Ba
 use Rattle.sse_frames.specs.declared.frame.Frame.{Frame}
 use Rattle.sse_frames.specs.declared.reply.Reply.{Reply}
 use Rattle.sse_frames.specs.Replies.{InReplies, reply_body, reply_bytes}
-use Rattle.sse_frames.specs.Frames.{be32, InGrammar, body_of, frame_bytes}
+use Rattle.sse_frames.specs.Frames.{FrameText, SetupArray, AddFrame, DeleteFrame, be32, InGrammar, body_of, frame_bytes}
 use Rattle.sse_frames.specs.Seen.{seen, seen_reply}
 use Rattle.sse_frames.specs.Sizes.{HasSizes, HasReplySizes}
 use Rattle.sse_frames.specs.Fields.{Field, number_at, first_fault}
@@ -72,6 +72,19 @@ abbrev pub IfRead : {T : Type 0} → Result (Option (T × ℕ)) FrameFault → (
 IfRead (Ok (Some found)) P = P found.0 found.1
 IfRead (Ok None) P = ⊤
 IfRead (Err fault) P = ⊤
+
+-- something was read, and this holds of it
+abbrev pub IsRead : {T : Type 0} → Result (Option (T × ℕ)) FrameFault → (T → ℕ → Type 0) → Type 0
+IsRead (Ok (Some found)) P = P found.0 found.1
+IsRead (Ok None) P = ⊥
+IsRead (Err fault) P = ⊥
+
+-- the frames that are read so far
+abbrev pub IsBuilt : FrameText → Type 0
+IsBuilt (SetupArray q width blocks) = ⊥
+IsBuilt (AddFrame q entries numbers) = ⊥
+IsBuilt (DeleteFrame q numbers) = ⊥
+IsBuilt _ = ⊤
 
 -- the frame of a body
 pub record IsFrameOf (frame : Frame) (body : List ℕ) : Type 0 where
