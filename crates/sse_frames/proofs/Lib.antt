@@ -13,4 +13,7 @@ pub mod Joined
 pub mod Spelling
 pub mod ReplySpelling
 pub mod Stands
+pub mod InFront
 pub mod NoFault
+pub mod ReplyNoFault
+pub mod Only

@@ -1,16 +1,15 @@
 -- What is spelled so has no fault.
-use Rattle.std.proofs.Common.{◌≡◌, ℕ, zero, suc, ◌+◌, ◌-◌, ◌*◌, ◌%◌, ◌^◌, ◌<◌, ◌≤◌, Bool, true, false, ◌&&◌, ◌||◌, List, [], ◌∷◌, ◌++◌, length, get_or, take, drop, Option, Some, None, Result, Ok, Err, refl, sym, ap, ◌∙◌, append_assoc, length-append, arith}
-use Rattle.std.specs.Prelude.{if◌then◌else◌, ⊤, ◌==◌, nat_le, nat_lt}
-use Rattle.std.specs.Int.{w16, w32, from_be_bytes}
+use Rattle.std.proofs.Common.{◌≡◌, ℕ, ◌+◌, ◌*◌, ◌%◌, ◌≤◌, true, List, [], ◌∷◌, ◌++◌, length, drop, None, Ok, refl, sym, ap, ◌∙◌, arith}
+use Rattle.std.specs.Int.{w16, w32}
 use Rattle.std.specs.List.{flat_map}
-use Rattle.std.proofs.lemmas.Bool.{and_from, or_from, le-leb, le-ltb, eq-eqb, ne_eqb}
-use Rattle.std.proofs.lemmas.List.{append-nil, take_at}
-use Rattle.sse_frames.specs.declared.fault.FrameFault.{FrameFault}
-use Rattle.sse_frames.specs.Frames.{Entry, FrameText, Hello, SetupBegin, SetupDict, SetupArray, SetupEnd, AddFrame, DeleteFrame, SearchFrame, be16, be32, be64, entry_bytes, body_of, frame_bytes, InGrammar, IsSetupDict, IsCellWidth}
+use Rattle.std.proofs.lemmas.Bool.{and_from, le-leb, eq-eqb}
+use Rattle.std.proofs.lemmas.List.{append-nil}
+use Rattle.sse_frames.specs.Frames.{Entry, FrameText, Hello, SetupBegin, SetupDict, SetupArray, SetupEnd, AddFrame, DeleteFrame, SearchFrame, entry_bytes, body_of, frame_bytes, InGrammar, IsSetupDict, IsCellWidth}
 use Rattle.sse_frames.specs.Fields.{number_at, bytes_field, range_field, cell_width_field, is_cell_width, entry_fields, end_field, first_fault}
-use Rattle.sse_frames.specs.Tables.{number_field, hello_fields, setup_begin_fields, setup_dict_fields, setup_end_fields, search_fields, frame_fields}
-use Rattle.sse_frames.specs.Reading.{fault_in, or_fault, front, is_bad_length, outcome, frame_outcome, IsBuilt}
+use Rattle.sse_frames.specs.Tables.{number_field, setup_dict_fields, frame_fields}
+use Rattle.sse_frames.specs.Reading.{fault_in, or_fault, outcome, frame_outcome, IsBuilt}
 use Rattle.sse_frames.proofs.Stands.{stands_then, no_fault-append, range_stands, end_stands, entries_no_fault}
+use Rattle.sse_frames.proofs.InFront.{front-spelled}
 use Rattle.sse_frames.proofs.Spelling.{back16, back32, length-body_of, length-entry_bytes}
 
 is_cell : (width : ℕ) → IsCellWidth width → is_cell_width width ≡ true
@@ -33,10 +32,10 @@ dict_no_fault q width entries body is body_is q_is w_is n_is =
     let ends = stands_then (end_field (9 + length entries * (16 + width))) [] body (end_stands (9 + length entries * (16 + width)) body end) refl in
     let tail = entry_fields true width (length entries) 9 ++ end_field (9 + length entries * (16 + width)) ∷ [] in
     let all : first_fault (setup_dict_fields width (length entries)) body ≡ None =
-        stands_then number_field (cell_width_field 5 ∷ range_field w16 1 1024 7 ∷ tail) body (range_stands w32 0 0xfffffffe 1 q body (omega arith) q_is (omega arith) (omega (arith, is.number)))
-        (stands_then (cell_width_field 5) (range_field w16 1 1024 7 ∷ tail) body cell
-        (stands_then (range_field w16 1 1024 7) tail body (range_stands w16 1 1024 7 (length entries) body (omega arith) n_is is.count.0 is.count.1)
-        (no_fault-append (entry_fields true width (length entries) 9) (end_field (9 + length entries * (16 + width)) ∷ []) body listed ends))) in
+    stands_then number_field (cell_width_field 5 ∷ range_field w16 1 1024 7 ∷ tail) body (range_stands w32 0 0xfffffffe 1 q body (omega arith) q_is (omega arith) (omega (arith, is.number)))
+    (stands_then (cell_width_field 5) (range_field w16 1 1024 7 ∷ tail) body cell
+    (stands_then (range_field w16 1 1024 7) tail body (range_stands w16 1 1024 7 (length entries) body (omega arith) n_is is.count.0 is.count.1)
+    (no_fault-append (entry_fields true width (length entries) 9) (end_field (9 + length entries * (16 + width)) ∷ []) body listed ends))) in
     ap (λ (w : ℕ). first_fault (setup_dict_fields w (number_at w16 7 body)) body) w_is ∙ ap (λ (n : ℕ). first_fault (setup_dict_fields width n) body) n_is ∙ all
 
 -- the body of a frame of the grammar has no fault
@@ -46,19 +45,19 @@ fault_in-body_of Hello is built = refl
 fault_in-body_of (SetupBegin q b big m a) is built =
     let body = body_of (SetupBegin q b big m a) in
     stands_then number_field (range_field w16 1 64 5 ∷ range_field w16 1 256 7 ∷ range_field w32 0 0x100000 9 ∷ range_field w32 0 0x100000 13 ∷ end_field 17 ∷ []) body
-        (range_stands w32 0 0xfffffffe 1 q body (omega arith) (back32 q (omega (arith, is.number))) (omega arith) (omega (arith, is.number)))
+    (range_stands w32 0 0xfffffffe 1 q body (omega arith) (back32 q (omega (arith, is.number))) (omega arith) (omega (arith, is.number)))
     (stands_then (range_field w16 1 64 5) (range_field w16 1 256 7 ∷ range_field w32 0 0x100000 9 ∷ range_field w32 0 0x100000 13 ∷ end_field 17 ∷ []) body
-        (range_stands w16 1 64 5 b body (omega arith) (back16 b (omega (arith, is.cell.1))) is.cell.0 is.cell.1)
+    (range_stands w16 1 64 5 b body (omega arith) (back16 b (omega (arith, is.cell.1))) is.cell.0 is.cell.1)
     (stands_then (range_field w16 1 256 7) (range_field w32 0 0x100000 9 ∷ range_field w32 0 0x100000 13 ∷ end_field 17 ∷ []) body
-        (range_stands w16 1 256 7 big body (omega arith) (back16 big (omega (arith, is.block.1))) is.block.0 is.block.1)
+    (range_stands w16 1 256 7 big body (omega arith) (back16 big (omega (arith, is.block.1))) is.block.0 is.block.1)
     (stands_then (range_field w32 0 0x100000 9) (range_field w32 0 0x100000 13 ∷ end_field 17 ∷ []) body
-        (range_stands w32 0 0x100000 9 m body (omega arith) (back32 m (omega (arith, is.words))) (omega arith) is.words)
+    (range_stands w32 0 0x100000 9 m body (omega arith) (back32 m (omega (arith, is.words))) (omega arith) is.words)
     (stands_then (range_field w32 0 0x100000 13) (end_field 17 ∷ []) body
-        (range_stands w32 0 0x100000 13 a body (omega arith) (back32 a (omega (arith, is.blocks))) (omega arith) is.blocks)
+    (range_stands w32 0 0x100000 13 a body (omega arith) (back32 a (omega (arith, is.blocks))) (omega arith) is.blocks)
     refl))))
 fault_in-body_of (SetupDict q width entries) is built =
     dict_no_fault q width entries (body_of (SetupDict q width entries)) is refl
-        (back32 q (omega (arith, is.number))) (back16 width (omega (arith, is.cell.2, is.cell.3))) (back16 (length entries) (omega (arith, is.count.1)))
+    (back32 q (omega (arith, is.number))) (back16 width (omega (arith, is.cell.2, is.cell.3))) (back16 (length entries) (omega (arith, is.count.1)))
 fault_in-body_of (SetupArray q width blocks) is built = absurd built
 fault_in-body_of (SetupEnd q) is built =
     stands_then number_field (end_field 5 ∷ []) (body_of (SetupEnd q)) (range_stands w32 0 0xfffffffe 1 q (body_of (SetupEnd q)) (omega arith) (back32 q (omega (arith, is))) (omega arith) (omega (arith, is))) refl
@@ -68,23 +67,6 @@ fault_in-body_of (SearchFrame token) is built =
     let end : length (body_of (SearchFrame token)) ≡ 161 = omega (arith, is.size_is) in
     stands_then (bytes_field 160 1) (end_field 161 ∷ []) (body_of (SearchFrame token)) (le-leb _ _ (omega (arith, end)))
     (stands_then (end_field 161) [] (body_of (SearchFrame token)) (end_stands 161 (body_of (SearchFrame token)) end) refl)
-
--- a length in range is that of the body behind it
-front_is : (limit n : ℕ) (bytes : List ℕ) → number_at w32 0 bytes ≡ n → 1 ≤ n → n ≤ limit → 4 + n ≤ length bytes → front limit bytes ≡ Ok (Some (take n (drop 4 bytes)))
-front_is limit n bytes is some most inside =
-    let few : nat_lt (length bytes) 4 ≡ false = le-ltb _ _ (omega arith) in
-    let good : is_bad_length limit (number_at w32 0 bytes) ≡ false = ap (is_bad_length limit) is ∙ or_from _ _ (ne_eqb n 0 (λ e. absurd (omega (arith, e, some)))) (le-ltb _ _ most) in
-    let whole : nat_lt (length bytes - 4) (number_at w32 0 bytes) ≡ false = ap (nat_lt (length bytes - 4)) is ∙ le-ltb _ _ (omega arith) in
-    rw (few, good, whole) (ap (λ (k : ℕ). let read : Result (Option (List ℕ)) FrameFault = Ok (Some (take k (drop 4 bytes))) in read) is)
-
--- a body behind its length, whatever follows
-pub front-spelled : (limit : ℕ) (body rest : List ℕ) → 1 ≤ length body → length body ≤ limit → limit < 2 ^ 32
-    → front limit (be32 (length body) ++ body ++ rest) ≡ Ok (Some body)
-unfolding number_at
-front-spelled limit body rest some most small =
-    let n : number_at w32 0 (be32 (length body) ++ body ++ rest) ≡ length body = back32 (length body) (omega arith) in
-    front_is limit (length body) (be32 (length body) ++ body ++ rest) n some most (omega (arith, length-append body rest))
-    ∙ ap (λ (b : List ℕ). let read : Result (Option (List ℕ)) FrameFault = Ok (Some b) in read) (take_at body rest (length body) refl)
 
 -- bytes that begin with a frame of the grammar are read
 pub frame_outcome-frame_bytes : (frame : FrameText) (rest : List ℕ) → InGrammar frame → IsBuilt frame → frame_outcome (frame_bytes frame ++ rest) ≡ Ok true

@@ -1,10 +1,10 @@
 -- A reply of the grammar is read off its body again, so no two have the same bytes.
-use Rattle.std.proofs.Common.{◌≡◌, ℕ, zero, suc, ◌+◌, ◌*◌, ◌^◌, ◌<◌, ◌≤◌, Bool, true, false, List, [], ◌∷◌, ◌++◌, map, length, get_or, take, drop, refl, sym, ap, ◌∙◌, append_assoc, arith}
+use Rattle.std.proofs.Common.{◌≡◌, ℕ, ◌≤◌, Bool, true, false, List, [], ◌∷◌, ◌++◌, map, length, drop, refl, sym, ap, ◌∙◌, append_assoc, arith}
 use Rattle.std.specs.Prelude.{nat_eq, ◌==◌, if◌then◌else◌, slice_index}
-use Rattle.std.specs.Int.{w16, w32, w64, from_be_bytes}
+use Rattle.std.specs.Int.{w32, w64, from_be_bytes}
 use Rattle.std.specs.List.{flat_map, AllByRecursion}
 use Rattle.std.proofs.lemmas.Nat.{from_be_bytes-to_be_bytes_8}
-use Rattle.sse_frames.specs.Frames.{be16, be32, be64, joined}
+use Rattle.sse_frames.specs.Frames.{be32, be64, joined}
 use Rattle.sse_frames.specs.Replies.{ReplyText, Next, Took, Number, Clash, Page, BadList, NoMemory, StoreFault, BadFrame, OutOfPlace, reply_body, reply_bytes, IsIdentifier, InReplies}
 use Rattle.sse_frames.specs.Seen.{numbers_in}
 use Rattle.sse_frames.specs.Fields.{number_at}
@@ -86,6 +86,6 @@ one_reply r s x y in_r in_s e =
     let len_r = length-reply_body r in_r in
     let len_s = length-reply_body s in_s in
     let apart = be32_apart (length (reply_body r)) (length (reply_body s)) (reply_body r ++ x) (reply_body s ++ y) (omega (arith, len_r.most)) (omega (arith, len_s.most))
-        (sym (append_assoc (be32 (length (reply_body r))) (reply_body r) x) ∙ e ∙ append_assoc (be32 (length (reply_body s))) (reply_body s) y) in
+    (sym (append_assoc (be32 (length (reply_body r))) (reply_body r) x) ∙ e ∙ append_assoc (be32 (length (reply_body s))) (reply_body s) y) in
     let same = same_front (reply_body r) (reply_body s) x y apart.0 apart.1 in
     (sym (reply_in-reply_body r in_r) ∙ ap reply_in same.0 ∙ reply_in-reply_body s in_s, same.1)

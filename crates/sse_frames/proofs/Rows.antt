@@ -1,9 +1,9 @@
 -- Rows that compute: frames and replies with the keyed function that adds bytes up, byte for byte.
-use Rattle.std.proofs.Common.{◌≡◌, ℕ, zero, suc, ◌+◌, ◌*◌, ◌-◌, Bool, true, false, List, [], ◌∷◌, ◌++◌, map, take, cond, ltb, Option, Some, None, Result, Ok, Err, refl}
+use Rattle.std.proofs.Common.{◌≡◌, ℕ, zero, suc, ◌+◌, ◌*◌, ◌-◌, true, false, List, [], ◌∷◌, ◌++◌, map, take, cond, ltb, Ok, Err, refl}
 use Rattle.std.specs.Prelude.{codes}
 use Rattle.sse_frames.specs.declared.fault.FrameFault.TheVariants.{BadLength, BadKind, BadBody}
-use Rattle.sse_frames.specs.Frames.{Entry, Hello, SetupBegin, SetupDict, SetupArray, SetupEnd, AddFrame, DeleteFrame, SearchFrame, frame_bytes}
-use Rattle.sse_frames.specs.Replies.{Next, Took, Page, reply_bytes}
+use Rattle.sse_frames.specs.Frames.{Entry, Hello, AddFrame, DeleteFrame, SearchFrame, frame_bytes}
+use Rattle.sse_frames.specs.Replies.{Next, Took, reply_bytes}
 use Rattle.sse_frames.specs.Fields.{number_at}
 use Rattle.sse_frames.specs.Reading.{frame_outcome}
 use Rattle.sse_frames.specs.Sending.{setup_frames, pages}

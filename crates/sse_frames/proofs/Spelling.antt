@@ -1,15 +1,14 @@
 -- A frame of the grammar is read off its body again, so no two have the same bytes.
-use Rattle.std.proofs.Common.{◌≡◌, ℕ, zero, suc, ◌+◌, ◌*◌, ◌-◌, ◌/◌, ◌^◌, ◌<◌, ◌≤◌, Bool, true, false, List, [], ◌∷◌, ◌++◌, map, length, get_or, take, drop, refl, sym, ap, subst, ◌∙◌, append_assoc, length-append, arith}
+use Rattle.std.proofs.Common.{◌≡◌, ℕ, ◌+◌, ◌*◌, ◌-◌, ◌^◌, ◌<◌, ◌≤◌, List, [], ◌∷◌, ◌++◌, map, length, take, drop, refl, sym, ap, ◌∙◌, append_assoc, length-append, arith}
 use Rattle.std.specs.Prelude.{◌==◌, if◌then◌else◌, slice_index}
-use Rattle.std.specs.Int.{w16, w32, w64, from_be_bytes, to_be_bytes}
+use Rattle.std.specs.Int.{w16, w32, from_be_bytes}
 use Rattle.std.specs.List.{flat_map, AllByRecursion}
-use Rattle.std.specs.Simd.{first_chunks}
 use Rattle.std.proofs.Common.{inl, inr}
 use Rattle.std.proofs.lemmas.Bool.{cases_lt}
-use Rattle.std.proofs.lemmas.List.{take_at, drop_at, append-nil, length-map, get_or_append_left, get_or-append_right}
-use Rattle.std.proofs.lemmas.Nat.{from_be_bytes-to_be_bytes_2, from_be_bytes-to_be_bytes_4, from_be_bytes-to_be_bytes_8}
-use Rattle.std.proofs.Math.Nat.{mul-div_cancel, mul-le-mul}
-use Rattle.sse_frames.specs.Frames.{Entry, FrameText, Hello, SetupBegin, SetupDict, SetupArray, SetupEnd, AddFrame, DeleteFrame, SearchFrame, be16, be32, be64, entry_bytes, joined, body_of, frame_bytes, IsBytes, IsEntry, InGrammar}
+use Rattle.std.proofs.lemmas.List.{take_at, drop_at, length-map, get_or_append_left, get_or-append_right}
+use Rattle.std.proofs.lemmas.Nat.{from_be_bytes-to_be_bytes_2, from_be_bytes-to_be_bytes_4}
+use Rattle.std.proofs.Math.Nat.{mul-le-mul}
+use Rattle.sse_frames.specs.Frames.{Entry, FrameText, Hello, SetupBegin, SetupDict, SetupArray, SetupEnd, AddFrame, DeleteFrame, SearchFrame, be16, be32, entry_bytes, joined, body_of, frame_bytes, IsBytes, IsEntry, InGrammar}
 use Rattle.sse_frames.specs.Seen.{items_in, entry_in, entries_in}
 use Rattle.sse_frames.specs.Fields.{number_at}
 use Rattle.sse_frames.proofs.Cut.{AreBytes}
@@ -25,11 +24,13 @@ AreBytes-append xs ys f g i =
 -- entries are the pieces of their joined bytes
 pub pieces_are : (width : ℕ) (entries : List Entry) → AllByRecursion (IsEntry width) entries → AllByRecursion (IsBytes (16 + width)) (map entry_bytes entries)
 pieces_are width [] all = tt
-pieces_are width (entry ∷ entries) all =
-    (record {
-      size_is = omega (arith, length-append entry.label entry.text, all.0.label.size_is, all.0.text.size_is);
-      each = AreBytes-append entry.label entry.text all.0.label.each all.0.text.each
-    }, pieces_are width entries all.1)
+pieces_are width (entry ∷ entries) all = (
+  record {
+    size_is = omega (arith, length-append entry.label entry.text, all.0.label.size_is, all.0.text.size_is);
+    each = AreBytes-append entry.label entry.text all.0.label.each all.0.text.each;
+  },
+  pieces_are width entries all.1,
+)
 
 joined-map : (entries : List Entry) → flat_map entry_bytes entries ≡ joined (map entry_bytes entries)
 joined-map [] = refl
@@ -151,9 +152,10 @@ be32_apart m n xs ys small little e =
     (sym (back32 m small) ∙ ap (λ (bytes : List ℕ). from_be_bytes w32 (take 4 bytes)) e ∙ back32 n little, ap (drop 4) e)
 
 pub same_front : (xs ys x y : List ℕ) → length xs ≡ length ys → xs ++ x ≡ ys ++ y → (xs ≡ ys) × (x ≡ y)
-same_front xs ys x y len e =
-    (sym (take_at xs x (length ys) len) ∙ ap (take (length ys)) e ∙ take_at ys y (length ys) refl,
-    sym (drop_at xs x (length ys) len) ∙ ap (drop (length ys)) e ∙ drop_at ys y (length ys) refl)
+same_front xs ys x y len e = (
+  sym (take_at xs x (length ys) len) ∙ ap (take (length ys)) e ∙ take_at ys y (length ys) refl,
+  sym (drop_at xs x (length ys) len) ∙ ap (drop (length ys)) e ∙ drop_at ys y (length ys) refl,
+)
 
 -- no frame of the grammar begins another, so bytes begin with one frame at most
 pub one_frame : (f g : FrameText) (x y : List ℕ) → InGrammar f → InGrammar g → frame_bytes f ++ x ≡ frame_bytes g ++ y → (f ≡ g) × (x ≡ y)
@@ -161,6 +163,6 @@ one_frame f g x y in_f in_g e =
     let len_f = length-body_of f in_f in
     let len_g = length-body_of g in_g in
     let apart = be32_apart (length (body_of f)) (length (body_of g)) (body_of f ++ x) (body_of g ++ y) (omega (arith, len_f.most)) (omega (arith, len_g.most))
-        (sym (append_assoc (be32 (length (body_of f))) (body_of f) x) ∙ e ∙ append_assoc (be32 (length (body_of g))) (body_of g) y) in
+    (sym (append_assoc (be32 (length (body_of f))) (body_of f) x) ∙ e ∙ append_assoc (be32 (length (body_of g))) (body_of g) y) in
     let same = same_front (body_of f) (body_of g) x y apart.0 apart.1 in
     (one_body f g in_f in_g same.0, same.1)

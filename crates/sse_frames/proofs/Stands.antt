@@ -1,17 +1,16 @@
 -- When the fields of a body stand.
-use Rattle.std.proofs.Common.{◌≡◌, ℕ, zero, suc, ◌+◌, ◌-◌, ◌*◌, ◌<◌, ◌≤◌, Bool, true, false, ◌||◌, ◌&&◌, List, [], ◌∷◌, ◌++◌, map, length, get_or, take, drop, Option, None, refl, sym, ap, subst, ◌∙◌, append_assoc, length-append, arith}
-use Rattle.std.specs.Int.{Width, w16, w32, w64, byte_len, from_be_bytes}
-use Rattle.std.specs.Ordering.{nat_cmp, is_lt}
-use Rattle.std.specs.Cmp.Lexicographic.{slice_cmp}
+use Rattle.std.proofs.Common.{◌≡◌, ℕ, ◌+◌, ◌-◌, ◌<◌, ◌≤◌, Bool, true, false, ◌||◌, List, [], ◌∷◌, ◌++◌, length, get_or, take, drop, None, refl, sym, ap, subst, ◌∙◌, append_assoc, length-append, arith}
+use Rattle.std.specs.Int.{Width, w64, byte_len, from_be_bytes}
+use Rattle.std.specs.Ordering.{is_lt}
 use Rattle.std.specs.List.{flat_map, AllByRecursion}
 use Rattle.std.specs.List.Sorted.{IsStrictlySortedBy}
 use Rattle.std.proofs.lemmas.Bool.{and_from, le-leb, eq-eqb}
-use Rattle.std.proofs.lemmas.List.{take_at, drop_at, take-take, take-append-le, drop-drop, length-drop}
+use Rattle.std.proofs.lemmas.List.{take_at, drop_at, drop-drop, length-drop}
 use Rattle.std.proofs.lemmas.Nat.{from_be_bytes-to_be_bytes_8}
 use Rattle.sse_frames.proofs.Faults.{first_fault-append}
 use Rattle.sse_frames.specs.Frames.{Entry, entry_bytes, be64, IsEntry, Rises, labels_of}
 use Rattle.sse_frames.specs.Replies.{IsIdentifier}
-use Rattle.sse_frames.specs.Fields.{Field, bytes_at, number_at, is_whole, is_above, bytes_field, byte_field, range_field, label_field, entry_fields, id_fields, end_field, first_fault}
+use Rattle.sse_frames.specs.Fields.{Field, bytes_at, number_at, is_above, bytes_field, byte_field, range_field, label_field, entry_fields, id_fields, end_field, first_fault}
 
 -- one more field that stands
 pub stands_then : (field : Field) (fields : List Field) (body : List ℕ) → field.stands body ≡ true → first_fault fields body ≡ None → first_fault (field ∷ fields) body ≡ None
@@ -47,7 +46,7 @@ holds place size bytes body rest some len e =
     record {
       inside = omega (arith, long, length-drop place body, length-append bytes rest, len, some);
       here = ap (take size) e ∙ take_at bytes rest size len;
-      after = sym (drop-drop size place body) ∙ ap (drop size) e ∙ drop_at bytes rest size len
+      after = sym (drop-drop size place body) ∙ ap (drop size) e ∙ drop_at bytes rest size len;
     }
 
 above_or_first : (first : Bool) (above : Bool) → (first ≡ false → above ≡ true) → (first || above) ≡ true
@@ -66,7 +65,7 @@ entries_no_fault first width (entry ∷ entries) place body rest e all rises beh
     let len : length (entry_bytes entry) ≡ 16 + width = omega (arith, length-append entry.label entry.text, all.0.label.size_is, all.0.text.size_is) in
     let h = holds place (16 + width) (entry_bytes entry) body more (omega arith) len (e ∙ append_assoc (entry_bytes entry) (flat_map entry_bytes entries) rest) in
     let label : bytes_at place 16 body ≡ entry.label =
-        ap (take 16) (e ∙ append_assoc (entry_bytes entry) (flat_map entry_bytes entries) rest ∙ append_assoc entry.label entry.text more) ∙ take_at entry.label (entry.text ++ more) 16 all.0.label.size_is in
+    ap (take 16) (e ∙ append_assoc (entry_bytes entry) (flat_map entry_bytes entries) rest ∙ append_assoc entry.label entry.text more) ∙ take_at entry.label (entry.text ++ more) 16 all.0.label.size_is in
     let back : place + (16 + width) - (16 + width) ≡ place = omega arith in
     let above : first ≡ false → is_above place (16 + width) body ≡ true = λ f. rw label (ap is_lt (behind f).0.0) in
     stands_then (label_field first (16 + width) place) (bytes_field width (place + 16) ∷ others) body (and_from _ _ (le-leb _ _ (omega (arith, h.inside))) (above_or_first first (is_above place (16 + width) body) above))

@@ -1,10 +1,12 @@
-ghost use Rattle.std.specs.Prelude.{◌≡◌, ◌<◌, length, slice_index, IfOk};
+ghost use Rattle.std.specs.Prelude.{◌≡◌, ℕ, ◌<◌, List, ◌++◌, length, slice_index, IfOk};
 ghost use Rattle.std.specs.Result.{result_err};
 ghost use Rattle.std.specs.Int.{w16};
+ghost use Rattle.sse_frames.specs.Replies.{ReplyText, InReplies, reply_bytes};
+ghost use Rattle.sse_frames.specs.Seen.{seen_reply};
 ghost use Rattle.sse_frames.specs.Fields.{number_at, first_fault};
 ghost use Rattle.sse_frames.specs.Tables as tables;
 ghost use Rattle.sse_frames.specs.Tables.{next_fields, took_fields, clash_fields, page_fields, bad_frame_fields, bare_fields, reply_fields};
-ghost use Rattle.sse_frames.specs.Reading.{IsReplyOf, IsReplyFront, IfRead, fault_in, reply_outcome, answered};
+ghost use Rattle.sse_frames.specs.Reading.{IsReplyOf, IsReplyFront, IfRead, IsRead, fault_in, reply_outcome, answered};
 
 use crate::fault::FrameFault;
 use crate::fields::{read_end, read_ids, read_u8, read_u16, read_u32};
@@ -124,12 +126,8 @@ fn reply_of(body: &[u8]) -> Result<Reply<'_>, FrameFault>
     }
 }
 
-/// The reply in front of the bytes, and how many bytes it has, its length among them. `None` where it
-/// isn't whole yet: there are fewer than 4 bytes, or a length in range and fewer bytes than it says.
-///
-/// The first fault from the left: `BadLength` where the length is 0 or above 65,540, `BadKind` where the
-/// body's first byte is no kind, `BadBody` with the place of the first field that doesn't stand.
-pub fn read_reply(bytes: &[u8]) -> Result<Option<(Reply<'_>, usize)>, FrameFault>
+/// The reply in front of the bytes and its length, none where it isn't whole yet, or the first fault.
+fn front_reply(bytes: &[u8]) -> Result<Option<(Reply<'_>, usize)>, FrameFault>
     ensures outcome { answered result ≡ reply_outcome bytes.now }
     ensures found { IfRead result (λ reply n. IsReplyFront reply n bytes.now) }
 {
@@ -141,4 +139,21 @@ pub fn read_reply(bytes: &[u8]) -> Result<Option<(Reply<'_>, usize)>, FrameFault
             Ok(reply) => Ok(Some((reply, 4 + body.len()))),
         },
     }
+}
+
+/// The reply in front of the bytes, and how many bytes it has, its length among them. `None` where it
+/// isn't whole yet: there are fewer than 4 bytes, or a length in range and fewer bytes than it says.
+///
+/// The first fault from the left: `BadLength` where the length is 0 or above 65,540, `BadKind` where the
+/// body's first byte is no kind, `BadBody` with the place of the first field that doesn't stand.
+pub fn read_reply(bytes: &[u8]) -> Result<Option<(Reply<'_>, usize)>, FrameFault>
+    // What is read is in the grammar and stands in front, and a reply of the grammar that stands there is read.
+    ensures found { IfRead result (λ reply n. IsReplyFront reply n bytes.now) }
+    ensures only { (text : ReplyText) (rest : List ℕ) → InReplies text → bytes.now ≡ reply_bytes text ++ rest →
+        IsRead result (λ reply n. (seen_reply reply ≡ text) × (n ≡ length (reply_bytes text))) }
+
+    // Whether it is whole, or which fault is the first.
+    ensures outcome { answered result ≡ reply_outcome bytes.now }
+{
+    front_reply(bytes)
 }
