@@ -106,7 +106,7 @@ numbers_code = coded× stage_code (coded× coded_ℕ (coded× coded_ℕ (coded×
 abbrev tables_code : Coded Tables
 tables_code = coded× (map.code bytes_code bytes_code) (coded× (coded_list bytes_code) (coded× (map.code bytes_code bytes_code) (set.code bytes_code)))
 
-abbrev state_code : Coded ServerState
+abbrev pub state_code : Coded ServerState
 state_code =
     code_by (Numbers × Tables) (coded× numbers_code tables_code) (λ s. ((s.stage, (s.next, (s.words, (s.blocks, s.shape)))), (s.dictionary, (s.array, (s.additions, s.revoked))))) (λ p. record { stage = p.0.0; next = p.0.1.0; words = p.0.1.1.0; blocks = p.0.1.1.1.0; shape = p.0.1.1.1.1; dictionary = p.1.0; array = p.1.1.0; additions = p.1.1.1.0; revoked = p.1.1.1.1 }) (λ _. refl)
 

@@ -2,7 +2,7 @@
 use Rattle.std.specs.Prelude.{ℕ, ◌*◌, ◌≤◌, List, [], ◌∷◌, length}
 use Rattle.sse_frames.specs.Frames.{FrameText, Hello, SetupBegin, SetupDict, SetupArray, SetupEnd, AddFrame, DeleteFrame, SearchFrame}
 use Rattle.sse_frames.specs.Replies as replies
-use Rattle.sse_frames.specs.Replies.{ReplyText}
+use Rattle.sse_frames.specs.Replies.{ReplyText, InReplies}
 use Rattle.server_core.specs.declared.refuse.Refuse.{Refuse}
 use Rattle.server_core.specs.declared.refuse.Refuse.TheVariants.{Number, OutOfPlace, Clash, NoMemory}
 use Rattle.server_core.specs.declared.answer.Answer.{Answer}
@@ -33,6 +33,12 @@ answer_replies answers.Found ids = pages ids
 answer_replies answers.BadList ids = replies.BadList ∷ []
 answer_replies answers.NoMemory ids = replies.NoMemory ∷ []
 answer_replies answers.OutOfPlace ids = replies.OutOfPlace ∷ []
+
+-- the numbers of an answer are in the ranges of its reply
+abbrev pub HasRange : Answer → Type 0
+HasRange (answers.Took q) = InReplies (replies.Took q)
+HasRange (answers.Clash what place) = InReplies (replies.Clash what place)
+HasRange _ = Unit {0}
 
 -- the room that a frame needs
 abbrev pub room_of : FrameText → Room

@@ -7,7 +7,7 @@ ghost use Rattle.keyed_fn.specs.KeyedFn.{keyed_fn};
 ghost use Rattle.server_core.specs.Search.{found};
 ghost use Rattle.server_core.specs.State.{at_first, is_ready};
 ghost use Rattle.server_core.specs.Step.{update_number, in_place, clash, refusal, taken, answers, step};
-ghost use Rattle.server_core.specs.Views.{refuse_reply, answer_replies, HasRoom, TakesMemory};
+ghost use Rattle.server_core.specs.Views.{refuse_reply, answer_replies, HasRange, HasRoom, TakesMemory};
 
 use crate::entries::entry_count;
 use crate::numbers::number_of;
@@ -171,6 +171,7 @@ impl Server {
         ensures replies { result ≢ Answer.NoMemory → answer_replies result out.new.items ≡ (step (keyed_fn K.prf K.pad) self.old.state (seen frame.now)).1 }
         ensures no_memory { result ≡ Answer.NoMemory → (self.new.state ≡ self.old.state) × TakesMemory (seen frame.now) }
         ensures ids { result ≡ Answer.Found → All (λ id. 0 < id) out.new.items }
+        ensures range { HasRange result }
     {
         match *frame {
             Frame::Hello => Answer::Next(self.next),
@@ -188,6 +189,7 @@ impl Server {
         ensures taken { refusal self.old.state (seen frame.now) ≡ None → result ≢ Answer.NoMemory → (self.new.state ≡ taken self.old.state (seen frame.now)) × (Some self.old.state.next ≡ update_number (seen frame.now)) × (result ≡ Answer.Took self.old.state.next) }
         ensures no_memory { result ≡ Answer.NoMemory → (self.new.state ≡ self.old.state) × TakesMemory (seen frame.now) }
         ensures no_search { result ≢ Answer.Found }
+        ensures range { HasRange result }
     {
         let q = self.next;
         match self.prepare(frame) {
@@ -204,6 +206,7 @@ impl Server {
         ensures ready { is_ready self.now.state.stage ≡ true → result ≢ Answer.NoMemory → answer_replies result out.new.items ≡ answers (keyed_fn K.prf K.pad) self.now.state (SearchFrame token.now) }
         ensures not_ready { is_ready self.now.state.stage ≡ false → result ≡ Answer.OutOfPlace }
         ensures ids { All (λ id. 0 < id) out.new.items }
+        ensures range { HasRange result }
     {
         let Some((bytes, _)) = token.split_first_chunk::<160>() else {
             return Answer::OutOfPlace;

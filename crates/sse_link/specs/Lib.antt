@@ -1,2 +1,5 @@
 pub mod Events
 pub mod Due
+pub mod Passed
+pub mod Told
+pub mod Scripted

@@ -4,9 +4,21 @@
 //! back replies, honest or not. It stands on `sse_frames` and `server_core`; it knows no word and no key.
 #![tactic(auto)]
 
+mod due;
+mod fail;
 mod link;
 mod link_fault;
+mod loopback;
+mod passed;
+mod record;
+mod scripted;
+mod steady;
 
+pub use fail::Fail;
 pub use link::Link;
 pub use link_fault::LinkFault;
+pub use loopback::Loopback;
+pub use passed::Passed;
+pub use scripted::ScriptedLink;
 pub use std::alloc::AllocError as NoMemory;
+pub use steady::SteadyLoopback;

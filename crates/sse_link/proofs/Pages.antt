@@ -1,0 +1,55 @@
+-- The pages of a list, one by one, and what their bytes say of those to come.
+use Rattle.std.proofs.Common.{◌≡◌, ℕ, zero, suc, ◌-◌, ◌/◌, ◌<◌, ◌≤◌, true, false, List, [], ◌∷◌, length, take, drop, get_or, refl, ap, arith}
+use Rattle.std.specs.List.{All}
+use Rattle.std.proofs.lemmas.List.{length-drop}
+use Rattle.std.proofs.lemmas.List.Elements.{recursion_from_All}
+use Rattle.std.specs.List.{AllByRecursion}
+use Rattle.sse_frames.specs.Replies.{Page, IsIdentifier, reply_bytes}
+use Rattle.server_core.specs.Step.{is_nil}
+use Rattle.server_core.specs.Pages.{full_pages, pages}
+use Rattle.server_core.specs.declared.answer.Answer.{Answer}
+use Rattle.server_core.specs.declared.answer.Answer.TheVariants as answers
+use Rattle.server_core.specs.Views.{answer_replies}
+use Rattle.sse_link.specs.Due.{is_open_page}
+
+-- a list of more than a page has a full page first
+pub pages-more : (ids : List ℕ) → 8192 < length ids → pages ids ≡ Page false (take 8192 ids) ∷ pages (drop 8192 ids)
+pages-more ids more =
+    let count : (length ids - 1) / 8192 ≡ suc ((length (drop 8192 ids) - 1) / 8192) = omega (arith, length-drop 8192 ids) in
+    ap (λ n. full_pages n ids) count
+
+-- a list of at most a page is one page
+pub pages-last : (ids : List ℕ) → length ids ≤ 8192 → pages ids ≡ Page true ids ∷ []
+pages-last ids few =
+    let count : (length ids - 1) / 8192 ≡ 0 = omega arith in
+    ap (λ n. full_pages n ids) count
+
+full_pages_some : (n : ℕ) (ids : List ℕ) → is_nil (full_pages n ids) ≡ false
+full_pages_some zero ids = refl
+full_pages_some (suc n) ids = refl
+
+-- there is always a page
+pub is_nil-pages : (ids : List ℕ) → is_nil (pages ids) ≡ false
+is_nil-pages ids = full_pages_some ((length ids - 1) / 8192) ids
+
+-- the flag of a page says whether more follow
+pub open_page : (ids : List ℕ) → is_open_page (reply_bytes (Page false ids)) ≡ true
+open_page ids = refl
+
+pub last_page : (ids : List ℕ) → is_open_page (reply_bytes (Page true ids)) ≡ false
+last_page ids = refl
+
+-- numbers of 64 bits other than 0 are identifiers
+pub identifiers : (ids : List ℕ) → All (λ id. 0 < id) ids → ((k : ℕ) (d : ℕ) → k < length ids → get_or ids k d < 18446744073709551616) → AllByRecursion IsIdentifier ids
+identifiers ids some fit = recursion_from_All IsIdentifier ids (λ k d lt. (some k d lt, fit k d lt))
+
+-- each answer has a reply
+pub is_nil-answer_replies : (answer : Answer) (ids : List ℕ) → is_nil (answer_replies answer ids) ≡ false
+is_nil-answer_replies (answers.Next q) ids = refl
+is_nil-answer_replies (answers.Took q) ids = refl
+is_nil-answer_replies (answers.Number next) ids = refl
+is_nil-answer_replies (answers.Clash what place) ids = refl
+is_nil-answer_replies answers.Found ids = is_nil-pages ids
+is_nil-answer_replies answers.BadList ids = refl
+is_nil-answer_replies answers.NoMemory ids = refl
+is_nil-answer_replies answers.OutOfPlace ids = refl

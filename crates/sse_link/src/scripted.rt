@@ -1,0 +1,129 @@
+ghost use Rattle.std.specs.Prelude.{◌≡◌, ◌↔◌, ◌+◌, ◌≤◌, [], false, length, IfSome, IsTrue};
+ghost use Rattle.sse_frames.specs.Replies.{StoreFault, reply_bytes};
+ghost use Rattle.sse_link.specs.Due.{is_open_page};
+ghost use Rattle.sse_link.specs.Passed.{events_of};
+ghost use Rattle.sse_link.specs.Scripted.{reply_size};
+
+use crate::record::Record;
+use crate::{Link, LinkFault, Passed};
+use sse_frames::MAX_REPLY_BODY;
+use std::alloc::Global;
+use std::marker::Model;
+
+/// A link that takes every frame and plays back replies, whatever they are, in the order of their bytes.
+///
+/// It is cut where the bytes end, also inside a reply. A reply whose length is out of range is its four
+/// length bytes alone.
+#[derive(Drop)]
+pub struct ScriptedLink {
+    replies: Vec<u8>,
+    at: usize,
+    due: bool,
+    faults: u64,
+    record: Record,
+}
+
+impl Model for ScriptedLink {
+    ghost use Rattle.std.specs.Prelude.{◌≤◌, drop, vec_len};
+    ghost use Rattle.sse_link.specs.Scripted.{ScriptTold, script_code};
+
+    ghost Value = { ScriptTold };
+
+    ghost coded = { script_code };
+
+    ghost view = { λ l. record { events = l.record; rest = drop l.at l.replies.items; due = l.due; faults = l.faults } };
+
+    ghost invariant = { λ l. l.at ≤ vec_len l.replies };
+}
+
+impl ScriptedLink {
+    /// A link that plays back these bytes.
+    pub fn new(alloc: Global, replies: Vec<u8>) -> ScriptedLink
+        ensures { result ≡ record { events = []; rest = replies.items; due = false; faults = 0 } }
+    {
+        ScriptedLink {
+            replies,
+            at: 0,
+            due: false,
+            faults: 0,
+            record: Record::new(alloc),
+        }
+    }
+
+    /// All that passed, in order.
+    pub fn transcript(&self) -> &[Passed]
+        ensures { events_of result.now ≡ self.now.events }
+    {
+        self.record.passed()
+    }
+}
+
+impl Link for ScriptedLink {
+    ghost use Rattle.std.specs.Prelude.{Some, None};
+
+    ghost reply_due = { λ l. l.due };
+
+    ghost faults = { λ l. l.faults };
+
+    ghost transcript = { λ l. Some l.events };
+
+    ghost remote = { λ _. None };
+
+    fn send(&mut self, frame: &[u8]) -> Result<(), LinkFault> {
+        self.record.sent(frame)?;
+        self.due = true;
+        Ok(())
+    }
+
+    fn recv(&mut self, out: &mut [u8]) -> Result<usize, LinkFault> {
+        let (_, rest) = self.replies.split_at(self.at);
+        let Some(n) = size_of_reply(rest) else {
+            self.due = false;
+            self.faults = self.faults.saturating_add(1);
+            return Err(LinkFault::Cut);
+        };
+        let (reply, _) = rest.split_at(n);
+        self.record.received(reply)?;
+        out[..n].copy_from_slice(reply);
+        self.due = is_open(reply);
+        if is_store_fault(reply) {
+            self.faults = self.faults.saturating_add(1);
+        }
+        self.at += n;
+        Ok(n)
+    }
+}
+
+// How many bytes the reply in front has.
+fn size_of_reply(bytes: &[u8]) -> Option<usize>
+    ensures size { result ≡ reply_size bytes.now }
+    ensures whole { IfSome result (λ n. n ≤ length bytes.now) }
+    ensures least { IfSome result (λ n. 4 ≤ n) }
+    ensures most { IfSome result (λ n. n ≤ 65544) }
+{
+    let Some((size, _)) = bytes.split_first_chunk::<4>() else {
+        return None;
+    };
+    let size = u32::from_be_bytes(*size);
+    if size == 0 || size > MAX_REPLY_BODY {
+        return Some(4);
+    }
+    let n = 4 + size as usize;
+    if bytes.len() < n {
+        return None;
+    }
+    Some(n)
+}
+
+// Whether the reply is a page that isn't the last.
+fn is_open(reply: &[u8]) -> bool
+    ensures { result ≡ is_open_page reply.now }
+{
+    reply.len() > 4 && reply[4] == 0x85 && (reply.len() <= 5 || reply[5] == 0)
+}
+
+fn is_store_fault(reply: &[u8]) -> bool
+    ensures { IsTrue result ↔ (reply.now ≡ reply_bytes StoreFault) }
+{
+    reply == b"\x00\x00\x00\x01\x88".as_slice()
+}
