@@ -1,3 +1,4 @@
 pub mod FieldsLemmas
 pub mod NumberLemmas
 pub mod TextLinesLemmas
+mod Rows

@@ -29,3 +29,6 @@ pub use printing::print;
 pub use read_stop::ReadStop;
 pub use reading::read_line;
 pub use shown::Shown;
+
+#[cfg(test)]
+mod tests;

@@ -1,0 +1,74 @@
+-- Literal lines and texts, computed by the checker.
+use Rattle.std.proofs.Common.{◌≡◌, ◌∷◌, [], ◌++◌, codes, Some, None, refl, true}
+use Rattle.std.specs.Fmt.{digits}
+use Rattle.hex.proofs.OnLiterals.{hex_on_literals}
+use Rattle.sse_script.specs.Lines.{line_of, Empty, Key, Doc, SetupLine, AddLine, Find}
+use Rattle.sse_script.specs.Shown as shown
+use Rattle.sse_script.specs.Stops as stops
+use Rattle.sse_script.specs.Texts.{text_of}
+
+-- lines of the grammar
+empty_line : line_of (codes "   ") ≡ Some Empty
+empty_line = refl
+
+doc_line : line_of (codes " doc 3  a b ") ≡ Some (Doc 3 (codes "a" ∷ codes "b" ∷ []))
+doc_line = refl
+
+setup_line : line_of (codes "setup 4 18446744073709551615") ≡ Some (SetupLine 4 18446744073709551615)
+setup_line = refl
+
+add_line : line_of (codes "add 0") ≡ Some (AddLine 0 [])
+add_line = refl
+
+find_line : line_of (codes "find twin") ≡ Some (Find (codes "twin"))
+find_line = refl
+
+key_line : line_of (codes "key " ++ codes "000102030405060708090a0b0c0d0e0f101112131415161718191A1B1C1D1E1F")
+    ≡ Some (Key (0 ∷ 1 ∷ 2 ∷ 3 ∷ 4 ∷ 5 ∷ 6 ∷ 7 ∷ 8 ∷ 9 ∷ 10 ∷ 11 ∷ 12 ∷ 13 ∷ 14 ∷ 15 ∷ 16 ∷ 17 ∷ 18 ∷ 19 ∷ 20 ∷ 21 ∷ 22 ∷ 23 ∷ 24 ∷ 25 ∷ 26 ∷ 27 ∷ 28 ∷ 29 ∷ 30 ∷ 31 ∷ []))
+unfolding hex_on_literals
+key_line = refl
+
+-- lines outside it
+leading_zero : line_of (codes "del 03") ≡ None
+leading_zero = refl
+
+too_large : line_of (codes "del 18446744073709551616") ≡ None
+too_large = refl
+
+two_words : line_of (codes "find a b") ≡ None
+two_words = refl
+
+twin_line : line_of (codes "twin") ≡ None
+twin_line = refl
+
+-- printed lines
+set_up_text : text_of (shown.SetUp 2 0) ≡ codes "set up 2 words 0 blocks" ++ 10 ∷ []
+unfolding digits
+set_up_text = refl
+
+found_text : text_of (shown.Found (3 ∷ 9 ∷ [])) ≡ codes "found 2: 3 9" ++ 10 ∷ []
+unfolding digits
+found_text = refl
+
+found_none_text : text_of (shown.Found []) ≡ codes "found 0:" ++ 10 ∷ []
+unfolding digits
+found_none_text = refl
+
+refused_text : text_of (shown.Refused (shown.BadParameter 1 257)) ≡ codes "refused: B is 257" ++ 10 ∷ []
+unfolding digits
+refused_text = refl
+
+stopped_text : text_of (shown.Stopped (shown.LabelClash 0 1)) ≡ codes "stopped: labels of words 0 and 1 are equal" ++ 10 ∷ []
+unfolding digits
+stopped_text = refl
+
+reply_text : text_of (shown.Stopped (shown.BadReply (0 ∷ 0 ∷ 0 ∷ 5 ∷ 131 ∷ 0 ∷ 0 ∷ 0 ∷ 171 ∷ []))) ≡ codes "stopped: reply 0000000583000000ab" ++ 10 ∷ []
+unfolding hex_on_literals
+reply_text = refl
+
+-- how a run ends
+refused_status : stops.status_of true stops.AtEnd ≡ 1
+refused_status = refl
+
+stopped_line : stops.stop_line (stops.At (shown.BadLine 3)) ≡ Some (shown.Stopped (shown.BadLine 3))
+stopped_line = refl
