@@ -1,6 +1,8 @@
 use crate::Fields;
 
-/// One line of a script. Words and the fields that hold them are borrowed from the line.
+/// What one line of a script says. Its words are borrowed from the bytes of the line.
+///
+/// Only the grammar is tested: an identifier may be 0 here, and a field that stands for a word may be none.
 #[derive(Drop)]
 pub enum Line<'a> {
     /// A line without fields.

@@ -3,8 +3,8 @@ ghost use Rattle.std.specs.List.{concat};
 ghost use Rattle.hex.specs.Hex.{encode_lower};
 ghost use Rattle.sse_script.specs.Texts.{ids_text};
 
+use itoa::Buffer;
 use std::alloc::{AllocError, Global};
-use std::fmt::Write;
 
 /// A number between two texts.
 pub fn one(alloc: Global, front: &str, n: u64, back: &str) -> Result<String, AllocError>
@@ -64,8 +64,10 @@ pub fn found(alloc: Global, ids: &[u64]) -> Result<String, AllocError>
 fn push_ids(text: &mut String, ids: &[u64]) -> Result<(), AllocError>
     ensures { OnOk result (string_bytes text.new ≡ string_bytes text.old ++ ids_text ids.now) }
 {
+    let mut digits = Buffer::new();
     for id in ids {
-        write!(text, " {id}")?;
+        text.push_str(" ")?;
+        text.push_str(digits.format(*id))?;
     }
     Ok(())
 }

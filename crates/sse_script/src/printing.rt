@@ -9,10 +9,10 @@ use crate::text::line_text;
 use sse_outside::{DeviceFault, Sink, print_all};
 use std::alloc::Global;
 
-/// Prints one line, its end (byte 0a) included. Its length may take time and memory in proportion.
+/// Prints one line, its end (byte 0a) included, in time and memory in proportion to its length.
 ///
 /// After an error the sink has taken some front of that line, and no other byte. `Failed` comes only where the
-/// count of the sink's faults rose.
+/// sink's count of faults rose, and `NoMemory` where there was no memory here or in the sink.
 pub fn print<W: Sink>(alloc: Global, sink: &mut W, shown: &Shown<'_>) -> Result<(), DeviceFault>
     ensures all { OnOk result (W.written sink.new ≡ append_known (W.written sink.old) (text_of (shown_view shown.now))) }
     ensures front { (n : ℕ) × (W.written sink.new ≡ append_known (W.written sink.old) (take n (text_of (shown_view shown.now)))) }

@@ -1,4 +1,4 @@
-/// One line of output. `print` writes it; docs/FORMATS.md has the texts.
+/// What one printed line says. `print` writes the line; specs/Texts.antt has the text of each.
 ///
 /// Positions of words, numbers of words and of blocks count from 0; numbers of lines count from 1.
 #[derive(Clone, Copy, Debug)]
