@@ -1,4 +1,5 @@
 pub mod FieldsLemmas
+pub mod LinesLemmas
 pub mod NumberLemmas
 pub mod TextLinesLemmas
 mod Rows

@@ -1,8 +1,9 @@
-//! The script of the client's programs: its lines as they are read, and every line that is printed. `read_line`
-//! takes the bytes of one line apart into a `Line`, which borrows its words from them; `print` writes one `Shown`
-//! as a line of text into a `Sink`, which is why the crate stands on `sse_outside`. Callers use that a line reads
-//! as the grammar of specs/Lines.antt says, and that a sink took exactly the text of specs/Texts.antt, or a prefix
-//! of it after a fault. Whether a field is a word of a document, and what a command does, is decided above.
+//! The script of the client's programs: its lines as they are read, and every line that is printed. `LineReader`
+//! cuts what a source hands out into lines, `read_line` takes one apart into a `Line`, which borrows its words, and
+//! `print` writes one `Shown` as text into a sink; sources and sinks are those of `sse_outside`. Callers use that
+//! the lines are those of the source's bytes, that each reads as the grammar of specs/Lines.antt says, and that a
+//! sink took exactly the text of specs/Texts.antt, or a front of it after a fault. Whether a field is a word of a
+//! document, and what a command does, is decided above.
 #![tactic(auto)]
 
 mod bad_line;

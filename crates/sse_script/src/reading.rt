@@ -6,10 +6,7 @@ ghost use Rattle.sse_script.specs.Views.{line_view};
 
 use crate::key::read_key;
 use crate::number::read_number;
-use crate::{BadLine, Fields, Line};
-
-/// The most bytes that a line of a script may have, its end not counted.
-const MAX_LINE: usize = 1 << 19;
+use crate::{BadLine, Fields, Line, MAX_LINE};
 
 /// Reads one line of a script, without its end (byte 0a). It takes no memory.
 ///
