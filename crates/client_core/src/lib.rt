@@ -1,2 +1,27 @@
-//! (head paragraph)
+//! The client's protocol: what it sends for a command and what each reply means to it. It stands on
+//! `index_setup` for the index of a setup and on `sse_frames` for the bytes. A client is a value in
+//! one of four states, and each step consumes it, so a frame can't be planned over a state that has
+//! gone by. It touches no link, disk or output: `sse_client` does.
 #![tactic(auto)]
+
+mod behind;
+mod client;
+mod found;
+mod fresh;
+mod planned;
+mod ready;
+mod reply_fault;
+mod sending;
+mod setup_frames;
+
+pub use behind::Behind;
+pub use client::{Client, Spent};
+pub use found::{Found, Progress};
+pub use fresh::Fresh;
+pub use index_setup::BuildFault as SetupFault;
+pub use planned::Planned;
+pub use ready::Ready;
+pub use reply_fault::ReplyFault;
+pub use sending::Taken;
+pub use std::alloc::AllocError as NoMemory;
+

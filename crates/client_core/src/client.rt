@@ -1,0 +1,13 @@
+use word_keys::MasterKey;
+
+/// A client of the store in the state `S`: `Fresh` has no setup, `Ready` has nothing that the server
+/// may lack, `Behind` has unacknowledged frames, `Spent` is terminal.
+#[derive(Drop)]
+pub struct Client<S> {
+    pub(crate) key: MasterKey,
+    pub(crate) state: S,
+}
+
+/// The terminal state: a reply was not the acknowledgement that the client expected.
+#[derive(Debug, Clone, Copy, PartialEq, Eq)]
+pub struct Spent;

@@ -1,0 +1,6 @@
+use Rattle.std.proofs.Common.{◌≡◌, vec_len, length}
+use Rattle.client_registry.specs.Documents.{words_of}
+use Rattle.index_setup.proofs.lists.lists_of.Given as goal
+
+abbrev pub invariant-documents : goal.invariant-documents
+invariant-documents l = vec_len l.lists ≡ vec_len l.initial.lists

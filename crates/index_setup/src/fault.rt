@@ -1,0 +1,51 @@
+use client_registry::SizeFault;
+use std::alloc::{AllocError, AllocFailed};
+
+/// Why a setup's index can't be built: the first cause that stands, in this order.
+#[derive(Debug, Clone, Copy, PartialEq, Eq)]
+pub enum BuildFault {
+    /// A parameter is out of its range: `which` is 0 for b (1 to 64), 1 for B (1 to 256).
+    BadParameter { which: u8, value: u64 },
+    /// The list of this word number has `n` identifiers, more than b·B·B.
+    ListTooLong { word: u32, n: u64 },
+    /// The index would have so many bytes, more than 2^28.
+    TooManyBytes(u64),
+    /// A list is longer than b, and blocks aren't built yet.
+    NotBuilt,
+    /// The labels of these two word numbers are equal; `second` is the least such number, then `first`.
+    LabelClash { first: u32, second: u32 },
+    /// There is no memory for the index.
+    NoMemory,
+}
+
+impl From<SizeFault> for BuildFault {
+    fn from(fault: SizeFault) -> BuildFault {
+        match fault {
+            SizeFault::BadParameter { which, value } => BuildFault::BadParameter { which, value },
+            SizeFault::ListTooLong { word, n } => BuildFault::ListTooLong { word, n },
+            SizeFault::TooManyBytes(count) => BuildFault::TooManyBytes(count),
+        }
+    }
+}
+
+impl From<AllocError> for BuildFault {
+    ghost use Rattle.index_setup.specs.declared.fault.BuildFault.TheVariants.{NoMemory};
+    ghost use Rattle.std.specs.Prelude.{◌≡◌};
+
+    ghost from_gives = { λ _ fault. fault ≡ NoMemory };
+
+    fn from(_e: AllocError) -> BuildFault {
+        BuildFault::NoMemory
+    }
+}
+
+impl<T: Drop> From<AllocFailed<T>> for BuildFault {
+    ghost use Rattle.index_setup.specs.declared.fault.BuildFault.TheVariants.{NoMemory};
+    ghost use Rattle.std.specs.Prelude.{◌≡◌};
+
+    ghost from_gives = { λ _ fault. fault ≡ NoMemory };
+
+    fn from(_e: AllocFailed<T>) -> BuildFault {
+        BuildFault::NoMemory
+    }
+}

@@ -1,0 +1,74 @@
+ghost use Rattle.std.specs.Prelude.{◌≡◌, ◌+◌, ◌*◌, ◌≤◌, ◌^◌, length, vec_len};
+
+/// The index of a setup: for each word its label and encrypted cell, by rising label.
+#[derive(Debug, Drop)]
+pub struct Index {
+    b: u16,
+    big: u16,
+    words: u32,
+    entries: Vec<u8>,
+    pub ghost some: { 1 ≤ b },
+    pub ghost cell: { b ≤ 64 },
+    pub ghost block: { big ≤ 256 },
+    pub ghost most: { words ≤ 2 ^ 20 },
+    pub ghost whole: { vec_len entries ≡ words * (17 + 8 * b) },
+}
+
+impl Index {
+    pub(crate) fn new(b: u16, big: u16, words: u32, entries: Vec<u8>) -> Index
+        requires some { 1 ≤ b }
+        requires cell { b ≤ 64 }
+        requires block { big ≤ 256 }
+        requires most { words ≤ 2 ^ 20 }
+        requires whole { vec_len entries ≡ words * (17 + 8 * b) }
+    {
+        Index {
+            b,
+            big,
+            words,
+            entries,
+        }
+    }
+
+    /// The numbers per cell, 1 to 64.
+    pub fn b(&self) -> u16
+        ensures { result ≡ self.now.b }
+    {
+        self.b
+    }
+
+    /// The numbers per block, 1 to 256.
+    pub fn big(&self) -> u16
+        ensures { result ≡ self.now.big }
+    {
+        self.big
+    }
+
+    /// How many words, and so entries, it has; at most 2^20.
+    pub fn words(&self) -> u32
+        ensures { result ≡ self.now.words }
+    {
+        self.words
+    }
+
+    /// How many blocks it has: none, since each list fits its cell.
+    pub fn blocks(&self) -> u32
+        ensures { result ≡ 0 }
+    {
+        0
+    }
+
+    /// The bytes of a cell: its kind byte and b numbers of 8 bytes.
+    pub fn cell_size(&self) -> u16
+        ensures { result ≡ 1 + 8 * self.now.b }
+    {
+        1 + 8 * self.b
+    }
+
+    /// The entries by rising label, joined: for each word its label of 16 bytes, then its encrypted cell.
+    pub fn entries(&self) -> &[u8]
+        ensures { result.now ≡ self.now.entries.items }
+    {
+        &self.entries
+    }
+}
