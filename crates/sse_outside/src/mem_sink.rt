@@ -1,4 +1,6 @@
-ghost use Rattle.std.specs.Prelude.{◌≡◌, ℕ, ◌≤◌, List, [], Some};
+ghost use Rattle.std.specs.Prelude.{◌≡◌, ◌+◌, ◌-◌, ◌^◌, ◌<◌, ◌≤◌, ◌↔◌, min, [], length, take, Contains, Some, IfOk, OnErr, IsErrOf};
+ghost use Rattle.std.specs.Io.KnownBytes.{append_known};
+ghost use Rattle.sse_outside.specs.Causes.{Rose};
 
 use crate::failing_calls::FailingCalls;
 use crate::{DeviceFault, Sink};
@@ -12,11 +14,15 @@ pub struct MemSink {
 }
 
 impl MemSink {
+    ghost use Rattle.sse_outside.specs.MemSink.{fails_of, next_call_of};
+
     /// A sink with nothing written, whose calls of the numbers in `fails`, counted from 0, answer `Failed` and
     /// take nothing.
     pub fn new(alloc: Global, fails: Vec<u64>) -> MemSink
         ensures content { ⟦<MemSink as Sink>⟧.written result ≡ Some [] }
         ensures faults { ⟦<MemSink as Sink>⟧.faults result ≡ 0 }
+        ensures fails { fails_of result ≡ fails.items }
+        ensures first { next_call_of result ≡ 0 }
     {
         MemSink {
             bytes: Vec::new(alloc),
@@ -33,11 +39,29 @@ impl MemSink {
 }
 
 impl Sink for MemSink {
-    ghost written = { λ s. Some s.bytes.items };
+    ghost use Rattle.sse_outside.specs.MemSink.{bytes_of, fails_of, next_call_of, faults_of};
 
-    ghost faults = { λ s. s.calls.faults };
+    ghost written = { λ s. Some (bytes_of s) };
 
-    fn write(&mut self, bytes: &[u8]) -> Result<usize, DeviceFault> {
+    ghost faults = { faults_of };
+
+    fn write(&mut self, bytes: &[u8]) -> Result<usize, DeviceFault>
+        requires { 0 < length bytes.now }
+
+        // Which calls fail.
+        ensures listed { IsErrOf result DeviceFault.Failed ↔ Contains (fails_of self.old) (next_call_of self.old) }
+        ensures same_list { fails_of self.new ≡ fails_of self.old }
+        ensures next { next_call_of self.new ≡ min (next_call_of self.old + 1) (2 ^ 64 - 1) }
+
+        // As of every sink, and all bytes are taken at once.
+        ensures all { IfOk result (λ n. n ≡ length bytes.now) }
+        ensures some { IfOk result (λ n. (0 < n) × (n ≤ length bytes.now)) }
+        ensures bytes { IfOk result (λ n.
+            Some (bytes_of self.new) ≡ append_known (Some (bytes_of self.old)) (take n bytes.now)) }
+        ensures bytes_err { OnErr result (Some (bytes_of self.new) ≡ Some (bytes_of self.old)) }
+        ensures later { faults_of self.old ≤ faults_of self.new }
+        ensures failed { IsErrOf result DeviceFault.Failed → Rose (faults_of self.old) (faults_of self.new) }
+    {
         self.calls.count()?;
         self.bytes.extend_from_slice(bytes)?;
         Ok(bytes.len())

@@ -61,14 +61,15 @@ impl LineReader {
         source: &mut S,
         line: &mut Vec<u8>,
     ) -> Result<NextLine, ReadStop>
-        ensures taken { IfOk result (λ next. TakesNext
-            (lines_left self.old (S.remaining source.old)) (lines_left self.new (S.remaining source.new)) next line.new.items) }
+        ensures taken { IfOk result (λ next. TakesNext (lines_left self.old (S.remaining source.old))
+            (lines_left self.new (S.remaining source.new)) next line.new.items) }
         ensures short { OnOk result (length line.new.items ≤ MAX_LINE) }
         ensures nothing { IfOk result (λ next. next ≢ NextLine.Line → line.new.items ≡ []) }
 
         // What makes a loop over the lines end.
         ensures less { IfOk result (λ next. next ≢ NextLine.End →
-            bytes_to_come self.new (S.handed_out source.new) < bytes_to_come self.old (S.handed_out source.old)) }
+            bytes_to_come self.new (S.handed_out source.new)
+            < bytes_to_come self.old (S.handed_out source.old)) }
         ensures later { S.faults source.old ≤ S.faults source.new }
         ensures failed { IsErrOf result ReadStop.Failed → Rose (S.faults source.old) (S.faults source.new) }
     {
@@ -101,7 +102,8 @@ impl LineReader {
     fn skip_line<S: Source>(&mut self, source: &mut S) -> Result<(), ReadStop>
         ensures rest { OnOk result (prepend_known self.new (S.remaining source.new)
             ≡ option_map (after_first (λ b. b == 10)) (prepend_known self.old (S.remaining source.old))) }
-        ensures come { OnOk result (bytes_to_come self.new (S.handed_out source.new) ≤ bytes_to_come self.old (S.handed_out source.old)) }
+        ensures come { OnOk result (bytes_to_come self.new (S.handed_out source.new)
+            ≤ bytes_to_come self.old (S.handed_out source.old)) }
         ensures later { S.faults source.old ≤ S.faults source.new }
         ensures failed { IsErrOf result ReadStop.Failed → Rose (S.faults source.old) (S.faults source.new) }
     {
