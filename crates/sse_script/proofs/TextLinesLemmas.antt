@@ -182,6 +182,11 @@ position_or_len-moved line pending n piece whole unended is all front line_is =
     ∙ sym (length-append line pending)
     ∙ ap length (sym moved)
 
+pub length-moved : (line pending : List ℕ) (n : ℕ) (piece whole : List ℕ) → n ≤ length pending → piece ≡ take n pending → whole ≡ line ++ piece
+    → length whole ≡ length line + n
+length-moved line pending n piece whole within front line_is =
+    omega (arith, ap length line_is, length-append line piece, ap length front, length-take n pending)
+
 -- nothing more comes
 pub TakesLine-last : (line : List ℕ) (known old : Option (List ℕ)) → prepend_known line known ≡ old
     → position_or_len (λ b. b == 10) line ≡ length line → IsAtEnd known → 0 < length line

@@ -30,6 +30,7 @@ pub use printing::print;
 pub use read_stop::ReadStop;
 pub use reading::read_line;
 pub use shown::Shown;
+pub use std::alloc::AllocError as NoMemory;
 
 #[cfg(test)]
 mod tests;

@@ -5,9 +5,9 @@ ghost use Rattle.std.specs.Io.KnownBytes.{prepend_known, IsAtEnd};
 ghost use Rattle.sse_outside.specs.Causes.{Rose};
 ghost use Rattle.sse_script.specs.TextLines.{lines_left, bytes_to_come, TakesNext};
 
-use crate::{NextLine, ReadStop};
+use crate::{NextLine, NoMemory, ReadStop};
 use sse_outside::Source;
-use std::alloc::{AllocError, Global};
+use std::alloc::Global;
 use std::marker::Model;
 
 /// The most bytes that a line may have, its ending not counted.
@@ -40,7 +40,7 @@ impl Model for LineReader {
 
 impl LineReader {
     /// A reader that has read nothing yet.
-    pub fn new(alloc: Global) -> Result<LineReader, AllocError>
+    pub fn new(alloc: Global) -> Result<LineReader, NoMemory>
         ensures { IfOk result (λ reader. reader ≡ []) }
     {
         Ok(LineReader {
