@@ -1,6 +1,4 @@
-ghost use Rattle.std.specs.Prelude.{◌≡◌, ℕ, ◌<◌, ◌≤◌, List, [], length, take, Some, IfOk, OnErr, IsErrOf, IsOkUnless};
-ghost use Rattle.std.specs.Io.KnownBytes.{append_known};
-ghost use Rattle.sse_outside.specs.Causes.{Rose};
+ghost use Rattle.std.specs.Prelude.{◌≡◌, ◌<◌, [], Some};
 
 use crate::{DeviceFault, Sink};
 use std::alloc::Global;
