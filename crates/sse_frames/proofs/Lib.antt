@@ -17,3 +17,4 @@ pub mod InFront
 pub mod NoFault
 pub mod ReplyNoFault
 pub mod Only
+pub mod Sorted

@@ -1,8 +1,7 @@
 -- Reading a body from left to right: its fields by the table of kinds, and the first that doesn't stand.
 use Rattle.std.specs.Prelude.{◌≡◌, ℕ, zero, suc, ◌+◌, ◌-◌, ◌%◌, Bool, true, false, ◌&&◌, ◌||◌, List, [], ◌∷◌, length, take, drop, Option, Some, None, Result, Ok, Err, nat_le, ◌==◌, if◌then◌else◌, slice_index}
 use Rattle.std.specs.Int.{Width, w16, w64, byte_len, from_be_bytes}
-use Rattle.std.specs.Ordering.{nat_cmp, is_lt}
-use Rattle.std.specs.Cmp.Lexicographic.{slice_cmp}
+use Rattle.sse_frames.specs.Order.{is_below}
 use Rattle.sse_frames.specs.declared.fault.FrameFault.{FrameFault}
 use Rattle.sse_frames.specs.declared.fault.FrameFault.TheVariants.{BadBody}
 
@@ -48,7 +47,7 @@ cell_width_field place = record { place = place; stands = λ body. is_whole plac
 
 -- a label of 16 bytes, above the one that begins so many bytes before it, unless it is the first
 abbrev pub is_above : ℕ → ℕ → List ℕ → Bool
-is_above place back body = is_lt (slice_cmp nat_cmp (bytes_at (place - back) 16 body) (bytes_at place 16 body))
+is_above place back body = is_below (bytes_at (place - back) 16 body) (bytes_at place 16 body)
 
 abbrev pub label_field : (first : Bool) (back place : ℕ) → Field
 label_field first back place = record { place = place; stands = λ body. is_whole place 16 body && (first || is_above place back body) }
