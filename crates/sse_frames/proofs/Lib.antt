@@ -18,3 +18,4 @@ pub mod NoFault
 pub mod ReplyNoFault
 pub mod Only
 pub mod Sorted
+pub mod Replied

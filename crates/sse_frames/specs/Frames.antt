@@ -11,6 +11,7 @@ pub record Entry : Type 0 where
   pub label : List ℕ
   pub text : List ℕ
 
+-- a frame, its lists as lists of their items
 pub data FrameText : Type 0 where
   Hello : FrameText
   SetupBegin : (q b big m a : ℕ) → FrameText
@@ -31,6 +32,7 @@ be32 n = to_be_bytes w32 n
 abbrev pub be64 : ℕ → List ℕ
 be64 n = to_be_bytes w64 n
 
+-- an entry's label, and the bytes under it
 abbrev pub entry_bytes : Entry → List ℕ
 entry_bytes entry = entry.label ++ entry.text
 
@@ -53,11 +55,11 @@ body_of (SearchFrame token) = 0x08 ∷ token
 abbrev pub frame_bytes : FrameText → List ℕ
 frame_bytes frame = be32 (length (body_of frame)) ++ body_of frame
 
--- the number of an update frame
+-- the number of an update frame: 0 to 2^32 - 2
 abbrev pub IsNumber : ℕ → Type 0
 IsNumber q = q < 0xffffffff
 
--- so many bytes
+-- so many bytes, each below 256
 pub record IsBytes (size : ℕ) (bytes : List ℕ) : Type 0 where
   pub size_is : length bytes ≡ size
   pub each : (i : ℕ) → slice_index bytes i < 256
@@ -70,6 +72,7 @@ IsCellWidth width = (b : ℕ) × (1 ≤ b) × (b ≤ 64) × (width ≡ 1 + 8 * b
 abbrev pub IsBlockWidth : ℕ → Type 0
 IsBlockWidth width = (big : ℕ) × (1 ≤ big) × (big ≤ 256) × (width ≡ 8 * big)
 
+-- an entry of a label and so many bytes
 pub record IsEntry (width : ℕ) (entry : Entry) : Type 0 where
   pub label : IsBytes 16 entry.label
   pub text : IsBytes width entry.text
@@ -78,9 +81,11 @@ pub record IsEntry (width : ℕ) (entry : Entry) : Type 0 where
 abbrev pub Rises : List (List ℕ) → Type 0
 Rises = IsStrictlySortedBy (slice_cmp nat_cmp)
 
+-- the labels of entries, in their order
 abbrev pub labels_of : List Entry → List (List ℕ)
 labels_of entries = map (λ entry. entry.label) entries
 
+-- the limits of the fields of each kind
 pub record IsSetupBegin (q b big m a : ℕ) : Type 0 where
   pub number : IsNumber q
   pub cell : (1 ≤ b) × (b ≤ 64)

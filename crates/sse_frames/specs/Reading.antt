@@ -18,6 +18,7 @@ abbrev pub fault_in : Option (List Field) → List ℕ → Option FrameFault
 fault_in None body = Some (BadKind (slice_index body 0))
 fault_in (Some fields) body = first_fault fields body
 
+-- a body has at least its kind byte, and at most so many bytes as its limit says
 abbrev pub is_bad_length : (limit n : ℕ) → Bool
 is_bad_length limit n = (n == 0) || nat_lt limit n
 
@@ -51,14 +52,17 @@ abbrev pub or_fault : Option FrameFault → Result Bool FrameFault
 or_fault None = Ok true
 or_fault (Some fault) = Err fault
 
+-- the same by what stands in front
 abbrev pub outcome : (List ℕ → Option (List Field)) → Result (Option (List ℕ)) FrameFault → Result Bool FrameFault
 outcome fields_of (Err fault) = Err fault
 outcome fields_of (Ok None) = Ok false
 outcome fields_of (Ok (Some body)) = or_fault (fault_in (fields_of body) body)
 
+-- what reading a frame answers, without the value
 abbrev pub frame_outcome : List ℕ → Result Bool FrameFault
 frame_outcome bytes = outcome frame_fields (front 0x100000 bytes)
 
+-- what reading a reply answers, without the value
 abbrev pub reply_outcome : List ℕ → Result Bool FrameFault
 reply_outcome bytes = outcome reply_fields (front 65540 bytes)
 

@@ -3,6 +3,7 @@ use Rattle.std.specs.Prelude.{◌≡◌, ℕ, ◌+◌, ◌*◌, ◌^◌, ◌<◌
 use Rattle.std.specs.List.{flat_map, AllByRecursion}
 use Rattle.sse_frames.specs.Frames.{be16, be32, be64, IsNumber}
 
+-- a reply, a page's identifiers as a list
 pub data ReplyText : Type 0 where
   Next : (q : ℕ) → ReplyText
   Took : (q : ℕ) → ReplyText
@@ -36,11 +37,11 @@ reply_bytes reply = be32 (length (reply_body reply)) ++ reply_body reply
 abbrev pub page_head : (last : Bool) (count : ℕ) → List ℕ
 page_head last count = be32 (4 + count * 8) ++ 0x85 ∷ (if last then 1 else 0) ∷ be16 count
 
--- an identifier of a document
+-- an identifier of a document: 1 to 2^64 - 1
 abbrev pub IsIdentifier : ℕ → Type 0
 IsIdentifier id = (1 ≤ id) × (id < 2 ^ 64)
 
--- every page but the last is full
+-- at most 8,192 identifiers, and as many where the page isn't the last
 pub record IsPage (last : Bool) (ids : List ℕ) : Type 0 where
   pub most : length ids ≤ 8192
   pub full : last ≡ false → length ids ≡ 8192

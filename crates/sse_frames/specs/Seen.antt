@@ -9,19 +9,23 @@ use Rattle.sse_frames.specs.declared.reply.Reply.TheVariants as replies
 use Rattle.sse_frames.specs.Frames.{Entry, FrameText, Hello, SetupBegin, SetupDict, SetupEnd, SearchFrame}
 use Rattle.sse_frames.specs.Replies.{ReplyText, Next, Took, Number, Clash, Page, BadList, NoMemory, StoreFault, BadFrame, OutOfPlace}
 
--- the bytes, cut into items of one size
+-- the bytes cut into items of one size, as many as are whole
 abbrev pub items_in : ℕ → List ℕ → List (List ℕ)
 items_in size bytes = first_chunks size (length bytes / size) bytes
 
+-- an entry's label is its first 16 bytes
 abbrev pub entry_in : List ℕ → Entry
 entry_in bytes = record { label = take 16 bytes; text = drop 16 bytes }
 
+-- the entries that joined bytes hold, their cells of one width
 abbrev pub entries_in : ℕ → List ℕ → List Entry
 entries_in width bytes = map entry_in (items_in (16 + width) bytes)
 
+-- the numbers of 64 bits that joined bytes hold
 abbrev pub numbers_in : List ℕ → List ℕ
 numbers_in bytes = map (from_be_bytes w64) (items_in 8 bytes)
 
+-- a frame of the code as a value
 abbrev pub seen : Frame → FrameText
 seen frames.Hello = Hello
 seen (frames.SetupBegin q b big m a) = SetupBegin q b big m a
@@ -29,6 +33,7 @@ seen (frames.SetupDict q width entries) = SetupDict q width (entries_in width en
 seen (frames.SetupEnd q) = SetupEnd q
 seen (frames.Search token) = SearchFrame token.now
 
+-- a reply of the code as a value
 abbrev pub seen_reply : Reply → ReplyText
 seen_reply (replies.Next q) = Next q
 seen_reply (replies.Took q) = Took q

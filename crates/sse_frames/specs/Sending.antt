@@ -37,3 +37,8 @@ pages_of (ids ∷ others) = page_each ids others
 -- the replies to a search with this answer: 8,192 identifiers a page, and one page where there is none
 abbrev pub pages : List ℕ → List ReplyText
 pages ids = pages_of (parts 8192 ids)
+
+-- the identifiers of a page, none of another reply
+abbrev pub page_ids : ReplyText → List ℕ
+page_ids (Page last ids) = ids
+page_ids _ = []

@@ -14,6 +14,7 @@ pub record AreEntries (width : ℕ) (entries : List ℕ) : Type 0 where
   pub most : count ≤ 1024
   pub whole : length entries ≡ count * (16 + width)
 
+-- a frame's joined bytes are whole items
 abbrev pub HasSizes : Frame → Type 0
 HasSizes frames.Hello = Unit {0}
 HasSizes (frames.SetupBegin q b big m a) = Unit {0}
@@ -28,6 +29,7 @@ pub record AreIds (last : Bool) (ids : List ℕ) : Type 0 where
   pub whole : length ids ≡ count * 8
   pub full : last ≡ false → count ≡ 8192
 
+-- a reply's joined bytes are whole items
 abbrev pub HasReplySizes : Reply → Type 0
 HasReplySizes (replies.Page last ids) = AreIds last ids.now
 HasReplySizes _ = Unit {0}

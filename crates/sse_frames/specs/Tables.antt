@@ -7,18 +7,23 @@ use Rattle.sse_frames.specs.Fields.{Field, number_at, bytes_field, byte_field, r
 abbrev pub number_field : Field
 number_field = range_field w32 0 0xfffffffe 1
 
+-- Hello: no field
 abbrev pub hello_fields : List Field
 hello_fields = end_field 1 ∷ []
 
+-- SetupBegin: its number, b, B, the words and the blocks
 abbrev pub setup_begin_fields : List Field
 setup_begin_fields = number_field ∷ range_field w16 1 64 5 ∷ range_field w16 1 256 7 ∷ range_field w32 0 0x100000 9 ∷ range_field w32 0 0x100000 13 ∷ end_field 17 ∷ []
 
+-- SetupDict: its number, the width of a cell, the count, and so many entries
 abbrev pub setup_dict_fields : (width count : ℕ) → List Field
 setup_dict_fields width count = number_field ∷ cell_width_field 5 ∷ range_field w16 1 1024 7 ∷ entry_fields true width count 9 ++ end_field (9 + count * (16 + width)) ∷ []
 
+-- SetupEnd: its number
 abbrev pub setup_end_fields : List Field
 setup_end_fields = number_field ∷ end_field 5 ∷ []
 
+-- Search: the token
 abbrev pub search_fields : List Field
 search_fields = bytes_field 160 1 ∷ end_field 161 ∷ []
 
@@ -36,25 +41,31 @@ frame_fields body =
 abbrev pub any_field : ℕ → Field
 any_field place = range_field w32 0 0xffffffff place
 
+-- Next and Number: a number
 abbrev pub next_fields : List Field
 next_fields = any_field 1 ∷ end_field 5 ∷ []
 
+-- Took: the number of an update frame
 abbrev pub took_fields : List Field
 took_fields = number_field ∷ end_field 5 ∷ []
 
+-- Clash: what collides, and its place in the frame's list
 abbrev pub clash_fields : List Field
 clash_fields = byte_field 1 3 1 ∷ any_field 2 ∷ end_field 6 ∷ []
 
--- a page that isn't the last is full
+-- the identifiers that a page has at least: one that isn't the last is full
 abbrev pub least_ids : (last : ℕ) → ℕ
 least_ids last = if last == 0 then 8192 else 0
 
+-- Page: whether it is the last, the count, and so many identifiers
 abbrev pub page_fields : (last count : ℕ) → List Field
 page_fields last count = byte_field 0 1 1 ∷ range_field w16 (least_ids last) 8192 2 ∷ id_fields count 4 ++ end_field (4 + count * 8) ∷ []
 
+-- BadFrame: the reason
 abbrev pub bad_frame_fields : List Field
 bad_frame_fields = byte_field 1 3 1 ∷ end_field 2 ∷ []
 
+-- BadList, NoMemory, StoreFault and OutOfPlace: no field
 abbrev pub bare_fields : List Field
 bare_fields = end_field 1 ∷ []
 
