@@ -21,7 +21,7 @@ pub use fresh::Fresh;
 pub use index_setup::BuildFault as SetupFault;
 pub use planned::Planned;
 pub use ready::Ready;
-pub use reply_fault::ReplyFault;
+pub use reply_fault::{ReplyFault, fault_of};
 pub use sending::Taken;
 pub use std::alloc::AllocError as NoMemory;
 

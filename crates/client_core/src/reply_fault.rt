@@ -19,8 +19,9 @@ pub enum ReplyFault {
     OutOfMemory,
 }
 
-/// The fault that a reply, all of these bytes, reports where it isn't one that is expected.
-pub(crate) fn fault_of(reply: &[u8]) -> ReplyFault
+/// The fault that a reply, all of these bytes, reports where it isn't one that is expected: what the server says
+/// went wrong there, else `BadReply`.
+pub fn fault_of(reply: &[u8]) -> ReplyFault
     ensures store { result ≡ ReplyFault.StoreFault → reply.now ≡ reply_bytes StoreFault }
 {
     match read_reply(reply) {

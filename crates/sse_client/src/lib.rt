@@ -1,2 +1,20 @@
-//! (head paragraph)
+//! The client program: it reads a script, keeps its words and documents to itself, sends frames over a
+//! link, and prints what came back. It stands on `client_core` for what is sent and what a reply means,
+//! on `sse_script` for the lines, and on the traits of the outside for everything else. `sse_run` is
+//! all that a client program does; `run_in_memory` is the same over a server in this process.
 #![tactic(auto)]
+
+mod documents;
+mod exchange;
+mod input;
+mod line_fault;
+mod outcome;
+mod peer_stop;
+mod run;
+mod searching;
+mod session;
+mod setting_up;
+mod stop;
+mod words;
+
+pub use run::{run_in_memory, sse_run};

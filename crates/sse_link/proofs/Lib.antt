@@ -1,1 +1,1 @@
-mod Pages
+pub mod Pages

@@ -1,0 +1,141 @@
+ghost use Rattle.std.specs.Prelude.{◌≡◌, ◌≤◌};
+ghost use Rattle.sse_client.specs.Stops as stops;
+
+use crate::peer_stop::PeerStop;
+use sse_outside::DeviceFault;
+use sse_script::{ReadStop, Shown};
+use std::alloc::AllocError;
+
+/// What ends a run before the end of its input.
+#[derive(Debug, Clone, Copy)]
+pub(crate) enum Stop {
+    /// The words of the command line aren't right.
+    Words,
+    /// The line of this number, from 1, isn't in the grammar, or is no key line where one is expected.
+    Line(u64),
+    /// The source failed.
+    Source,
+    /// The sink failed.
+    Sink,
+    /// There is no memory for a line or for what is printed.
+    Memory,
+    /// The exchange with the server ended the run.
+    Peer(PeerStop),
+}
+
+impl Stop {
+    ghost use Rattle.sse_client.specs.Stops.{status_of};
+
+    /// The exit status.
+    pub(crate) fn status(&self) -> u8
+        ensures status { result ≡ status_of self.now }
+        ensures source { result ≡ 3 → self.now ≡ Stop.Source }
+        ensures sink { result ≡ 4 → self.now ≡ Stop.Sink }
+        ensures link { result ≡ 5 → self.now ≡ Stop.Peer PeerStop.Link }
+    {
+        match self {
+            Stop::Words => 2,
+            Stop::Line(_) => 2,
+            Stop::Source => 3,
+            Stop::Sink => 4,
+            Stop::Memory => 7,
+            Stop::Peer(stop) => peer_status(stop),
+        }
+    }
+
+    /// The last line of the run; none where the sink is what failed.
+    pub(crate) fn shown(&self) -> Option<Shown<'_>> {
+        match self {
+            Stop::Words => Some(Shown::BadWords),
+            Stop::Line(number) => Some(Shown::BadLine { number: *number }),
+            Stop::Source => Some(Shown::SourceFault),
+            Stop::Sink => None,
+            Stop::Memory => Some(Shown::NoMemory),
+            Stop::Peer(stop) => Some(peer_shown(stop)),
+        }
+    }
+}
+
+fn peer_status(stop: &PeerStop) -> u8
+    ensures status { result ≡ stops.peer_status stop.now }
+    ensures least { 5 ≤ result }
+    ensures link { result ≡ 5 → stop.now ≡ PeerStop.Link }
+{
+    match stop {
+        PeerStop::Link => 5,
+        PeerStop::Memory => 7,
+        PeerStop::LabelClash { .. } => 8,
+        PeerStop::Clash { .. } => 8,
+        PeerStop::Elsewhere { .. } => 9,
+        PeerStop::BadReply(_) => 9,
+    }
+}
+
+fn peer_shown(stop: &PeerStop) -> Shown<'_> {
+    match stop {
+        PeerStop::Link => Shown::LinkFault,
+        PeerStop::Memory => Shown::NoMemory,
+        PeerStop::LabelClash { first, second } => Shown::LabelClash {
+            first: *first,
+            second: *second,
+        },
+        PeerStop::Clash { what, place } => Shown::Clash {
+            what: *what,
+            place: *place,
+        },
+        PeerStop::Elsewhere { got } => Shown::PeerElsewhere {
+            low: 0,
+            high: 0,
+            got: *got,
+        },
+        PeerStop::BadReply(start) => Shown::BadReply {
+            reply: start.as_slice(),
+        },
+    }
+}
+
+impl From<DeviceFault> for Stop {
+    ghost use Rattle.sse_client.specs.Stops.{stop_of_sink};
+
+    ghost from_gives = { λ fault stop. stop ≡ stop_of_sink fault };
+
+    fn from(fault: DeviceFault) -> Stop {
+        match fault {
+            DeviceFault::Failed => Stop::Sink,
+            DeviceFault::NoMemory => Stop::Memory,
+        }
+    }
+}
+
+impl From<ReadStop> for Stop {
+    ghost use Rattle.sse_client.specs.Stops.{stop_of_source};
+
+    ghost from_gives = { λ fault stop. stop ≡ stop_of_source fault };
+
+    fn from(stop: ReadStop) -> Stop {
+        match stop {
+            ReadStop::Failed => Stop::Source,
+            ReadStop::NoMemory => Stop::Memory,
+        }
+    }
+}
+
+impl From<PeerStop> for Stop {
+    ghost use Rattle.sse_client.specs.declared.stop.Stop.TheVariants.{Peer};
+
+    ghost from_gives = { λ peer stop. stop ≡ Peer peer };
+
+    fn from(stop: PeerStop) -> Stop {
+        Stop::Peer(stop)
+    }
+}
+
+impl From<AllocError> for Stop {
+    ghost use Rattle.sse_client.specs.declared.stop.Stop.TheVariants.{Memory};
+
+    ghost from_gives = { λ _ stop. stop ≡ Memory };
+
+    fn from(_e: AllocError) -> Stop {
+        Stop::Memory
+    }
+}

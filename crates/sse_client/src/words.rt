@@ -1,0 +1,14 @@
+/// What the words of the command line ask for.
+#[derive(Debug, Clone, Copy, PartialEq, Eq)]
+pub(crate) enum Mode {
+    /// `run`: carry out a script from an empty store.
+    Run,
+}
+
+/// The mode that the words name; none where they name none.
+pub(crate) fn mode_of(words: &[String]) -> Option<Mode> {
+    match words {
+        [word] if word.as_str() == "run" => Some(Mode::Run),
+        _ => None,
+    }
+}
