@@ -24,4 +24,3 @@ pub use ready::Ready;
 pub use reply_fault::{ReplyFault, fault_of};
 pub use sending::Taken;
 pub use std::alloc::AllocError as NoMemory;
-

@@ -35,7 +35,9 @@ impl From<DocFault> for LineFault {
     fn from(fault: DocFault) -> LineFault {
         match fault {
             DocFault::TooManyWords(n) => LineFault::Refused(Shown::TooManyWords { n }),
-            DocFault::RepeatedWord(position) => LineFault::Refused(Shown::RepeatedWord { position }),
+            DocFault::RepeatedWord(position) => LineFault::Refused(Shown::RepeatedWord {
+                position,
+            }),
             DocFault::NoMemory => LineFault::NoMemory,
         }
     }

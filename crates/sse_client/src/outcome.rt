@@ -35,7 +35,13 @@ impl Outcome {
                 let (words, blocks) = (*words, *blocks);
                 print(alloc, sink, &Shown::Setup { words, blocks })
             }
-            Outcome::Found(ids) => print(alloc, sink, &Shown::Found { ids: ids.as_slice() }),
+            Outcome::Found(ids) => print(
+                alloc,
+                sink,
+                &Shown::Found {
+                    ids: ids.as_slice(),
+                },
+            ),
             Outcome::Refused(shown) => print(alloc, sink, shown),
         }
     }

@@ -77,7 +77,9 @@ fn run_script<K: Keyed, L: Link, S: Source, W: Sink>(
     let mut room = vec![in alloc; 0u8; REPLY_ROOM]?;
     greet(alloc, link, &mut room)?;
     let stage = Stage::Collecting(Client::fresh(key), Docs::new(alloc));
-    run_lines(alloc, keyed, link, &mut room, source, sink, &mut input, stage)
+    run_lines(
+        alloc, keyed, link, &mut room, source, sink, &mut input, stage,
+    )
 }
 
 /// Reads up to the key line, which is the first that isn't empty.

@@ -6,9 +6,8 @@
 use keyed_fn::Real;
 use sse_client::run_in_memory;
 use sse_outside::{StdSink, StdSource};
-use std::env;
-use std::io;
 use std::process::ExitCode;
+use std::{env, io};
 
 /// The status of a run that found no memory.
 const NO_MEMORY: u8 = 7;
