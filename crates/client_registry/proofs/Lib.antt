@@ -7,3 +7,10 @@ pub mod WordsLaws
 pub mod IndexedLaws
 pub mod PushLaws
 pub mod AcceptanceLaws
+pub mod OverLaws
+pub mod LiveLaws
+pub mod OrderLaws
+pub mod ShownLaws
+pub mod SizedLaws
+pub mod WordLaws
+pub mod Rows

@@ -10,3 +10,8 @@ pub mod Tally
 pub mod DocsView
 pub mod Setup
 pub mod Acceptance
+pub mod Over
+pub mod Command
+pub mod Run
+pub mod Live
+pub mod Sized

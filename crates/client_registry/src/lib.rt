@@ -13,6 +13,8 @@ mod faults;
 mod limits;
 mod size;
 mod tally;
+#[cfg(test)]
+mod tests;
 mod word;
 
 pub use collected::Docs;

@@ -1,0 +1,95 @@
+-- What is accepted is sized.
+use Rattle.std.proofs.Common.{◌≡◌, ℕ, ◌+◌, ◌*◌, ◌<◌, ◌≤◌, ◌^◌, Bool, true, false, not, ◌&&◌, [], ◌∷◌, ◌++◌, length, filter, Option, None, Some, nat_lt, nat_le, refl, ap, ◌∙◌, arith}
+use Rattle.std.specs.Prelude.{if◌then◌else◌}
+use Rattle.std.specs.List.{list_all}
+use Rattle.std.specs.Option.{option_or}
+use Rattle.std.proofs.lemmas.Bool.{and_parts, and_from, leb-true, ltb-false}
+use Rattle.std.proofs.lemmas.List.{length-append, length_push}
+use Rattle.std.proofs.lemmas.List.Elements.{All-nil, All-push, filter-append}
+use Rattle.std.proofs.lemmas.List.Folds.{list_all-append}
+use Rattle.std.proofs.Math.Nat.{mul-le-mul_left, div-le_self}
+use Rattle.client_registry.proofs.OverLaws.{over-append}
+use Rattle.client_registry.proofs.WordsLaws.{length-first_seen}
+use Rattle.client_registry.specs.Acceptance.{blocks_of, index_bytes, frames_needed, is_within, parameter_refusal, list_refusal, bytes_refusal, setup_refusal}
+use Rattle.client_registry.specs.Command.{Command, is_update}
+use Rattle.client_registry.specs.Documents.{all_words, IsCollected}
+use Rattle.client_registry.specs.Over.{over}
+use Rattle.client_registry.specs.Run.{Run}
+use Rattle.client_registry.specs.Setup.{Setup, setup_words}
+use Rattle.client_registry.specs.Sized.{is_accepted, update_frames, IsSizedCommand, IsSized}
+use Rattle.client_registry.specs.declared.faults.SizeFault.TheVariants.{BadParameter, TooManyBytes}
+
+-- nothing is refused where no cause stands
+no_cause : {A : Type 0} (o p : Option A) → option_or o p ≡ None → (o ≡ None) × (p ≡ None)
+no_cause None p h = (refl, h)
+no_cause (Some x) p h = absurd (cc)
+
+is_within-true : (low high n : ℕ) → is_within low high n ≡ true → (low ≤ n) × (n ≤ high)
+is_within-true low high n h =
+    let parts = and_parts (nat_le low n) (nat_le n high) h in
+    (leb-true low n parts.0, leb-true n high parts.1)
+
+module _ (s : Setup) (h : setup_refusal s.documents s.shape.b s.shape.big ≡ None) where
+  -- the parameters of an accepted setup are within their limits
+  pub accepted_shape : ((1 ≤ s.shape.b) × (s.shape.b ≤ 64)) × ((1 ≤ s.shape.big) × (s.shape.big ≤ 256))
+  accepted_shape = by (is_within 1 64 s.shape.b) (is_within 1 256 s.shape.big) refl refl (no_cause (parameter_refusal s.shape) (option_or (list_refusal s) (bytes_refusal s)) h).0
+    where
+      by : (x y : Bool) → is_within 1 64 s.shape.b ≡ x → is_within 1 256 s.shape.big ≡ y
+          → (if not x then Some (BadParameter 0 s.shape.b) else if not y then Some (BadParameter 1 s.shape.big) else None) ≡ None
+          → ((1 ≤ s.shape.b) × (s.shape.b ≤ 64)) × ((1 ≤ s.shape.big) × (s.shape.big ≤ 256))
+      by true true a b e = (is_within-true 1 64 s.shape.b a, is_within-true 1 256 s.shape.big b)
+      by false y a b e = absurd (cc)
+      by true false a b e = absurd (cc)
+
+  -- none of its lists is too long
+  pub accepted_lists : list_refusal s ≡ None
+  accepted_lists = (no_cause (list_refusal s) (bytes_refusal s) (no_cause (parameter_refusal s.shape) (option_or (list_refusal s) (bytes_refusal s)) h).1).0
+
+  -- and its index has at most 2^28 bytes
+  pub accepted_bytes : index_bytes s ≤ 2 ^ 28
+  accepted_bytes = by (nat_lt (2 ^ 28) (index_bytes s)) refl (no_cause (list_refusal s) (bytes_refusal s) (no_cause (parameter_refusal s.shape) (option_or (list_refusal s) (bytes_refusal s)) h).1).1
+    where
+      by : (x : Bool) → nat_lt (2 ^ 28) (index_bytes s) ≡ x → (if x then Some (TooManyBytes (index_bytes s)) else None) ≡ None → index_bytes s ≤ 2 ^ 28
+      by true a e = absurd (cc)
+      by false a e = ltb-false (2 ^ 28) (index_bytes s) a
+
+  -- so it has fewer than 2^25 blocks, as each has 8 bytes at least
+  pub accepted_blocks : blocks_of s ≤ 2 ^ 25
+  accepted_blocks =
+      let one : 1 ≤ s.shape.big = accepted_shape.1.0 in
+      let more : blocks_of s * 8 ≤ blocks_of s * (8 * s.shape.big) = mul-le-mul_left (blocks_of s) (omega (arith, one)) in
+      omega (arith, more, accepted_bytes)
+
+  -- and its frames leave most numbers for the commands
+  pub accepted_frames : IsCollected s.documents → frames_needed s < 2 ^ 27
+  accepted_frames collected =
+      omega (arith, accepted_blocks, length-first_seen (all_words s.documents), collected.pairs, div-le_self (length (setup_words s)) 1024, div-le_self (blocks_of s) 256)
+
+-- an accepted setup alone is sized
+pub IsSized-setup : (s : Setup) → IsCollected s.documents → setup_refusal s.documents s.shape.b s.shape.big ≡ None → IsSized (record { setup = s; later = [] })
+IsSized-setup s collected h = record {
+  collected = collected;
+  setup = h;
+  each = All-nil IsSizedCommand;
+  accepted = refl;
+  commands = omega arith;
+  frames = omega (arith, accepted_frames s h collected);
+}
+
+-- the same run with one command more
+abbrev pub then_command : Run → Command → Run
+then_command run c = record { setup = run.setup; later = run.later ++ c ∷ [] }
+
+-- a sized run stays so with one accepted command more, where its numbers don't run out
+pub IsSized-push : (run : Run) (c : Command) → IsSized run → IsSizedCommand c → is_accepted run.setup run.later c ≡ true → length run.later + 2 < 2 ^ 32 → update_frames run + length (filter is_update (c ∷ [])) < 2 ^ 32 → IsSized (then_command run c)
+IsSized-push run c sized one ok commands frames = record {
+  collected = sized.collected;
+  setup = sized.setup;
+  each = All-push IsSizedCommand run.later c sized.each one;
+  accepted =
+      ap (list_all (λ accepted. accepted)) (over-append (is_accepted run.setup) [] run.later (c ∷ []))
+      ∙ list_all-append (λ accepted. accepted) (over (is_accepted run.setup) [] run.later) (is_accepted run.setup run.later c ∷ [])
+      ∙ and_from (list_all (λ accepted. accepted) (over (is_accepted run.setup) [] run.later)) (is_accepted run.setup run.later c && true) sized.accepted (ap (λ b. b && true) ok);
+  commands = omega (arith, commands, length_push run.later c);
+  frames = omega (arith, frames, ap length (filter-append is_update run.later (c ∷ [])), length-append (filter is_update run.later) (filter is_update (c ∷ [])));
+}

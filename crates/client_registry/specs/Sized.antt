@@ -1,0 +1,37 @@
+-- Which commands are accepted, and which runs keep all limits.
+use Rattle.std.specs.Prelude.{◌≡◌, ℕ, ◌+◌, ◌^◌, ◌<◌, ◌≤◌, Bool, true, not, ◌&&◌, ◌||◌, ◌-◌, nat_lt, List, [], length, filter, All, None}
+use Rattle.std.specs.List.{list_all}
+use Rattle.client_registry.specs.Acceptance.{frames_needed, setup_refusal}
+use Rattle.client_registry.specs.Command.{Command, Add, Delete, Search, is_update}
+use Rattle.client_registry.specs.DocumentRule.{IsDocument}
+use Rattle.client_registry.specs.Documents.{is_live, IsCollected}
+use Rattle.client_registry.specs.Live.{live, counter, is_listed}
+use Rattle.client_registry.specs.Over.{over}
+use Rattle.client_registry.specs.Run.{Run}
+use Rattle.client_registry.specs.Setup.{Setup}
+use Rattle.client_registry.specs.WordRule.{word_refusal}
+
+-- whether a command is accepted after those before it: an identifier that isn't live and counters that aren't full, a live one, any search
+abbrev pub is_accepted : Setup → List Command → Command → Bool
+is_accepted s past (Add d) = not (is_live (live s.documents past) d.id) && list_all (λ word. is_listed s past word d.id || nat_lt (counter s past word) (2 ^ 32 - 1)) d.words
+is_accepted s past (Delete id) = is_live (live s.documents past) id
+is_accepted s past (Search word) = true
+
+-- how many update frames a run takes
+abbrev pub update_frames : Run → ℕ
+update_frames run = frames_needed run.setup + length (filter is_update run.later)
+
+-- what a command holds keeps the limits of words, documents and identifiers
+abbrev pub IsSizedCommand : Command → Type 0
+IsSizedCommand (Add d) = IsDocument d
+IsSizedCommand (Delete id) = (1 ≤ id) × (id < 2 ^ 64)
+IsSizedCommand (Search word) = word_refusal word ≡ None
+
+-- all limits of a run: of its documents and words, its index, its commands and its update frames
+pub record IsSized (run : Run) : Type 0 where
+  pub collected : IsCollected run.setup.documents
+  pub setup : setup_refusal run.setup.documents run.setup.shape.b run.setup.shape.big ≡ None
+  pub each : All IsSizedCommand run.later
+  pub accepted : list_all (λ accepted. accepted) (over (is_accepted run.setup) [] run.later) ≡ true
+  pub commands : length run.later + 1 < 2 ^ 32
+  pub frames : update_frames run < 2 ^ 32

@@ -1,0 +1,161 @@
+use crate::{
+    Doc, DocFault, DocId, Docs, DocsFault, Size, SizeFault, Word, WordFault, Zero, size_of,
+};
+use std::alloc::Global;
+use std::test::Fail;
+
+/// The document of this identifier whose words are these texts.
+fn doc(alloc: Global, id: u64, texts: &[&[u8]]) -> Result<Doc, Fail> {
+    Ok(Doc::new(alloc, DocId::new(id)?, words(alloc, texts)?)?)
+}
+
+/// Documents 1 to n that hold the word `a` alone.
+fn with_a(alloc: Global, n: u64) -> Result<Docs, Fail> {
+    let mut docs = Docs::new(alloc);
+    for id in 1..=n {
+        docs.push(doc(alloc, id, &[b"a"])?)?;
+    }
+    Ok(docs)
+}
+
+#[test]
+fn words_are_refused_at_the_first_bad_byte(rt: HostRuntime) -> Result<(), Fail> {
+    let x64 = [b'x'; 64];
+    let x65 = [b'x'; 65];
+    let rows: [(&[u8], Option<WordFault>); 9] = [
+        (b"", Some(WordFault::Empty)),
+        (&x64, None),
+        (&x65, Some(WordFault::TooLong(65))),
+        (b"a\x7f", Some(WordFault::BadByte(1))),
+        (b"a\xff", Some(WordFault::BadByte(1))),
+        (b"\xc3\xa9t\xc3\xa9", None),
+        (b"ab c", Some(WordFault::BadByte(2))),
+        (b"ab\xc3", Some(WordFault::BadByte(2))),
+        (b"\x21\x1f\xff", Some(WordFault::BadByte(1))),
+    ];
+    for (bytes, fault) in rows {
+        match Word::read(rt.alloc(), bytes) {
+            Ok(word) => {
+                assert_eq!(rt; fault, None, "{bytes:?}");
+                assert_eq!(rt; word.bytes(), bytes);
+                assert_eq!(rt; word.clone()?, word);
+            }
+            Err(why) => assert_eq!(rt; fault, Some(why), "{bytes:?}"),
+        }
+    }
+    Ok(())
+}
+
+/// These texts as words, in their order.
+fn words(alloc: Global, texts: &[&[u8]]) -> Result<Vec<Word>, Fail> {
+    let mut words = Vec::new(alloc);
+    for text in texts {
+        words.push(Word::read(alloc, text)?)?;
+    }
+    Ok(words)
+}
+
+/// So many different words of three letters.
+fn different_words(alloc: Global, count: u32) -> Result<Vec<Word>, Fail> {
+    let mut words = Vec::new(alloc);
+    for i in 0..count {
+        let letters = [i % 26, i / 26 % 26, i / 676 % 26];
+        let text = letters.map(|letter| b'a' + (letter % 26) as u8);
+        words.push(Word::read(alloc, &text)?)?;
+    }
+    Ok(words)
+}
+
+/// Document 3 of the words `b` and `a`, then document 9 of `a` and `c`.
+fn two_documents(alloc: Global) -> Result<Docs, Fail> {
+    let mut docs = Docs::new(alloc);
+    docs.push(doc(alloc, 3, &[b"b", b"a"])?)?;
+    docs.push(doc(alloc, 9, &[b"a", b"c"])?)?;
+    Ok(docs)
+}
+
+#[test]
+fn documents_have_few_and_different_words(rt: HostRuntime) -> Result<(), Fail> {
+    let alloc = rt.alloc();
+    assert_eq!(rt; DocId::new(0), Err(Zero));
+    let id = DocId::new(u64::MAX)?;
+    assert_eq!(rt; id.get(), u64::MAX);
+    let rows = [
+        (
+            different_words(alloc, 4097)?,
+            Err(DocFault::TooManyWords(4097)),
+        ),
+        (
+            words(alloc, &[b"b", b"a", b"a"])?,
+            Err(DocFault::RepeatedWord(2)),
+        ),
+        (different_words(alloc, 4096)?, Ok(4096)),
+    ];
+    for (words, wanted) in rows {
+        let made = Doc::new(alloc, id, words).map(|doc| doc.words().len());
+        assert_eq!(rt; made, wanted);
+    }
+    Ok(())
+}
+
+#[test]
+fn a_live_identifier_is_refused(rt: HostRuntime) -> Result<(), Fail> {
+    let alloc = rt.alloc();
+    let mut docs = two_documents(alloc)?;
+    assert_eq!(rt;
+        docs.push(doc(alloc, 3, &[b"d"])?),
+        Err(DocsFault::AlreadyLive(3))
+    );
+    assert_eq!(rt; docs.len(), 2);
+    assert_eq!(rt; docs.words(), 3);
+    assert_eq!(rt; docs.get(1).id(), DocId::new(9)?);
+    assert!(rt; docs.is_live(DocId::new(3)?));
+    assert!(rt; !docs.is_live(DocId::new(4)?));
+    Ok(())
+}
+
+#[test]
+fn words_are_numbered_by_first_appearance(rt: HostRuntime) -> Result<(), Fail> {
+    let alloc = rt.alloc();
+    let docs = two_documents(alloc)?;
+    let rows: [(&[u8], u32, u32); 3] = [(b"b", 0, 1), (b"a", 1, 2), (b"c", 2, 1)];
+    for (text, number, count) in rows {
+        let word = Word::read(alloc, text)?;
+        assert_eq!(rt; docs.number_of(&word), Some(number));
+        assert!(rt; (number as usize) < docs.words());
+        assert_eq!(rt; docs.word(number as usize), &word);
+        assert_eq!(rt; docs.list_len(number as usize), count);
+    }
+    assert_eq!(rt; docs.number_of(&Word::read(alloc, b"d")?), None);
+    Ok(())
+}
+
+/// One word in n documents, two numbers in a cell and in a block: the blocks counted by hand.
+#[test]
+fn blocks_of_one_word(rt: HostRuntime) -> Result<(), Fail> {
+    let alloc = rt.alloc();
+    for (n, blocks) in [(2u64, 0u32), (3, 2), (4, 2), (5, 5), (8, 6)] {
+        assert_eq!(rt;
+            size_of(&with_a(alloc, n)?, 2, 2),
+            Ok(Size { words: 1, blocks }),
+            "{n}"
+        );
+    }
+    let nine = with_a(alloc, 9)?;
+    assert_eq!(rt;
+        size_of(&nine, 2, 2),
+        Err(SizeFault::ListTooLong { word: 0, n: 9 })
+    );
+    assert_eq!(rt;
+        size_of(&nine, 65, 257),
+        Err(SizeFault::BadParameter {
+            which: 0,
+            value: 65
+        })
+    );
+    assert_eq!(rt;
+        size_of(&nine, 64, 0),
+        Err(SizeFault::BadParameter { which: 1, value: 0 })
+    );
+    Ok(())
+}
