@@ -1,0 +1,40 @@
+# make        proves the crates, then builds the programs into bin/
+# make demo   the same, then runs examples/first.sse, and searches a folder of letters
+# make check  the whole gate: every proof, test, must-fail edit and end-to-end check
+# make bench  times bin/sse_local on made-up scripts
+# make clean  forgets what was proved and built in this checkout
+
+PROGRAMS = sse_local
+LAST = bin/.seconds
+
+.PHONY: all demo check bench clean
+
+all: $(PROGRAMS:%=bin/%)
+
+# A program is built only once it and every crate below it are proved. A failed proof leaves an older
+# out/NAME behind, and the tool passes on the program's own status, so the copy is made only behind a run
+# that was built anew and ended with 0.
+bin/%: FORCE
+	@mkdir -p bin
+	@echo "Proving comes before building: $* is built once each crate below it is proved."
+	@if [ -f $(LAST) ]; then echo "The last time this took $$(cat $(LAST)) seconds."; else echo "The first time this takes some minutes for each core."; fi
+	@start=$$(date +%s); \
+	rm -f crates/$*/out/$*; \
+	(cd crates/$* && rt run -- run < ../../examples/first.sse > /dev/null) && \
+	cp crates/$*/out/$* bin/$* && \
+	echo $$(( $$(date +%s) - start )) > $(LAST)
+
+demo: all
+	bin/sse_local run < examples/first.sse
+	examples/search examples/letters wall deed
+
+bench: all
+	bench/run
+
+check:
+	bash .ci/run
+
+clean:
+	rm -rf bin/* crates/*/out
+
+FORCE:

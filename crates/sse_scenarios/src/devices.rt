@@ -1,0 +1,43 @@
+use crate::running::run_over;
+use keyed_fn::Real;
+use sse_link::{Fail as FailingCall, Loopback};
+use std::test::Fail;
+
+/// The failing calls of the source, of the sink and of the link, the status, and the lines.
+const ROWS: [(&[u64], &[u64], &[FailingCall], u8, &[u8]); 5] = [
+    (&[], &[], &[], 0, b"set up 2 words 0 blocks\nfound 2: 3 9\n"),
+    (&[0], &[], &[], 3, b"stopped: source\n"),
+    (&[], &[1], &[], 4, b"set up 2 words 0 blocks\n"),
+    (
+        &[],
+        &[],
+        &[FailingCall {
+            call: 0,
+            delivered: false,
+        }],
+        5,
+        b"stopped: link\n",
+    ),
+    (
+        &[],
+        &[],
+        &[FailingCall {
+            call: 9,
+            delivered: true,
+        }],
+        5,
+        b"set up 2 words 0 blocks\nstopped: link\n",
+    ),
+];
+
+#[test]
+fn failing_devices(rt: HostRuntime) -> Result<(), Fail> {
+    let alloc = rt.alloc();
+    for (source, sink, link, status, printed) in ROWS {
+        let mut link = Loopback::new(alloc, Real, Vec::from_slice(alloc, link)?);
+        let ended = run_over(alloc, &mut link, source, sink)?;
+        assert_eq!(rt; ended.printed.as_slice(), printed);
+        assert_eq!(rt; ended.status, status);
+    }
+    Ok(())
+}

@@ -1,0 +1,42 @@
+use crate::running::run_over;
+use keyed_fn::Real;
+use sse_link::{Passed, SteadyLoopback};
+use std::alloc::{AllocError, Global};
+use std::test::Fail;
+
+/// What the run of examples/first.sse sends and receives, in order: the worked example of docs/LEAKAGE.md, made with an
+/// independent model of the store.
+const TRANSCRIPT: [&str; 10] = [
+    "sent 0000000101",
+    "received 000000058100000000",
+    "sent 000000110200000000000400040000000200000000",
+    "received 000000058200000000",
+    "sent 0000006b0300000001002100028dce3ffac6dfec3e16ca9212ded0d9fb596a7337f409d75bfb5b675599756ad01830ef3546a9d2b753f66ec7cf959730009e066e2bdf5795e9c955a2506576aa76cbbf97c39ca519f23eef86dc5908e7d7f6b3dba56ce280137091eee47da65a7f9e",
+    "received 000000058200000001",
+    "sent 000000050500000002",
+    "received 000000058200000002",
+    "sent 000000a108cdba0e13b67b167eec9a8c19d55b25659ec32cae9f4c1e88f00c5d647cd30c56a55b736c8acf12854aef95a88ae2aad5c174fb0d82a214422c7b2aae075d07204d268a9d1a393457ef909d7050edf7a661b09239c3ebd398040d9ea9c69dc3cea547bdff7d6326d5e8345f4b3224a1073fd9971d2f3c58d6b2ab55ab861d99ca173e03edc93d394b9996f9910657039491ed2a584d6a6bac38d041d6d8906f79",
+    "received 000000148501000200000000000000030000000000000009",
+];
+
+#[test]
+fn the_worked_example(rt: HostRuntime) -> Result<(), Fail> {
+    let alloc = rt.alloc();
+    let mut link = SteadyLoopback::new(alloc, Real);
+    let ended = run_over(alloc, &mut link, &[], &[])?;
+    assert_eq!(rt; ended.status, 0);
+    assert_eq!(rt; link.transcript().len(), TRANSCRIPT.len());
+    for (passed, line) in link.transcript().iter().zip(TRANSCRIPT) {
+        assert_eq!(rt; line_of(alloc, passed)?.as_str(), line);
+    }
+    Ok(())
+}
+
+fn line_of(alloc: Global, passed: &Passed) -> Result<String, AllocError> {
+    let (way, bytes) = match passed {
+        Passed::Sent(bytes) => ("sent", bytes),
+        Passed::Received(bytes) => ("received", bytes),
+    };
+    let hexadecimal = hex::encode(alloc, bytes.as_slice())?;
+    format!(in alloc; "{way} {hexadecimal}")
+}
