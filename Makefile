@@ -20,7 +20,7 @@ bin/%: FORCE
 	@if [ -f $(LAST) ]; then echo "The last time this took $$(cat $(LAST)) seconds."; else echo "The first time this takes some minutes for each core."; fi
 	@start=$$(date +%s); \
 	rm -f crates/$*/out/$*; \
-	(cd crates/$* && rt run -- run < ../../examples/first.sse > /dev/null) && \
+	(cd crates/$* && rt run -- run < ../../examples/first.sse > ../../bin/$*.log 2>&1) || { cat bin/$*.log; exit 1; }; \
 	cp crates/$*/out/$* bin/$* && \
 	echo $$(( $$(date +%s) - start )) > $(LAST)
 
@@ -35,6 +35,6 @@ check:
 	bash .ci/run
 
 clean:
-	rm -rf bin/* crates/*/out
+	rm -rf bin crates/*/out
 
 FORCE:
