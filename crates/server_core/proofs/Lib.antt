@@ -1,4 +1,5 @@
 mod EntryLemmas
 mod Places
+mod Rows
 mod SearchLemmas
 mod SlotLemmas

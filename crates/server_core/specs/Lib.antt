@@ -1,5 +1,4 @@
 pub mod Dictionary
-pub mod Pages
 pub mod Search
 pub mod Slots
 pub mod State

@@ -10,7 +10,7 @@ use Rattle.server_core.specs.declared.stage.Stage.TheVariants.{Filling, Ready}
 use Rattle.server_core.specs.Dictionary.{CellMap}
 use Rattle.search_token.specs.KeyedFn.{KeyedFn}
 use Rattle.search_token.specs.TokenKeys.{keys_of_bytes}
-use Rattle.server_core.specs.Pages.{pages}
+use Rattle.sse_frames.specs.Sending.{pages}
 use Rattle.server_core.specs.Search.{found}
 use Rattle.server_core.specs.State.{ServerState, NumberSet, is_empty, is_filling, is_ready}
 

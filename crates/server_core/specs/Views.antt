@@ -7,7 +7,7 @@ use Rattle.server_core.specs.declared.refuse.Refuse.{Refuse}
 use Rattle.server_core.specs.declared.refuse.Refuse.TheVariants.{Number, OutOfPlace, Clash, NoMemory}
 use Rattle.server_core.specs.declared.answer.Answer.{Answer}
 use Rattle.server_core.specs.declared.answer.Answer.TheVariants as answers
-use Rattle.server_core.specs.Pages.{pages}
+use Rattle.sse_frames.specs.Sending.{pages}
 use Rattle.server_core.specs.State.{Room}
 
 abbrev pub refuse_reply : Refuse → ReplyText

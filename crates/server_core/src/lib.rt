@@ -22,3 +22,6 @@ pub use refuse::Refuse;
 pub use search_fault::SearchFault;
 pub use server::Server;
 pub use stage::Stage;
+
+#[cfg(test)]
+mod tests;

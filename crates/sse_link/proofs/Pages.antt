@@ -1,12 +1,14 @@
 -- The pages of a list, one by one, and what their bytes say of those to come.
-use Rattle.std.proofs.Common.{◌≡◌, ℕ, zero, suc, ◌-◌, ◌/◌, ◌<◌, ◌≤◌, true, false, List, [], ◌∷◌, length, take, drop, get_or, refl, ap, arith}
+use Rattle.std.proofs.Common.{◌≡◌, ℕ, zero, suc, ◌-◌, ◌/◌, ◌<◌, ◌≤◌, true, false, List, [], ◌∷◌, length, take, drop, get_or, refl, sym, ap, ◌∙◌, arith}
 use Rattle.std.specs.List.{All}
-use Rattle.std.proofs.lemmas.List.{length-drop}
+use Rattle.std.proofs.lemmas.List.{length-drop, take_all}
 use Rattle.std.proofs.lemmas.List.Elements.{recursion_from_All}
 use Rattle.std.specs.List.{AllByRecursion}
+use Rattle.std.specs.Int.{div_ceil}
+use Rattle.std.specs.Simd.{first_chunks}
 use Rattle.sse_frames.specs.Replies.{Page, IsIdentifier, reply_bytes}
 use Rattle.server_core.specs.Step.{is_nil}
-use Rattle.server_core.specs.Pages.{full_pages, pages}
+use Rattle.sse_frames.specs.Sending.{page_each, pages_of, pages}
 use Rattle.server_core.specs.declared.answer.Answer.{Answer}
 use Rattle.server_core.specs.declared.answer.Answer.TheVariants as answers
 use Rattle.server_core.specs.Views.{answer_replies}
@@ -15,22 +17,29 @@ use Rattle.sse_link.specs.Due.{is_open_page}
 -- a list of more than a page has a full page first
 pub pages-more : (ids : List ℕ) → 8192 < length ids → pages ids ≡ Page false (take 8192 ids) ∷ pages (drop 8192 ids)
 pages-more ids more =
-    let count : (length ids - 1) / 8192 ≡ suc ((length (drop 8192 ids) - 1) / 8192) = omega (arith, length-drop 8192 ids) in
-    ap (λ n. full_pages n ids) count
+    let rest = length-drop 8192 ids in
+    let later : div_ceil (length (drop 8192 ids)) 8192 ≡ suc ((length (drop 8192 ids) - 1) / 8192) = omega (arith, rest) in
+    let count : div_ceil (length ids) 8192 ≡ suc (suc ((length (drop 8192 ids) - 1) / 8192)) = omega (arith, rest) in
+    ap (λ n. pages_of (first_chunks 8192 n ids)) count ∙ sym (ap (λ n. Page false (take 8192 ids) ∷ pages_of (first_chunks 8192 n (drop 8192 ids))) later)
 
 -- a list of at most a page is one page
 pub pages-last : (ids : List ℕ) → length ids ≤ 8192 → pages ids ≡ Page true ids ∷ []
-pages-last ids few =
-    let count : (length ids - 1) / 8192 ≡ 0 = omega arith in
-    ap (λ n. full_pages n ids) count
+pages-last [] few = refl
+pages-last (id ∷ ids) few =
+    let count : div_ceil (length (id ∷ ids)) 8192 ≡ 1 = omega arith in
+    ap (λ n. pages_of (first_chunks 8192 n (id ∷ ids))) count ∙ ap (λ xs. Page true xs ∷ []) (take_all 8192 (id ∷ ids) few)
 
-full_pages_some : (n : ℕ) (ids : List ℕ) → is_nil (full_pages n ids) ≡ false
-full_pages_some zero ids = refl
-full_pages_some (suc n) ids = refl
+pages_each_some : (ids : List ℕ) (others : List (List ℕ)) → is_nil (page_each ids others) ≡ false
+pages_each_some ids [] = refl
+pages_each_some ids (more ∷ others) = refl
+
+pages_of_some : (parts : List (List ℕ)) → is_nil (pages_of parts) ≡ false
+pages_of_some [] = refl
+pages_of_some (ids ∷ others) = pages_each_some ids others
 
 -- there is always a page
 pub is_nil-pages : (ids : List ℕ) → is_nil (pages ids) ≡ false
-is_nil-pages ids = full_pages_some ((length ids - 1) / 8192) ids
+is_nil-pages ids = pages_of_some _
 
 -- the flag of a page says whether more follow
 pub open_page : (ids : List ℕ) → is_open_page (reply_bytes (Page false ids)) ≡ true

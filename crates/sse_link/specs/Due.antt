@@ -2,7 +2,7 @@
 use Rattle.std.specs.Prelude.{ℕ, ◌<◌, ◌≤◌, Bool, ◌&&◌, ◌==◌, List, [], ◌∷◌, length, drop, slice_index, All}
 use Rattle.sse_frames.specs.Replies.{ReplyText, Page, StoreFault, InReplies}
 use Rattle.sse_frames.specs.Seen.{seen_reply}
-use Rattle.server_core.specs.Pages.{pages}
+use Rattle.sse_frames.specs.Sending.{pages}
 use Rattle.sse_link.specs.declared.due.Due.{Due}
 use Rattle.sse_link.specs.declared.due.Due.TheVariants as dues
 

@@ -3,3 +3,5 @@ pub mod Due
 pub mod Passed
 pub mod Told
 pub mod Scripted
+pub mod Served
+pub mod Steady

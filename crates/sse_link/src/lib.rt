@@ -13,6 +13,7 @@ mod passed;
 mod record;
 mod scripted;
 mod steady;
+mod whole;
 
 pub use fail::Fail;
 pub use link::Link;
@@ -22,3 +23,6 @@ pub use passed::Passed;
 pub use scripted::ScriptedLink;
 pub use std::alloc::AllocError as NoMemory;
 pub use steady::SteadyLoopback;
+
+#[cfg(test)]
+mod tests;

@@ -1,6 +1,8 @@
-ghost use Rattle.std.specs.Prelude.{◌≡◌, ◌^◌, ◌-◌, ◌+◌, min, [], map};
+ghost use Rattle.std.specs.Prelude.{◌≡◌, ℕ, List, ◌^◌, ◌-◌, ◌+◌, min, [], map};
 ghost use Rattle.server_core.specs.State.{at_first};
+ghost use Rattle.keyed_fn.specs.KeyedFn.{keyed_fn};
 ghost use Rattle.sse_link.specs.Passed.{events_of};
+ghost use Rattle.sse_link.specs.Served.{IsServed, at_start};
 
 use crate::{Fail, Link, LinkFault, Passed, SteadyLoopback};
 use keyed_fn::Keyed;
@@ -49,9 +51,11 @@ impl<K: Keyed> Loopback<K> {
         }
     }
 
-    /// All that passed, in order.
+    /// All that passed, in order: each frame was answered by the server's step, and each reply that was
+    /// received was the next of its replies.
     pub fn transcript(&self) -> &[Passed]
-        ensures { events_of result.now ≡ self.now.told.events }
+        ensures events { events_of result.now ≡ self.now.told.events }
+        ensures honest { (due : List (List ℕ)) × IsServed (keyed_fn K.prf K.pad) at_start self.now.told.events (record { state = self.now.told.state; due = due }) }
     {
         self.steady.transcript()
     }

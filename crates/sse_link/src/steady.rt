@@ -4,14 +4,17 @@ ghost use Rattle.server_core.specs.State.{at_first};
 ghost use Rattle.server_core.specs.Step.{is_nil};
 ghost use Rattle.sse_link.specs.Due.{waiting, IsDue};
 ghost use Rattle.sse_link.specs.Events.{Remote};
+ghost use Rattle.keyed_fn.specs.KeyedFn.{keyed_fn};
 ghost use Rattle.sse_link.specs.Passed.{events_of};
+ghost use Rattle.sse_link.specs.Served.{Serves, IsServed, at_start};
 
 use crate::due::{Due, due_of, write_due};
 use crate::record::Record;
+use crate::whole::whole_frame;
 use crate::{Link, LinkFault, Passed};
 use keyed_fn::Keyed;
 use server_core::Server;
-use sse_frames::{FrameFault, Reply, read_frame};
+use sse_frames::Reply;
 use std::alloc::Global;
 use std::marker::Model;
 
@@ -38,7 +41,9 @@ impl<K: Keyed> Model for SteadyLoopback<K> {
 
     ghost coded = { told_code };
 
-    ghost use Rattle.sse_link.specs.Due.{waiting, IsDue};
+    ghost use Rattle.keyed_fn.specs.KeyedFn.{keyed_fn};
+    ghost use Rattle.sse_link.specs.Due.{waiting};
+    ghost use Rattle.sse_link.specs.Steady.{IsSteady};
 
     ghost view = { λ l. record {
       events = l.record;
@@ -46,7 +51,7 @@ impl<K: Keyed> Model for SteadyLoopback<K> {
       due = map reply_bytes (waiting l.due l.found.items);
     } };
 
-    ghost invariant = { λ l. IsDue l.due l.found.items };
+    ghost invariant = { λ l. IsSteady (keyed_fn K.prf K.pad) l.record l.server.state l.due l.found.items };
 }
 
 impl<K: Keyed> SteadyLoopback<K> {
@@ -63,9 +68,11 @@ impl<K: Keyed> SteadyLoopback<K> {
         }
     }
 
-    /// All that passed, in order.
+    /// All that passed, in order: each frame was answered by the server's step, and each reply that was
+    /// received was the next of its replies.
     pub fn transcript(&self) -> &[Passed]
-        ensures { events_of result.now ≡ self.now.events }
+        ensures events { events_of result.now ≡ self.now.events }
+        ensures honest { IsServed (keyed_fn K.prf K.pad) at_start self.now.events (record { state = self.now.state; due = self.now.due }) }
     {
         self.record.passed()
     }
@@ -101,12 +108,10 @@ impl<K: Keyed> Link for SteadyLoopback<K> {
 fn replies_to<K: Keyed>(keyed: &K, server: &mut Server, found: &mut Vec<u64>, bytes: &[u8]) -> Due
     ensures due { IsDue result found.new.items }
     ensures some { is_nil (waiting result found.new.items) ≡ false }
+    ensures serves { Serves (keyed_fn K.prf K.pad) server.old.state bytes.now server.new.state (map reply_bytes (waiting result found.new.items)) }
 {
-    match read_frame(bytes) {
-        Ok(Some((frame, n))) if n == bytes.len() => due_of(server.handle(keyed, &frame, found)),
-        Ok(_) => Due::Single(Reply::BadFrame(1)),
-        Err(FrameFault::BadLength(_)) => Due::Single(Reply::BadFrame(1)),
-        Err(FrameFault::BadKind(_)) => Due::Single(Reply::BadFrame(2)),
-        Err(FrameFault::BadBody(_)) => Due::Single(Reply::BadFrame(3)),
+    match whole_frame(bytes) {
+        Ok(frame) => due_of(server.handle(keyed, &frame, found)),
+        Err(reason) => Due::Single(Reply::BadFrame(reason)),
     }
 }

@@ -1,0 +1,108 @@
+-- Rows that compute: the steps of a server under the toy keyed function, which adds bytes up, for one document `1 a` and
+-- cells of one identifier; and what cells are lists.
+use Rattle.std.proofs.Common.{◌≡◌, ℕ, zero, suc, ◌+◌, ◌*◌, ◌-◌, true, List, [], ◌∷◌, ◌++◌, cond, ltb, Some, None, refl}
+use Rattle.std.specs.Prelude.{codes}
+use Rattle.std.specs.FinMap as map
+use Rattle.std.specs.FinSet as set
+use Rattle.keyed_fn.specs.KeyedFn.{KeyedFn, keyed_fn}
+use Rattle.keyed_fn.specs.Toy.{toy_prf, toy_pad}
+use Rattle.sse_frames.specs.Frames.{Entry, FrameText, Hello, SetupBegin, SetupDict, SetupArray, SetupEnd, AddFrame, DeleteFrame, SearchFrame}
+use Rattle.sse_frames.specs.Replies.{ReplyText, Next, Took, Number, Clash, Page, OutOfPlace}
+use Rattle.server_core.specs.declared.stage.Stage.TheVariants.{Empty, Filling, Ready}
+use Rattle.server_core.specs.State.{ServerState, at_first}
+use Rattle.server_core.specs.Search.{listed, no_block}
+use Rattle.server_core.specs.Step.{step}
+
+abbrev toy : KeyedFn
+toy = keyed_fn toy_prf toy_pad
+
+-- the value of a hexadecimal digit in lower case
+abbrev digit : ℕ → ℕ
+digit c = cond (ltb c 97) (c - 48) (c - 87)
+
+-- the bytes that a text spells in pairs of hexadecimal digits
+abbrev hex : List ℕ → List ℕ
+hex [] = []
+hex (a ∷ []) = []
+hex (a ∷ b ∷ more) = (digit a * 16 + digit b) ∷ hex more
+
+abbrev rising : ℕ → ℕ → List ℕ
+rising zero first = []
+rising (suc n) first = first ∷ rising n (first + 1)
+
+-- the word's label, with its cell and with another
+abbrev entry : Entry
+entry = record { label = hex (codes "c3c5c7c9cbcdcfd1d3d5d7d9dbdddfe1"); text = hex (codes "c4c5c6c7c8c9cacbcd") }
+
+abbrev begun : ServerState
+begun = record at_first { stage = Filling; next = 1; words = 1; shape = record { b = 1; big = 1 } }
+
+abbrev filled : ServerState
+filled = record begun { next = 2; dictionary = map.insert map.empty entry.label entry.text }
+
+abbrev whole : ServerState
+whole = record filled { stage = Ready; next = 3 }
+
+hello_row : step toy at_first Hello ≡ (at_first, Next 0 ∷ [])
+hello_row = refl
+
+begin_row : step toy at_first (SetupBegin 0 1 1 1 0) ≡ (begun, Took 0 ∷ [])
+begin_row = refl
+
+dict_row : step toy begun (SetupDict 1 9 (entry ∷ [])) ≡ (filled, Took 1 ∷ [])
+dict_row = simp (map.gets)
+
+end_row : step toy filled (SetupEnd 2) ≡ (whole, Took 2 ∷ [])
+end_row = simp (map.gets)
+
+-- the setup's list of `a`, by the five keys of its token
+search_row : step toy whole (SearchFrame (rising 32 0xc3 ++ rising 32 0xc4 ++ rising 32 0xc5 ++ rising 32 0xc6 ++ rising 32 0xc7)) ≡ (whole, Page true (1 ∷ []) ∷ [])
+search_row = simp (map.gets, set.members)
+
+-- another word's list has no label
+missing_row : step toy whole (SearchFrame (rising 32 0xc7 ++ rising 32 0xc8 ++ rising 32 0xc9 ++ rising 32 0xca ++ rising 32 0xcb)) ≡ (whole, Page true [] ∷ [])
+missing_row = simp (map.gets, set.members)
+
+-- a frame that comes again, and one before its time
+again_row : step toy whole (SetupBegin 0 1 1 1 0) ≡ (whole, Number 3 ∷ [])
+again_row = refl
+
+ahead_row : step toy begun (SetupEnd 2) ≡ (begun, Number 1 ∷ [])
+ahead_row = refl
+
+-- a frame that isn't one for the stage: a search before the setup, a second setup, a setup that ends too early, cells of
+-- another width, more cells than words
+early_row : step toy at_first (SearchFrame []) ≡ (at_first, OutOfPlace ∷ [])
+early_row = refl
+
+second_row : step toy whole (SetupBegin 3 1 1 1 0) ≡ (whole, OutOfPlace ∷ [])
+second_row = refl
+
+short_row : step toy begun (SetupEnd 1) ≡ (begun, OutOfPlace ∷ [])
+short_row = simp (map.gets)
+
+width_row : step toy begun (SetupDict 1 17 (entry ∷ [])) ≡ (begun, OutOfPlace ∷ [])
+width_row = refl
+
+more_row : step toy filled (SetupDict 2 9 (entry ∷ [])) ≡ (filled, OutOfPlace ∷ [])
+more_row = simp (map.gets)
+
+-- a label that is there
+clash_row : step toy (record filled { words = 2 }) (SetupDict 2 9 (entry ∷ [])) ≡ (record filled { words = 2 }, Clash 1 0 ∷ [])
+clash_row = simp (map.gets)
+
+-- a cell of identifiers; one with a number behind a zero; one of an unknown kind; pointers without blocks, and none
+list_row : listed no_block (hex (codes "000000000000000007ffffffffffffffff")) ≡ Some (7 ∷ 18446744073709551615 ∷ [])
+list_row = refl
+
+hole_row : listed no_block (hex (codes "0000000000000000000000000000000007")) ≡ None
+hole_row = refl
+
+kind_row : listed no_block (hex (codes "030000000000000007")) ≡ None
+kind_row = refl
+
+pointer_row : listed no_block (hex (codes "010000000000000001")) ≡ None
+pointer_row = refl
+
+no_pointer_row : listed no_block (hex (codes "020000000000000000")) ≡ Some []
+no_pointer_row = refl

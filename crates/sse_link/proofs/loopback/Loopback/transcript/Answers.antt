@@ -1,0 +1,8 @@
+use Rattle.std.proofs.Common.{ap}
+use Rattle.keyed_fn.specs.KeyedFn.{keyed_fn}
+use Rattle.sse_link.specs.Served.{IsServed, at_start}
+use Rattle.sse_link.proofs.loopback.Loopback.transcript.Goals as goal
+
+-- the link inside it is honest
+pub returns-clause-honest : goal.returns-clause-honest
+returns-clause-honest g c = rw (← c.self.view_is) (c.self.inside.steady.due, c.transcript.ensures.honest)

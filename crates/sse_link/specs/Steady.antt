@@ -1,0 +1,14 @@
+-- What a steady loopback keeps.
+use Rattle.std.specs.Prelude.{ℕ, List, map}
+use Rattle.sse_frames.specs.Replies.{reply_bytes}
+use Rattle.keyed_fn.specs.KeyedFn.{KeyedFn}
+use Rattle.server_core.specs.State.{ServerState}
+use Rattle.sse_link.specs.declared.due.Due.{Due}
+use Rattle.sse_link.specs.Due.{waiting, IsDue}
+use Rattle.sse_link.specs.Events.{Event}
+use Rattle.sse_link.specs.Served.{IsServed, at_start}
+
+-- the replies that wait can be written, and all that passed is honest
+pub record IsSteady (f : KeyedFn) (events : List Event) (state : ServerState) (due : Due) (found : List ℕ) : Type 0 where
+  pub writable : IsDue due found
+  pub honest : IsServed f at_start events (record { state = state; due = map reply_bytes (waiting due found) })

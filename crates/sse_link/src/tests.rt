@@ -1,0 +1,106 @@
+ghost use Rattle.std.specs.Prelude.{◌≡◌, IfOk, vec_len};
+
+use super::*;
+use keyed_fn::Toy;
+use sse_frames::REPLY_ROOM;
+use std::alloc::Global;
+use std::test::Fail as Failed;
+
+// The frames of a setup of the document `1 a` with cells of one identifier and blocks of one, under the key of
+// 32 zero bytes and the toy keyed function, and of a search for `a`: computed by hand.
+
+const HELLO: &[u8] = b"\x00\x00\x00\x01\x01";
+
+const BEGIN: &[u8] =
+    b"\x00\x00\x00\x11\x02\x00\x00\x00\x00\x00\x01\x00\x01\x00\x00\x00\x01\x00\x00\x00\x00";
+
+const DICT: &[u8] =
+    b"\x00\x00\x00\x22\x03\x00\x00\x00\x01\x00\x09\x00\x01\xc3\xc5\xc7\xc9\xcb\xcd\xcf\xd1\xd3\xd5\xd7\xd9\xdb\xdd\xdf\xe1\xc4\xc5\xc6\xc7\xc8\xc9\xca\xcb\xcd";
+
+const END: &[u8] = b"\x00\x00\x00\x05\x05\x00\x00\x00\x02";
+
+const SEARCH: &[u8] =
+    b"\x00\x00\x00\xa1\x08\xc3\xc4\xc5\xc6\xc7\xc8\xc9\xca\xcb\xcc\xcd\xce\xcf\xd0\xd1\xd2\xd3\xd4\xd5\xd6\xd7\xd8\xd9\xda\xdb\xdc\xdd\xde\xdf\xe0\xe1\xe2\xc4\xc5\xc6\xc7\xc8\xc9\xca\xcb\xcc\xcd\xce\xcf\xd0\xd1\xd2\xd3\xd4\xd5\xd6\xd7\xd8\xd9\xda\xdb\xdc\xdd\xde\xdf\xe0\xe1\xe2\xe3\xc5\xc6\xc7\xc8\xc9\xca\xcb\xcc\xcd\xce\xcf\xd0\xd1\xd2\xd3\xd4\xd5\xd6\xd7\xd8\xd9\xda\xdb\xdc\xdd\xde\xdf\xe0\xe1\xe2\xe3\xe4\xc6\xc7\xc8\xc9\xca\xcb\xcc\xcd\xce\xcf\xd0\xd1\xd2\xd3\xd4\xd5\xd6\xd7\xd8\xd9\xda\xdb\xdc\xdd\xde\xdf\xe0\xe1\xe2\xe3\xe4\xe5\xc7\xc8\xc9\xca\xcb\xcc\xcd\xce\xcf\xd0\xd1\xd2\xd3\xd4\xd5\xd6\xd7\xd8\xd9\xda\xdb\xdc\xdd\xde\xdf\xe0\xe1\xe2\xe3\xe4\xe5\xe6";
+
+// What is sent in a row, and the reply to it: an unknown kind, a length of 0, a byte behind a field and one behind a
+// frame among it.
+const REPLIES: [(&[u8], &[u8]); 11] = [
+    (SEARCH, b"\x00\x00\x00\x01\x8a"),
+    (HELLO, b"\x00\x00\x00\x05\x81\x00\x00\x00\x00"),
+    (BEGIN, b"\x00\x00\x00\x05\x82\x00\x00\x00\x00"),
+    (DICT, b"\x00\x00\x00\x05\x82\x00\x00\x00\x01"),
+    (END, b"\x00\x00\x00\x05\x82\x00\x00\x00\x02"),
+    (BEGIN, b"\x00\x00\x00\x05\x83\x00\x00\x00\x03"),
+    (
+        SEARCH,
+        b"\x00\x00\x00\x0c\x85\x01\x00\x01\x00\x00\x00\x00\x00\x00\x00\x01",
+    ),
+    (b"\x00\x00\x00\x01\x09", b"\x00\x00\x00\x02\x89\x02"),
+    (b"\x00\x00\x00\x00", b"\x00\x00\x00\x02\x89\x01"),
+    (b"\x00\x00\x00\x02\x01\x00", b"\x00\x00\x00\x02\x89\x03"),
+    (b"\x00\x00\x00\x01\x01\x00", b"\x00\x00\x00\x02\x89\x01"),
+];
+
+// Room for a reply.
+fn zeros(alloc: Global, len: usize) -> Result<Vec<u8>, NoMemory>
+    ensures { IfOk result (λ v. vec_len v ≡ len) }
+{
+    vec![in alloc; 0u8; len]
+}
+
+#[test]
+fn a_steady_loopback_answers(rt: HostRuntime) -> Result<(), Failed> {
+    let mut link = SteadyLoopback::new(rt.alloc(), Toy);
+    let mut out = zeros(rt.alloc(), REPLY_ROOM)?;
+    for (frame, reply) in REPLIES {
+        link.send(frame)?;
+        let n = link.recv(&mut out)?;
+        assert_eq!(rt; &out[..n], reply);
+    }
+    let passed = link.transcript();
+    assert_eq!(rt; passed.len(), 2 * REPLIES.len());
+    assert!(rt; matches!(&passed[0], Passed::Sent(bytes) if bytes.as_slice() == SEARCH));
+    assert!(rt;
+        matches!(&passed[1], Passed::Received(bytes) if bytes.as_slice() == b"\x00\x00\x00\x01\x8a".as_slice())
+    );
+    Ok(())
+}
+
+#[test]
+fn a_loopback_fails_where_it_is_told_to(rt: HostRuntime) -> Result<(), Failed> {
+    // The send and the receive of the first frame work, and the second send fails.
+    for (delivered, next) in [
+        (false, b"\x00\x00\x00\x05\x81\x00\x00\x00\x00"),
+        (true, b"\x00\x00\x00\x05\x81\x00\x00\x00\x01"),
+    ] {
+        let fails = vec![in rt.alloc(); Fail { call: 2, delivered }]?;
+        let mut link = Loopback::new(rt.alloc(), Toy, fails);
+        let mut out = zeros(rt.alloc(), REPLY_ROOM)?;
+        link.send(HELLO)?;
+        link.recv(&mut out)?;
+        assert_eq!(rt; link.send(BEGIN), Err(LinkFault::Cut));
+        link.send(HELLO)?;
+        let n = link.recv(&mut out)?;
+        assert_eq!(rt; &out[..n], next.as_slice());
+    }
+    Ok(())
+}
+
+#[test]
+fn a_script_is_played_back(rt: HostRuntime) -> Result<(), Failed> {
+    let replies = b"\x00\x00\x00\x05\x81\x00\x00\x00\x09\x00\x01\x00\x05\x00\x00\x00\x02\x89";
+    let replies = Vec::from_slice(rt.alloc(), replies.as_slice())?;
+    let mut link = ScriptedLink::new(rt.alloc(), replies);
+    let mut out = zeros(rt.alloc(), REPLY_ROOM)?;
+    for reply in [
+        b"\x00\x00\x00\x05\x81\x00\x00\x00\x09".as_slice(),
+        b"\x00\x01\x00\x05".as_slice(),
+    ] {
+        link.send(HELLO)?;
+        let n = link.recv(&mut out)?;
+        assert_eq!(rt; &out[..n], reply);
+    }
+    link.send(HELLO)?;
+    assert_eq!(rt; link.recv(&mut out), Err(LinkFault::Cut));
+    Ok(())
+}

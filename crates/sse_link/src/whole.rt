@@ -1,0 +1,27 @@
+ghost use Rattle.std.specs.Prelude.{◌≡◌, ◌≤◌, IfOk, IfErr, IsOkAnd};
+ghost use Rattle.sse_frames.specs.Frames.{FrameText, InGrammar, frame_bytes};
+ghost use Rattle.sse_frames.specs.Reading.{IsBuilt};
+ghost use Rattle.sse_frames.specs.Seen.{seen};
+
+use sse_frames::{Frame, FrameFault, read_frame};
+
+/// The frame that all of the bytes are, or the reason of the BadFrame that answers them: 1 for a length that
+/// is out of range or isn't that of the bytes, 2 for an unknown kind, 3 for another field.
+pub fn whole_frame(bytes: &[u8]) -> Result<Frame<'_>, u8>
+    ensures grammar { IfOk result (λ frame. InGrammar (seen frame)) }
+    ensures only { (text : FrameText) → InGrammar text → IsBuilt text → bytes.now ≡ frame_bytes text → IsOkAnd result (λ frame. seen frame ≡ text) }
+    ensures reason { IfErr result (λ reason. (1 ≤ reason) × (reason ≤ 3)) }
+{
+    match read_frame(bytes) {
+        Ok(Some((frame, n))) => {
+            if n == bytes.len() {
+                return Ok(frame);
+            }
+            Err(1)
+        }
+        Ok(None) => Err(1),
+        Err(FrameFault::BadLength(_)) => Err(1),
+        Err(FrameFault::BadKind(_)) => Err(2),
+        Err(FrameFault::BadBody(_)) => Err(3),
+    }
+}
