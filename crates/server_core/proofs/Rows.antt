@@ -6,9 +6,9 @@ use Rattle.std.specs.FinMap as map
 use Rattle.std.specs.FinSet as set
 use Rattle.keyed_fn.specs.KeyedFn.{KeyedFn, keyed_fn}
 use Rattle.keyed_fn.specs.Toy.{toy_prf, toy_pad}
-use Rattle.sse_frames.specs.Frames.{Entry, FrameText, Hello, SetupBegin, SetupDict, SetupArray, SetupEnd, AddFrame, DeleteFrame, SearchFrame}
-use Rattle.sse_frames.specs.Replies.{ReplyText, Next, Took, Number, Clash, Page, OutOfPlace}
-use Rattle.server_core.specs.declared.stage.Stage.TheVariants.{Empty, Filling, Ready}
+use Rattle.sse_frames.specs.Frames.{Entry, Hello, SetupBegin, SetupDict, SetupEnd, SearchFrame}
+use Rattle.sse_frames.specs.Replies.{Next, Took, Number, Clash, Page, OutOfPlace}
+use Rattle.server_core.specs.declared.stage.Stage.TheVariants.{Filling, Ready}
 use Rattle.server_core.specs.State.{ServerState, at_first}
 use Rattle.server_core.specs.Search.{listed, no_block}
 use Rattle.server_core.specs.Step.{step}

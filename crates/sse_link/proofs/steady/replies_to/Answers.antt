@@ -1,4 +1,4 @@
-use Rattle.std.proofs.Common.{ap, ◌∙◌, sym, Err}
+use Rattle.std.proofs.Common.{ap, ◌∙◌}
 use Rattle.sse_frames.specs.Seen.{seen}
 use Rattle.keyed_fn.specs.KeyedFn.{keyed_fn}
 use Rattle.server_core.specs.Step.{is_nil}

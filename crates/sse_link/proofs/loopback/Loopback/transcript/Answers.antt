@@ -1,6 +1,3 @@
-use Rattle.std.proofs.Common.{ap}
-use Rattle.keyed_fn.specs.KeyedFn.{keyed_fn}
-use Rattle.sse_link.specs.Served.{IsServed, at_start}
 use Rattle.sse_link.proofs.loopback.Loopback.transcript.Goals as goal
 
 -- the link inside it is honest
