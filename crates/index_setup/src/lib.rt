@@ -15,4 +15,3 @@ pub use building::build;
 pub use fault::BuildFault;
 pub use index::Index;
 pub use std::alloc::AllocError as NoMemory;
-

@@ -1,5 +1,4 @@
-use Rattle.std.proofs.Common.{◌≡◌, vec_len, length}
-use Rattle.client_registry.specs.Documents.{words_of}
+use Rattle.std.proofs.Common.{◌≡◌, vec_len}
 use Rattle.index_setup.proofs.lists.lists_of.Given as goal
 
 abbrev pub invariant-documents : goal.invariant-documents

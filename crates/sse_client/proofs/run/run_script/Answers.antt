@@ -1,4 +1,4 @@
-use Rattle.std.proofs.Common.{◌≤◌, arith}
+use Rattle.std.proofs.Common.{arith}
 use Rattle.sse_client.proofs.run.run_script.Goals as goal
 
 -- what rose while the lines were carried out rose since the key line was read
