@@ -1,0 +1,4 @@
+pub mod Names
+pub mod Positions
+pub mod Wire
+pub mod Drawn

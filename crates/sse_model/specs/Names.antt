@@ -1,0 +1,90 @@
+-- Names for the values of which the wire is made, and the table of their values under a key.
+use Rattle.std.specs.Prelude.{◌≡◌, ℕ, zero, suc, ◌+◌, ◌*◌, List, length, All}
+use Rattle.two_level.specs.Shape.{Shape}
+use Rattle.keyed_fn.specs.KeyedFn.{KeyedFn}
+use Rattle.keyed_fn.specs.KeyFormulas.{part_key, list_label, cell_pad, block_pad, plus_label, plus_pad, revocation, place_tag, token_of}
+
+pub data Kind : Type 0 where
+  Token : Kind
+  ListLabel : Kind
+  ListPad : Kind
+  PlusLabel : Kind
+  PlusPad : Kind
+  Revocation : Kind
+  PlaceTag : Kind
+
+-- one value of a word: the number is 0 for a token or a list's label, 0 for a cell's pad and i + 1 for that of
+-- block i, the counter for an addition, the identifier for a revocation number, i for the tag of block i
+pub record Name : Type 0 where
+  pub epoch : ℕ
+  pub word : List ℕ
+  pub kind : Kind
+  pub number : ℕ
+
+abbrev pub name : ℕ → List ℕ → Kind → ℕ → Name
+name epoch word kind number = record { epoch = epoch; word = word; kind = kind; number = number }
+
+-- names that could be taken for one another; a cell's pad and a block's are one kind and two classes
+pub data Class : Type 0 where
+  Tokens : Class
+  ListLabels : Class
+  CellPads : Class
+  BlockPads : Class
+  PlusLabels : Class
+  PlusPads : Class
+  Revocations : Class
+  PlaceTags : Class
+
+abbrev pub class_at : Kind → ℕ → Class
+class_at Token number = Tokens
+class_at ListLabel number = ListLabels
+class_at ListPad zero = CellPads
+class_at ListPad (suc i) = BlockPads
+class_at PlusLabel number = PlusLabels
+class_at PlusPad number = PlusPads
+class_at Revocation number = Revocations
+class_at PlaceTag number = PlaceTags
+
+abbrev pub class_of : Name → Class
+class_of n = class_at n.kind n.number
+
+-- a value for each name
+abbrev pub Table : Type 0
+Table = Name → List ℕ
+
+-- the bytes of a cell of b numbers behind its kind byte, and of a block of B numbers
+abbrev pub cell_size : Shape → ℕ
+cell_size s = 1 + 8 * s.b
+
+abbrev pub block_size : Shape → ℕ
+block_size s = 8 * s.big
+
+-- the value of a word's name under a key, by the key formulas
+abbrev pub value_of : KeyedFn → Shape → List ℕ → List ℕ → Kind → ℕ → List ℕ
+value_of f s key word Token number = token_of f key word
+value_of f s key word ListLabel number = list_label f (part_key f key 1 word)
+value_of f s key word ListPad zero = cell_pad f (part_key f key 2 word) (cell_size s)
+value_of f s key word ListPad (suc i) = block_pad f (part_key f key 2 word) i (block_size s)
+value_of f s key word PlusLabel c = plus_label f (part_key f key 3 word) c
+value_of f s key word PlusPad c = plus_pad f (part_key f key 4 word) c
+value_of f s key word Revocation id = revocation f (part_key f key 5 word) id
+value_of f s key word PlaceTag i = place_tag f (part_key f key 6 word) i
+
+-- the table of a key for each epoch
+abbrev pub table : KeyedFn → Shape → (ℕ → List ℕ) → Table
+table f s keys n = value_of f s (keys n.epoch) n.word n.kind n.number
+
+-- the bytes that a value of this kind and number has
+abbrev pub size_at : Shape → Kind → ℕ → ℕ
+size_at s Token number = 160
+size_at s ListLabel number = 16
+size_at s ListPad zero = cell_size s
+size_at s ListPad (suc i) = block_size s
+size_at s PlusLabel number = 16
+size_at s PlusPad number = 8
+size_at s Revocation number = 16
+size_at s PlaceTag number = 16
+
+-- the table gives each of these names a value of its size
+abbrev pub HasSizes : Shape → Table → List Name → Type 0
+HasSizes s t names = All (λ n. length (t n) ≡ size_at s n.kind n.number) names
