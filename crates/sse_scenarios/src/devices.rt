@@ -1,4 +1,4 @@
-use crate::running::run_over;
+use crate::running::{SCRIPT, run_over};
 use keyed_fn::Real;
 use sse_link::{Fail as FailingCall, Loopback};
 use std::test::Fail;
@@ -35,7 +35,7 @@ fn failing_devices(rt: HostRuntime) -> Result<(), Fail> {
     let alloc = rt.alloc();
     for (source, sink, link, status, printed) in ROWS {
         let mut link = Loopback::new(alloc, Real, Vec::from_slice(alloc, link)?);
-        let ended = run_over(alloc, &mut link, source, sink)?;
+        let ended = run_over(alloc, &Real, &mut link, SCRIPT, source, sink)?;
         assert_eq!(rt; ended.printed.as_slice(), printed);
         assert_eq!(rt; ended.status, status);
     }

@@ -6,6 +6,8 @@
 #[cfg(test)]
 mod devices;
 #[cfg(test)]
+mod equal_labels;
+#[cfg(test)]
 mod made_up_links;
 #[cfg(test)]
 mod running;

@@ -1,4 +1,5 @@
-use crate::running::run_over;
+use crate::running::{SCRIPT, run_over};
+use keyed_fn::Real;
 use sse_link::ScriptedLink;
 use std::test::Fail;
 
@@ -54,7 +55,7 @@ fn made_up_replies(rt: HostRuntime) -> Result<(), Fail> {
         let mut replies = Vec::from_slice(alloc, front)?;
         replies.extend_from_slice(last)?;
         let mut link = ScriptedLink::new(alloc, replies);
-        let ended = run_over(alloc, &mut link, &[], &[])?;
+        let ended = run_over(alloc, &Real, &mut link, SCRIPT, &[], &[])?;
         assert_eq!(rt; ended.printed.as_slice(), printed);
         assert_eq!(rt; ended.status, status);
     }

@@ -1,4 +1,4 @@
-use keyed_fn::Real;
+use keyed_fn::Keyed;
 use sse_client::sse_run;
 use sse_link::Link;
 use sse_outside::{MemSink, MemSource, SteadyDisk};
@@ -19,14 +19,16 @@ pub struct Ended {
     pub printed: Vec<u8>,
 }
 
-/// Runs the script over a link; the calls of the source and the sink with these numbers, from 0, fail.
-pub fn run_over<L: Link>(
+/// Runs a script over a link; the calls of the source and the sink with these numbers, from 0, fail.
+pub fn run_over<K: Keyed, L: Link>(
     alloc: Global,
+    keyed: &K,
     link: &mut L,
+    script: &[u8],
     source_fails: &[u64],
     sink_fails: &[u64],
 ) -> Result<Ended, AllocError> {
-    let bytes = Vec::from_slice(alloc, SCRIPT)?;
+    let bytes = Vec::from_slice(alloc, script)?;
     let mut source = MemSource::new(bytes, Vec::from_slice(alloc, source_fails)?);
     let mut sink = MemSink::new(alloc, Vec::from_slice(alloc, sink_fails)?);
     let mut disk = SteadyDisk::new(alloc);
@@ -34,7 +36,7 @@ pub fn run_over<L: Link>(
     let status = sse_run(
         alloc,
         &words,
-        &Real,
+        keyed,
         link,
         &mut disk,
         &mut source,

@@ -1,4 +1,4 @@
-use crate::running::run_over;
+use crate::running::{SCRIPT, run_over};
 use keyed_fn::Real;
 use sse_link::{Passed, SteadyLoopback};
 use std::alloc::{AllocError, Global};
@@ -23,7 +23,7 @@ const TRANSCRIPT: [&str; 10] = [
 fn the_worked_example(rt: HostRuntime) -> Result<(), Fail> {
     let alloc = rt.alloc();
     let mut link = SteadyLoopback::new(alloc, Real);
-    let ended = run_over(alloc, &mut link, &[], &[])?;
+    let ended = run_over(alloc, &Real, &mut link, SCRIPT, &[], &[])?;
     assert_eq!(rt; ended.status, 0);
     assert_eq!(rt; link.transcript().len(), TRANSCRIPT.len());
     for (passed, line) in link.transcript().iter().zip(TRANSCRIPT) {
