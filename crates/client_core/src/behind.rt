@@ -12,8 +12,13 @@ pub struct Behind {
 }
 
 impl Behind {
+    ghost use Rattle.client_core.specs.Sending.{frames_left};
+    ghost use Rattle.std.specs.Prelude.{◌≡◌};
+
     /// None of the planned frames was sent.
-    pub(crate) fn new(planned: Planned) -> Behind {
+    pub(crate) fn new(planned: Planned) -> Behind
+        ensures { frames_left result ≡ vec_len planned.frames }
+    {
         Behind {
             frames: planned.frames,
             next: 0,

@@ -1,3 +1,9 @@
+ghost use Rattle.std.specs.Prelude.{◌≡◌, length, vec_len, Err, IfOk, IfSome};
+ghost use Rattle.client_registry.specs.Acceptance.{setup_refusal};
+ghost use Rattle.client_registry.specs.Documents.{words_of};
+ghost use Rattle.index_setup.specs.Refused.{refused_by_size};
+ghost use Rattle.client_core.specs.Sending.{frames_left};
+
 use crate::behind::Behind;
 use crate::client::Client;
 use crate::planned::Planned;
@@ -14,7 +20,9 @@ pub struct Fresh;
 
 impl Client<Fresh> {
     /// A client with this master key and no setup.
-    pub fn fresh(key: MasterKey) -> Client<Fresh> {
+    pub fn fresh(key: MasterKey) -> Client<Fresh>
+        ensures { result.key ≡ key }
+    {
         Client { key, state: Fresh }
     }
 
@@ -27,7 +35,11 @@ impl Client<Fresh> {
         docs: &Docs,
         b: u64,
         big: u64,
-    ) -> Result<Planned, BuildFault> {
+    ) -> Result<Planned, BuildFault>
+        ensures refused { IfSome (setup_refusal docs.now b big) (λ fault. result ≡ Err (refused_by_size fault)) }
+        ensures words { IfOk result (λ planned. planned.words ≡ length (words_of docs.now)) }
+        ensures blocks { IfOk result (λ planned. planned.blocks ≡ 0) }
+    {
         let index = build(alloc, keyed, &self.key, docs, b, big)?;
         Ok(Planned {
             words: index.words(),
@@ -37,7 +49,10 @@ impl Client<Fresh> {
     }
 
     /// Takes the plan as done: from here on its frames are owed to the server. It takes no memory.
-    pub fn commit(self, planned: Planned) -> Client<Behind> {
+    pub fn commit(self, planned: Planned) -> Client<Behind>
+        ensures key { result.key ≡ self.key }
+        ensures frames { frames_left result.state ≡ vec_len planned.frames }
+    {
         let Client { key, state: _ } = self;
         Client {
             key,

@@ -2,6 +2,7 @@ ghost use Rattle.std.specs.Prelude.{◌≡◌, ◌+◌, ◌*◌, ◌≤◌, ◌<
 ghost use Rattle.client_registry.specs.Acceptance.{setup_refusal};
 ghost use Rattle.client_registry.specs.Documents.{words_of};
 ghost use Rattle.index_setup.specs.Cells.{HaveCells};
+ghost use Rattle.index_setup.specs.Refused.{refused_by_size};
 
 use crate::clash::first_clash;
 use crate::entry::Entry;
@@ -23,7 +24,12 @@ pub fn build<K: Keyed>(
     docs: &Docs,
     b: u64,
     big: u64,
-) -> Result<Index, BuildFault> {
+) -> Result<Index, BuildFault>
+    ensures refused { IfSome (setup_refusal docs.now b big) (λ fault. result ≡ Err (refused_by_size fault)) }
+    ensures words { IfOk result (λ index. index.words ≡ length (words_of docs.now)) }
+    ensures b { IfOk result (λ index. index.b ≡ b) }
+    ensures big { IfOk result (λ index. index.big ≡ big) }
+{
     let (b, big) = accepted(docs, b, big)?;
     let lists = lists_of(alloc, docs)?;
     if lists.iter().any(|list| list.len() > b as usize) {

@@ -19,6 +19,11 @@ pub enum BuildFault {
 }
 
 impl From<SizeFault> for BuildFault {
+    ghost use Rattle.index_setup.specs.Refused.{refused_by_size};
+    ghost use Rattle.std.specs.Prelude.{◌≡◌};
+
+    ghost from_gives = { λ fault built. built ≡ refused_by_size fault };
+
     fn from(fault: SizeFault) -> BuildFault {
         match fault {
             SizeFault::BadParameter { which, value } => BuildFault::BadParameter { which, value },

@@ -21,6 +21,9 @@ impl Index {
         requires block { big ≤ 256 }
         requires most { words ≤ 2 ^ 20 }
         requires whole { vec_len entries ≡ words * (17 + 8 * b) }
+        ensures b { result.b ≡ b }
+        ensures big { result.big ≡ big }
+        ensures words { result.words ≡ words }
     {
         Index {
             b,

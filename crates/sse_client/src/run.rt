@@ -40,6 +40,7 @@ pub fn sse_run<K: Keyed, L: Link, D: Disk, S: Source, W: Sink>(
     ensures sink_failed { result ≡ 4 → Rose (W.faults sink.old) (W.faults sink.new) }
     ensures link_failed { result ≡ 5 → Rose (L.faults link.old) (L.faults link.new) }
     ensures disk { disk.new ≡ disk.old }
+    ensures known { (result ≤ 9) × (result ≢ 6) }
 {
     let ended = match mode_of(words) {
         Some(Mode::Run) => run_script(alloc, keyed, link, source, sink),
@@ -148,6 +149,7 @@ pub fn run_in_memory<K: Keyed + Copy, S: Source, W: Sink>(
     ensures source_failed { result ≡ 3 → Rose (S.faults source.old) (S.faults source.new) }
     ensures sink_failed { result ≡ 4 → Rose (W.faults sink.old) (W.faults sink.new) }
     ensures no_link_fault { result ≢ 5 }
+    ensures known { (result ≤ 9) × (result ≢ 6) }
 {
     let mut link = SteadyLoopback::new(alloc, *keyed);
     let mut disk = SteadyDisk::new(alloc);

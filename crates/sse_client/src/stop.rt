@@ -1,4 +1,4 @@
-ghost use Rattle.std.specs.Prelude.{◌≡◌, ◌≤◌};
+ghost use Rattle.std.specs.Prelude.{◌≡◌, ◌≢◌, ◌≤◌};
 ghost use Rattle.sse_client.specs.Stops as stops;
 
 use crate::peer_stop::PeerStop;
@@ -32,6 +32,7 @@ impl Stop {
         ensures source { result ≡ 3 → self.now ≡ Stop.Source }
         ensures sink { result ≡ 4 → self.now ≡ Stop.Sink }
         ensures link { result ≡ 5 → self.now ≡ Stop.Peer PeerStop.Link }
+        ensures known { (2 ≤ result) × (result ≤ 9) × (result ≢ 6) }
     {
         match self {
             Stop::Words => 2,
@@ -59,6 +60,7 @@ impl Stop {
 fn peer_status(stop: &PeerStop) -> u8
     ensures status { result ≡ stops.peer_status stop.now }
     ensures least { 5 ≤ result }
+    ensures known { (result ≤ 9) × (result ≢ 6) }
     ensures link { result ≡ 5 → stop.now ≡ PeerStop.Link }
 {
     match stop {
