@@ -7,6 +7,8 @@ pub mod WordsLaws
 pub mod IndexedLaws
 pub mod PushLaws
 pub mod AcceptanceLaws
+pub mod FromEnd
+pub mod DistinctLaws
 pub mod OverLaws
 pub mod LiveLaws
 pub mod OrderLaws

@@ -1,5 +1,5 @@
 -- A search changes nothing; one command more; what is listed.
-use Rattle.std.proofs.Common.{◌≡◌, ℕ, ◌≤◌, Bool, true, false, cond, not, ◌||◌, ◌&&◌, List, [], ◌∷◌, ◌++◌, length, map, filter, refl, sym, ap, ◌∙◌, subst, arith, append_assoc, eqb-true}
+use Rattle.std.proofs.Common.{◌≡◌, ℕ, ◌≤◌, Bool, true, false, cond, not, ◌||◌, ◌&&◌, List, [], ◌∷◌, ◌++◌, length, map, filter, refl, sym, ap, ◌∙◌, arith, eqb-true}
 use Rattle.std.specs.Prelude.{flat_map, ◌==◌, if◌then◌else◌}
 use Rattle.std.specs.List.{list_any}
 use Rattle.std.proofs.lemmas.Bool.{true≢false}
@@ -8,6 +8,7 @@ use Rattle.std.proofs.lemmas.List.Folds.{list_any-append}
 use Rattle.std.proofs.lemmas.List.Concat.{flat_map-append}
 use Rattle.std.proofs.lemmas.List.Elements.{filter-append}
 use Rattle.std.proofs.lemmas.List.Sums.{fold-append}
+use Rattle.client_registry.proofs.FromEnd.{from_end}
 use Rattle.client_registry.proofs.OverLaws.{over-append, flat-over-filter}
 use Rattle.client_registry.specs.Command.{Command, Add, Delete, Search, is_update}
 use Rattle.client_registry.specs.Document.{Document}
@@ -65,14 +66,6 @@ added_list-push s cs c word =
     ap (flat_map (λ ids. ids)) (over-append (newly_listed s word) [] cs (c ∷ []))
     ∙ flat_map-append (λ ids. ids) (over (newly_listed s word) [] cs) (newly_listed s word cs c ∷ [])
     ∙ ap (λ r. added_list s cs word ++ r) (append-nil (newly_listed s word cs c))
-
--- what holds of the empty list, and of a list with one more behind, holds of each
-pub from_end : {A : Type 0} (P : List A → Type 0) → P [] → ((xs : List A) (x : A) → P xs → P (xs ++ x ∷ [])) → (xs : List A) → P xs
-from_end {A} P nil push xs = go [] xs nil
-  where
-    go : (done rest : List A) → P done → P (done ++ rest)
-    go done [] p = subst P (sym (append-nil done)) p
-    go done (x ∷ rest) p = subst P (append_assoc done (x ∷ []) rest) (go (done ++ x ∷ []) rest (push done x p))
 
 -- a command lists one identifier more of a word at most, and a search none
 length-newly_listed : (s : Setup) (word : List ℕ) (past : List Command) (c : Command) → length (newly_listed s word past c) ≤ length (filter is_update (c ∷ []))

@@ -1,6 +1,9 @@
 -- Numbers without repeats: put in order they rise, and which ones there are decides the list.
-use Rattle.std.proofs.Common.{◌≡◌, ℕ, ◌<◌, ◌≤◌, Bool, true, false, cond, ◌||◌, ◌&&◌, inl, inr, List, [], ◌∷◌, ◌++◌, map, filter, refl, sym, ap, ◌∙◌, subst, arith, eqb-true, nat_le, nat_eq}
-use Rattle.std.specs.Prelude.{◌==◌, if◌then◌else◌}
+use Rattle.std.proofs.Common.{◌≡◌, ℕ, suc, ◌+◌, ◌<◌, ◌≤◌, Bool, true, false, cond, ◌||◌, ◌&&◌, inl, inr, List, [], ◌∷◌, ◌++◌, length, get_or, map, filter, refl, sym, ap, ◌∙◌, subst, arith, eqb-true, nat_le, nat_eq}
+use Rattle.std.specs.Prelude.{◌==◌, if◌then◌else◌, sum_by, IsPermutation}
+use Rattle.std.specs.List.Sorted.{IsNonDecreasing}
+use Rattle.std.proofs.lemmas.List.Sums.{sum_by-cons}
+use Rattle.std.proofs.lemmas.List.Sorted.{sum_by-IsPermutation}
 use Rattle.std.specs.List.{IsDistinct, AllByRecursion}
 use Rattle.std.proofs.lemmas.Bool.{true≢false, eqb-false, leb-true, leb-false, or_cases, cases_Bool}
 use Rattle.std.proofs.lemmas.Cmp.{nat_eq_equiv}
@@ -190,3 +193,108 @@ same_rising (x ∷ xs) (y ∷ ys) a b same = λ i. heads i ∷ same_rising xs ys
 pub in_order-same : (xs ys : List ℕ) → AreApart xs → AreApart ys → ((q : ℕ) → among q xs ≡ among q ys) → in_order xs ≡ in_order ys
 in_order-same xs ys a b same =
     same_rising (in_order xs) (in_order ys) (IsRising-in_order xs a) (IsRising-in_order ys b) (λ q. among-in_order q xs ∙ same q ∙ sym (among-in_order q ys))
+
+-- Sorted.
+
+-- how often a number stands there
+abbrev pub times : ℕ → List ℕ → ℕ
+times q xs = sum_by (λ x. cond (x == q) 1 0) xs
+
+-- no number is above one after it
+abbrev pub IsClimbing : List ℕ → Type 0
+IsClimbing [] = Unit {0}
+IsClimbing (x ∷ xs) = ((q : ℕ) → among q xs ≡ true → x ≤ q) × IsClimbing xs
+
+times-insert_in_order : (q n : ℕ) (xs : List ℕ) → times q (insert_in_order n xs) ≡ cond (n == q) 1 0 + times q xs
+times-insert_in_order q n [] = sum_by-cons (λ x. cond (x == q) 1 0) n []
+times-insert_in_order q n (x ∷ xs) = by (nat_le n x) (times-insert_in_order q n xs)
+  where
+    by : (b : Bool) → times q (insert_in_order n xs) ≡ cond (n == q) 1 0 + times q xs → times q (if b then n ∷ x ∷ xs else x ∷ insert_in_order n xs) ≡ cond (n == q) 1 0 + times q (x ∷ xs)
+    by true h = sum_by-cons (λ y. cond (y == q) 1 0) n (x ∷ xs)
+    by false h = omega (arith, h, sum_by-cons (λ y. cond (y == q) 1 0) x (insert_in_order n xs), sum_by-cons (λ y. cond (y == q) 1 0) x xs)
+
+times-in_order : (q : ℕ) (xs : List ℕ) → times q (in_order xs) ≡ times q xs
+times-in_order q [] = refl
+times-in_order q (x ∷ xs) = omega (arith, times-insert_in_order q x (in_order xs), times-in_order q xs, sum_by-cons (λ y. cond (y == q) 1 0) x xs)
+
+IsClimbing-insert : (n : ℕ) (xs : List ℕ) → IsClimbing xs → IsClimbing (insert_in_order n xs)
+IsClimbing-insert n [] climbs = ((λ q e. absurd (true≢false (sym e))), tt)
+IsClimbing-insert n (x ∷ xs) climbs = by (nat_le n x) refl (IsClimbing-insert n xs climbs.1)
+  where
+    above : n ≤ x → (q : ℕ) → among q (x ∷ xs) ≡ true → n ≤ q
+    above le q e = elim (or_cases (x == q) (among q xs) e) [
+      | inl same ↦ (let here : x ≡ q = eqb-true x q same in omega arith)
+      | inr later ↦ (let up : x ≤ q = climbs.0 q later in omega arith)
+    ]
+
+    below : x < n → (q : ℕ) → among q (insert_in_order n xs) ≡ true → x ≤ q
+    below lt q e = elim (or_cases (n == q) (among q xs) (sym (among-insert_in_order q n xs) ∙ e)) [
+      | inl same ↦ (let here : n ≡ q = eqb-true n q same in omega arith)
+      | inr later ↦ climbs.0 q later
+    ]
+
+    by : (b : Bool) → nat_le n x ≡ b → IsClimbing (insert_in_order n xs) → IsClimbing (if b then n ∷ x ∷ xs else x ∷ insert_in_order n xs)
+    by true e h = (above (leb-true n x e), climbs)
+    by false e h = (below (leb-false n x e), h)
+
+IsClimbing-in_order : (xs : List ℕ) → IsClimbing (in_order xs)
+IsClimbing-in_order [] = tt
+IsClimbing-in_order (x ∷ xs) = IsClimbing-insert x (in_order xs) (IsClimbing-in_order xs)
+
+-- a number that is not among them stands there no time
+times-none : (q : ℕ) (xs : List ℕ) → among q xs ≡ false → times q xs ≡ 0
+times-none q [] h = refl
+times-none q (x ∷ xs) h =
+    let parts = or_both (x == q) (among q xs) h in
+    sum_by-cons (λ y. cond (y == q) 1 0) x xs ∙ (λ i. cond (parts.0 i) 1 0 + times-none q xs parts.1 i)
+
+among-from_times : (q : ℕ) (xs : List ℕ) → 1 ≤ times q xs → among q xs ≡ true
+among-from_times q xs h = elim (cases_Bool (among q xs)) [ inl e ↦ e | inr e ↦ absurd (omega (arith, h, times-none q xs e)) ]
+
+times-head : (x : ℕ) (xs : List ℕ) → 1 ≤ times x (x ∷ xs)
+times-head x xs =
+    let one : cond (x == x) 1 0 ≡ 1 = ap (λ b. cond {A = ℕ} b 1 0) (nat_eq_equiv.refl x) in
+    omega (arith, sum_by-cons (λ y. cond (y == x) 1 0) x xs, one)
+
+-- climbing numbers are determined by how often each stands there
+same_climbing : (xs ys : List ℕ) → IsClimbing xs → IsClimbing ys → ((q : ℕ) → times q xs ≡ times q ys) → xs ≡ ys
+same_climbing [] [] a b same = refl
+same_climbing [] (y ∷ ys) a b same = absurd (omega (arith, same y, times-head y ys))
+same_climbing (x ∷ xs) [] a b same = absurd (omega (arith, same x, times-head x xs))
+same_climbing (x ∷ xs) (y ∷ ys) a b same = λ i. heads i ∷ same_climbing xs ys a.1 b.1 tails i
+  where
+    heads : x ≡ y
+    heads = elim (or_cases (y == x) (among x ys) (among-from_times x (y ∷ ys) (omega (arith, same x, times-head x xs)))) [
+      | inl e ↦ sym (eqb-true y x e)
+      | inr later ↦ (elim (or_cases (x == y) (among y xs) (among-from_times y (x ∷ xs) (omega (arith, same y, times-head y ys)))) [
+        | inl e ↦ eqb-true x y e
+        | inr also ↦ (let up : y ≤ x = b.0 x later in let down : x ≤ y = a.0 y also in omega arith)
+      ])
+    ]
+
+    tails : (q : ℕ) → times q xs ≡ times q ys
+    tails q =
+        let alike : cond (x == q) 1 0 ≡ cond (y == q) 1 0 = ap (λ z. cond {A = ℕ} (z == q) 1 0) heads in
+        omega (arith, same q, sum_by-cons (λ z. cond (z == q) 1 0) x xs, sum_by-cons (λ z. cond (z == q) 1 0) y ys, alike)
+
+-- a number that is among them stands at some place
+among-place : (q : ℕ) (xs : List ℕ) → among q xs ≡ true → (k : ℕ) × (k < length xs) × (get_or xs k 0 ≡ q)
+among-place q [] h = absurd (true≢false (sym h))
+among-place q (x ∷ xs) h = elim (or_cases (x == q) (among q xs) h) [
+  | inl same ↦ (0, omega arith, eqb-true x q same)
+  | inr later ↦ (let place = among-place q xs later in (suc place.0, omega (arith, place.1), place.2))
+]
+
+-- numbers that don't fall climb
+IsClimbing-from_order : (xs : List ℕ) → IsNonDecreasing xs → IsClimbing xs
+IsClimbing-from_order [] up = tt
+IsClimbing-from_order (x ∷ xs) up = (
+  (λ q h. let place = among-place q xs h in subst (λ z. x ≤ z) place.2 (up 0 (suc place.0) 0 (omega arith) (omega (arith, place.1)))),
+  IsClimbing-from_order xs (λ i j d le lt. up (suc i) (suc j) d (omega (arith, le)) (omega (arith, lt))),
+)
+
+-- the same numbers, none of them below one before it, are the numbers in order; a sort gives both
+pub in_order-sorted : (xs ys : List ℕ) → IsPermutation xs ys → IsNonDecreasing ys → ys ≡ in_order xs
+in_order-sorted xs ys same up =
+    same_climbing ys (in_order xs) (IsClimbing-from_order ys up) (IsClimbing-in_order xs)
+    (λ q. sum_by-IsPermutation (λ x. cond (x == q) 1 0) xs ys same ∙ sym (times-in_order q xs))

@@ -32,13 +32,13 @@ or_false false false h = (refl, refl)
 or_false true b h = absurd (true≢false h)
 or_false false true h = absurd (true≢false h)
 
--- different numbers, and one more that is none of them
-IsDistinct-push : (ks : List ℕ) (k : ℕ) → IsDistinct nat_eq ks → list_any (nat_eq k) ks ≡ false → IsDistinct nat_eq (ks ++ k ∷ [])
+-- different values, and one more that is none of them
+pub IsDistinct-push : {K : Type 0} (eq : K → K → Bool) (symm : (x y : K) → eq x y ≡ eq y x) (ks : List K) (k : K) → IsDistinct eq ks → list_any (eq k) ks ≡ false → IsDistinct eq (ks ++ k ∷ [])
 unfolding IsDistinct
-IsDistinct-push [] k d new = (tt, tt)
-IsDistinct-push (x ∷ ks) k d new =
-    let parts = or_false (nat_eq k x) (list_any (nat_eq k) ks) new in
-    (AllByRecursion-push (λ y. nat_eq x y ≡ false) ks k d.0 (nat_eq-symm x k ∙ parts.0), IsDistinct-push ks k d.1 parts.1)
+IsDistinct-push eq symm [] k d new = (tt, tt)
+IsDistinct-push eq symm (x ∷ ks) k d new =
+    let parts = or_false (eq k x) (list_any (eq k) ks) new in
+    (AllByRecursion-push (λ y. eq x y ≡ false) ks k d.0 (symm x k ∙ parts.0), IsDistinct-push eq symm ks k d.1 parts.1)
 
 list_any-map : {X Y : Type 0} (p : Y → Bool) (f : X → Y) (xs : List X) → list_any p (map f xs) ≡ list_any (λ x. p (f x)) xs
 list_any-map p f [] = refl
@@ -64,7 +64,7 @@ module _ (docs : List Document) (doc : Document) where
     pairs = omega (arith, pairs_of-push);
     different =
         subst (IsDistinct (λ x y. x == y)) (sym (map-append (λ (d : Document). d.id) docs (doc ∷ [])))
-        (IsDistinct-push (map (λ d. d.id) docs) doc.id had.different (list_any-map (nat_eq doc.id) (λ (d : Document). d.id) docs ∙ new));
+        (IsDistinct-push nat_eq nat_eq-symm (map (λ d. d.id) docs) doc.id had.different (list_any-map (nat_eq doc.id) (λ (d : Document). d.id) docs ∙ new));
     are_documents = All-push IsDocument docs doc had.are_documents valid;
   }
 

@@ -6,7 +6,8 @@ use Rattle.std.proofs.lemmas.Bool.{and_parts, not-true}
 use Rattle.std.proofs.lemmas.Cmp.{nat_eq_equiv}
 use Rattle.std.proofs.lemmas.List.{append-nil, map-append}
 use Rattle.std.proofs.lemmas.List.Folds.{list_all-append}
-use Rattle.client_registry.proofs.LiveLaws.{among, among-ids_with, added_list-push, from_end, is_listed-lists, live-push, live_pairs_are_listed}
+use Rattle.client_registry.proofs.FromEnd.{from_end}
+use Rattle.client_registry.proofs.LiveLaws.{among, among-ids_with, added_list-push, is_listed-lists, live-push, live_pairs_are_listed}
 use Rattle.client_registry.proofs.OrderLaws.{AreApart, AreApart-from_IsDistinct, AreApart-push, AreApart-filter, AreApart-map_filter, among-filter, in_order-same}
 use Rattle.client_registry.proofs.OverLaws.{over-append}
 use Rattle.client_registry.specs.Command.{Command, Add, Delete, Search}

@@ -1,10 +1,11 @@
 -- What is accepted is sized.
-use Rattle.std.proofs.Common.{◌≡◌, ℕ, ◌+◌, ◌*◌, ◌<◌, ◌≤◌, ◌^◌, Bool, true, false, not, ◌&&◌, [], ◌∷◌, ◌++◌, length, filter, Option, None, Some, nat_lt, nat_le, refl, ap, ◌∙◌, arith}
-use Rattle.std.specs.Prelude.{if◌then◌else◌}
+use Rattle.std.proofs.Common.{◌≡◌, ℕ, ◌+◌, ◌*◌, ◌<◌, ◌≤◌, ◌^◌, Bool, true, false, not, ◌&&◌, List, [], ◌∷◌, ◌++◌, length, filter, Option, None, Some, nat_lt, nat_le, refl, sym, ap, subst, append_assoc, ◌∙◌, arith}
+use Rattle.std.specs.Prelude.{All, flat_map, bytes_eq, if◌then◌else◌}
 use Rattle.std.specs.List.{list_all}
 use Rattle.std.specs.Option.{option_or}
 use Rattle.std.proofs.lemmas.Bool.{and_parts, and_from, leb-true, ltb-false}
-use Rattle.std.proofs.lemmas.List.{length-append, length_push}
+use Rattle.std.proofs.lemmas.List.{append-nil, get_or_append_left, length-append, length_push}
+use Rattle.std.proofs.lemmas.List.Concat.{flat_map-append}
 use Rattle.std.proofs.lemmas.List.Elements.{All-nil, All-push, filter-append}
 use Rattle.std.proofs.lemmas.List.Folds.{list_all-append}
 use Rattle.std.proofs.Math.Nat.{mul-le-mul_left, div-le_self}
@@ -12,11 +13,11 @@ use Rattle.client_registry.proofs.OverLaws.{over-append}
 use Rattle.client_registry.proofs.WordsLaws.{length-first_seen}
 use Rattle.client_registry.specs.Acceptance.{blocks_of, index_bytes, frames_needed, is_within, parameter_refusal, list_refusal, bytes_refusal, setup_refusal}
 use Rattle.client_registry.specs.Command.{Command, is_update}
-use Rattle.client_registry.specs.Documents.{all_words, IsCollected}
+use Rattle.client_registry.specs.Documents.{all_words, first_seen, IsCollected}
 use Rattle.client_registry.specs.Over.{over}
 use Rattle.client_registry.specs.Run.{Run}
 use Rattle.client_registry.specs.Setup.{Setup, setup_words}
-use Rattle.client_registry.specs.Sized.{is_accepted, update_frames, IsSizedCommand, IsSized}
+use Rattle.client_registry.specs.Sized.{IsHistory, is_accepted, update_frames, words_named, run_words, IsSizedCommand, IsSized}
 use Rattle.client_registry.specs.declared.faults.SizeFault.TheVariants.{BadParameter, TooManyBytes}
 
 -- nothing is refused where no cause stands
@@ -65,31 +66,86 @@ module _ (s : Setup) (h : setup_refusal s.documents s.shape.b s.shape.big ≡ No
   accepted_frames collected =
       omega (arith, accepted_blocks, length-first_seen (all_words s.documents), collected.pairs, div-le_self (length (setup_words s)) 1024, div-le_self (blocks_of s) 256)
 
--- an accepted setup alone is sized
+-- an accepted setup alone is a history
+pub IsHistory-setup : (s : Setup) → IsCollected s.documents → setup_refusal s.documents s.shape.b s.shape.big ≡ None → IsHistory (record { setup = s; later = [] })
+IsHistory-setup s collected h = record { collected = collected; setup = h; each = All-nil IsSizedCommand; accepted = refl }
+
+-- and is sized
 pub IsSized-setup : (s : Setup) → IsCollected s.documents → setup_refusal s.documents s.shape.b s.shape.big ≡ None → IsSized (record { setup = s; later = [] })
 IsSized-setup s collected h = record {
-  collected = collected;
-  setup = h;
-  each = All-nil IsSizedCommand;
-  accepted = refl;
+  history = IsHistory-setup s collected h;
   commands = omega arith;
   frames = omega (arith, accepted_frames s h collected);
+  words = omega (arith, ap (λ words. length (first_seen words)) (append-nil (all_words s.documents)), length-first_seen (all_words s.documents), collected.pairs);
 }
 
 -- the same run with one command more
 abbrev pub then_command : Run → Command → Run
 then_command run c = record { setup = run.setup; later = run.later ++ c ∷ [] }
 
--- a sized run stays so with one accepted command more, where its numbers don't run out
-pub IsSized-push : (run : Run) (c : Command) → IsSized run → IsSizedCommand c → is_accepted run.setup run.later c ≡ true → length run.later + 2 < 2 ^ 32 → update_frames run + length (filter is_update (c ∷ [])) < 2 ^ 32 → IsSized (then_command run c)
-IsSized-push run c sized one ok commands frames = record {
-  collected = sized.collected;
-  setup = sized.setup;
-  each = All-push IsSizedCommand run.later c sized.each one;
+-- a history stays one with one accepted command more
+pub IsHistory-push : (run : Run) (c : Command) → IsHistory run → IsSizedCommand c → is_accepted run.setup run.later c ≡ true → IsHistory (then_command run c)
+IsHistory-push run c was one ok = record {
+  collected = was.collected;
+  setup = was.setup;
+  each = All-push IsSizedCommand run.later c was.each one;
   accepted =
       ap (list_all (λ accepted. accepted)) (over-append (is_accepted run.setup) [] run.later (c ∷ []))
       ∙ list_all-append (λ accepted. accepted) (over (is_accepted run.setup) [] run.later) (is_accepted run.setup run.later c ∷ [])
-      ∙ and_from (list_all (λ accepted. accepted) (over (is_accepted run.setup) [] run.later)) (is_accepted run.setup run.later c && true) sized.accepted (ap (λ b. b && true) ok);
+      ∙ and_from (list_all (λ accepted. accepted) (over (is_accepted run.setup) [] run.later)) (is_accepted run.setup run.later c && true) was.accepted (ap (λ b. b && true) ok);
+}
+
+-- it has so many update frames more
+pub update_frames-push : (run : Run) (c : Command) → update_frames (then_command run c) ≡ update_frames run + length (filter is_update (c ∷ []))
+update_frames-push run c =
+    omega (arith, ap length (filter-append is_update run.later (c ∷ [])), length-append (filter is_update run.later) (filter is_update (c ∷ [])))
+
+-- a sized run stays so with one accepted command more, where its numbers don't run out
+pub IsSized-push : (run : Run) (c : Command) → IsSized run → IsSizedCommand c → is_accepted run.setup run.later c ≡ true → length run.later + 2 < 2 ^ 32 → update_frames run + length (filter is_update (c ∷ [])) < 2 ^ 32
+    → length (run_words (then_command run c)) < 2 ^ 32 → IsSized (then_command run c)
+IsSized-push run c sized one ok commands frames words = record {
+  history = IsHistory-push run c sized.history one ok;
   commands = omega (arith, commands, length_push run.later c);
-  frames = omega (arith, frames, ap length (filter-append is_update run.later (c ∷ [])), length-append (filter is_update run.later) (filter is_update (c ∷ [])));
+  frames = omega (arith, frames, update_frames-push run c);
+  words = words;
+}
+
+All-front : (P : Command → Type 0) (xs ys : List Command) → All P (xs ++ ys) → All P xs
+All-front P xs ys all = λ k d lt. subst P (get_or_append_left xs ys d k lt) (all k d (omega (arith, lt, length-append xs ys)))
+
+-- the front of a history is one
+pub IsHistory-front : (s : Setup) (xs ys : List Command) → IsHistory (record { setup = s; later = xs ++ ys }) → IsHistory (record { setup = s; later = xs })
+IsHistory-front s xs ys was = record {
+  collected = was.collected;
+  setup = was.setup;
+  each = All-front IsSizedCommand xs ys was.each;
+  accepted =
+      (and_parts (list_all (λ accepted. accepted) (over (is_accepted s) [] xs)) (list_all (λ accepted. accepted) (over (is_accepted s) xs ys))
+      (sym (ap (list_all (λ accepted. accepted)) (over-append (is_accepted s) [] xs ys) ∙ list_all-append (λ accepted. accepted) (over (is_accepted s) [] xs) (over (is_accepted s) xs ys)) ∙ was.accepted)).0;
+}
+
+-- the words of a front come first
+first_seen-front : (xs ys : List (List ℕ)) → (more : List (List ℕ)) × (first_seen (xs ++ ys) ≡ first_seen xs ++ more)
+first_seen-front [] ys = (first_seen ys, refl)
+first_seen-front (x ∷ xs) ys =
+    let rest = first_seen-front xs ys in
+    let other : List ℕ → Bool = λ w. not (bytes_eq x w) in
+    (filter other rest.0, ap (λ words. x ∷ filter other words) rest.1 ∙ ap (λ words. x ∷ words) (filter-append other (first_seen xs) rest.0))
+
+-- a front has no more of them
+fewer_words : (s : Setup) (xs ys : List Command) → length (run_words (record { setup = s; later = xs })) ≤ length (run_words (record { setup = s; later = xs ++ ys }))
+fewer_words s xs ys =
+    let known = all_words s.documents ++ flat_map words_named xs in
+    let rest = first_seen-front known (flat_map words_named ys) in
+    let same : all_words s.documents ++ flat_map words_named (xs ++ ys) ≡ known ++ flat_map words_named ys =
+    ap (λ words. all_words s.documents ++ words) (flat_map-append words_named xs ys) ∙ sym (append_assoc (all_words s.documents) (flat_map words_named xs) (flat_map words_named ys)) in
+    omega (arith, ap (λ words. length (first_seen words)) same, ap length rest.1, length-append (first_seen known) rest.0)
+
+-- the front of a sized run is sized
+pub IsSized-front : (s : Setup) (xs ys : List Command) → IsSized (record { setup = s; later = xs ++ ys }) → IsSized (record { setup = s; later = xs })
+IsSized-front s xs ys sized = record {
+  history = IsHistory-front s xs ys sized.history;
+  commands = omega (arith, sized.commands, length-append xs ys);
+  frames = omega (arith, sized.frames, ap length (filter-append is_update xs ys), length-append (filter is_update xs) (filter is_update ys));
+  words = omega (arith, sized.words, fewer_words s xs ys);
 }

@@ -216,7 +216,7 @@ once : (v : List ℕ) (ws : List (List ℕ)) → first_repeat ws ≡ None → le
 once v ws clear = once_over v [] ws clear refl
 
 -- the words of a document differ
-accepted_words : (ws : List (List ℕ)) → doc_refusal ws ≡ None → first_repeat ws ≡ None
+pub accepted_words : (ws : List (List ℕ)) → doc_refusal ws ≡ None → first_repeat ws ≡ None
 accepted_words ws h = by (nat_lt 4096 (length ws)) (first_repeat ws) h
   where
     by : (b : Bool) (o : Option ℕ) → (if b then Some (TooManyWords (length ws)) else option_map (λ position. RepeatedWord position) o) ≡ None → o ≡ None

@@ -1,10 +1,10 @@
 -- Which commands are accepted, and which runs keep all limits.
-use Rattle.std.specs.Prelude.{◌≡◌, ℕ, ◌+◌, ◌^◌, ◌<◌, ◌≤◌, Bool, true, not, ◌&&◌, ◌||◌, ◌-◌, nat_lt, List, [], length, filter, All, None}
+use Rattle.std.specs.Prelude.{◌≡◌, ℕ, ◌+◌, ◌^◌, ◌<◌, ◌≤◌, Bool, true, not, ◌&&◌, ◌||◌, ◌-◌, nat_lt, List, [], ◌∷◌, ◌++◌, length, filter, flat_map, All, None}
 use Rattle.std.specs.List.{list_all}
 use Rattle.client_registry.specs.Acceptance.{frames_needed, setup_refusal}
 use Rattle.client_registry.specs.Command.{Command, Add, Delete, Search, is_update}
 use Rattle.client_registry.specs.DocumentRule.{IsDocument}
-use Rattle.client_registry.specs.Documents.{is_live, IsCollected}
+use Rattle.client_registry.specs.Documents.{all_words, first_seen, is_live, IsCollected}
 use Rattle.client_registry.specs.Live.{live, counter, is_listed}
 use Rattle.client_registry.specs.Over.{over}
 use Rattle.client_registry.specs.Run.{Run}
@@ -27,11 +27,26 @@ IsSizedCommand (Add d) = IsDocument d
 IsSizedCommand (Delete id) = (1 ≤ id) × (id < 2 ^ 64)
 IsSizedCommand (Search word) = word_refusal word ≡ None
 
--- all limits of a run: of its documents and words, its index, its commands and its update frames
-pub record IsSized (run : Run) : Type 0 where
+-- what is so of every history: its documents and its setup are accepted, and so is each command after those before it
+pub record IsHistory (run : Run) : Type 0 where
   pub collected : IsCollected run.setup.documents
   pub setup : setup_refusal run.setup.documents run.setup.shape.b run.setup.shape.big ≡ None
   pub each : All IsSizedCommand run.later
   pub accepted : list_all (λ accepted. accepted) (over (is_accepted run.setup) [] run.later) ≡ true
+
+-- the words that a command names
+abbrev pub words_named : Command → List (List ℕ)
+words_named (Add d) = d.words
+words_named (Delete id) = []
+words_named (Search word) = word ∷ []
+
+-- the different words of a run by first appearance: setup's, then those of each addition and each search
+abbrev pub run_words : Run → List (List ℕ)
+run_words run = first_seen (all_words run.setup.documents ++ flat_map words_named run.later)
+
+-- a history whose commands, update frames and words can each be numbered in 32 bits
+pub record IsSized (run : Run) : Type 0 where
+  pub history : IsHistory run
   pub commands : length run.later + 1 < 2 ^ 32
   pub frames : update_frames run < 2 ^ 32
+  pub words : length (run_words run) < 2 ^ 32
