@@ -19,3 +19,4 @@ pub mod ReplyNoFault
 pub mod Only
 pub mod Sorted
 pub mod Replied
+pub mod AnswerPages

@@ -3,7 +3,7 @@
 pub enum Reply<'a> {
     /// To Hello: the number that the server expects next.
     Next(u32),
-    /// The update frame of this number was applied, now or before.
+    /// The update frame of this number was applied.
     Took(u32),
     /// An update frame with another number than this one, which the server expects next.
     Number(u32),
