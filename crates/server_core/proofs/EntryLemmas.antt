@@ -14,7 +14,7 @@ use Rattle.std.proofs.lemmas.List.{length-map, length-drop, drop-drop, drop-take
 use Rattle.sse_frames.specs.Frames.{Entry, Rises, labels_of}
 use Rattle.sse_frames.specs.Seen.{entry_in, entries_in}
 use Rattle.server_core.specs.Dictionary.{CellMap}
-use Rattle.server_core.specs.Step.{first_known}
+use Rattle.server_core.specs.Refusal.{first_known}
 use Rattle.server_core.proofs.Places.{turned}
 
 -- one item less in the number, one less in the quotient

@@ -1,4 +1,5 @@
-mod EntryLemmas
+pub mod EntryLemmas
+pub mod Laws
 mod Places
 mod Rows
 mod SearchLemmas

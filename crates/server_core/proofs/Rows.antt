@@ -6,12 +6,14 @@ use Rattle.std.specs.FinMap as map
 use Rattle.std.specs.FinSet as set
 use Rattle.keyed_fn.specs.KeyedFn.{KeyedFn, keyed_fn}
 use Rattle.keyed_fn.specs.Toy.{toy_prf, toy_pad}
-use Rattle.sse_frames.specs.Frames.{Entry, Hello, SetupBegin, SetupDict, SetupEnd, SearchFrame}
+use Rattle.sse_frames.specs.Frames.{Entry, Hello, SetupBegin, SetupDict, SetupEnd, AddFrame, DeleteFrame, SearchFrame}
 use Rattle.sse_frames.specs.Replies.{Next, Took, Number, Clash, Page, OutOfPlace}
+use Rattle.search_token.specs.TokenKeys.{keys_of_bytes}
 use Rattle.server_core.specs.declared.stage.Stage.TheVariants.{Filling, Ready}
 use Rattle.server_core.specs.State.{ServerState, at_first}
-use Rattle.server_core.specs.Search.{listed, no_block}
-use Rattle.server_core.specs.Step.{step}
+use Rattle.server_core.specs.Search.{listed, no_block, found}
+use Rattle.server_core.specs.Refusal.{clash}
+use Rattle.server_core.specs.Step.{step, taken}
 
 abbrev toy : KeyedFn
 toy = keyed_fn toy_prf toy_pad
@@ -30,7 +32,14 @@ abbrev rising : ℕ → ℕ → List ℕ
 rising zero first = []
 rising (suc n) first = first ∷ rising n (first + 1)
 
--- the word's label, with its cell and with another
+-- the tokens of the words `a` and `c`
+abbrev of_a : List ℕ
+of_a = rising 32 0xc3 ++ rising 32 0xc4 ++ rising 32 0xc5 ++ rising 32 0xc6 ++ rising 32 0xc7
+
+abbrev of_c : List ℕ
+of_c = rising 32 0xc7 ++ rising 32 0xc8 ++ rising 32 0xc9 ++ rising 32 0xca ++ rising 32 0xcb
+
+-- the label of `a` with its cell
 abbrev entry : Entry
 entry = record { label = hex (codes "c3c5c7c9cbcdcfd1d3d5d7d9dbdddfe1"); text = hex (codes "c4c5c6c7c8c9cacbcd") }
 
@@ -56,11 +65,11 @@ end_row : step toy filled (SetupEnd 2) ≡ (whole, Took 2 ∷ [])
 end_row = simp (map.gets)
 
 -- the setup's list of `a`, by the five keys of its token
-search_row : step toy whole (SearchFrame (rising 32 0xc3 ++ rising 32 0xc4 ++ rising 32 0xc5 ++ rising 32 0xc6 ++ rising 32 0xc7)) ≡ (whole, Page true (1 ∷ []) ∷ [])
+search_row : step toy whole (SearchFrame of_a) ≡ (whole, Page true (1 ∷ []) ∷ [])
 search_row = simp (map.gets, set.members)
 
 -- another word's list has no label
-missing_row : step toy whole (SearchFrame (rising 32 0xc7 ++ rising 32 0xc8 ++ rising 32 0xc9 ++ rising 32 0xca ++ rising 32 0xcb)) ≡ (whole, Page true [] ∷ [])
+missing_row : step toy whole (SearchFrame of_c) ≡ (whole, Page true [] ∷ [])
 missing_row = simp (map.gets, set.members)
 
 -- a frame that comes again, and one before its time
@@ -106,3 +115,55 @@ pointer_row = refl
 
 no_pointer_row : listed no_block (hex (codes "020000000000000000")) ≡ Some []
 no_pointer_row = refl
+
+-- a list of two identifiers over cells of one and blocks of two: its cell points to a block of the array
+abbrev with_block : ServerState
+with_block = record whole {
+  shape = record { b = 1; big = 2 };
+  dictionary = map.insert map.empty entry.label (hex (codes "c5c5c6c7c8c9cacbcd"));
+  array = hex (codes "c5c6c7c8c9cacbcdcdcecfd0d1d2d3d6") ∷ [];
+}
+
+block_row : found toy with_block (keys_of_bytes of_a) ≡ Some (1 ∷ 2 ∷ [])
+block_row = simp (map.gets, set.members)
+
+-- document 5 with the word `a` is added, deleted, and added again with `a` and `c`
+abbrev number : List ℕ
+number = hex (codes "eff1f3f5f7f9fbfdff01030507090b0d")
+
+abbrev addition : Entry
+addition = record { label = hex (codes "c5c7c9cbcdcfd1d3d5d7d9dbdddfe1e3"); text = hex (codes "c6c7c8c9cacbccc8") }
+
+abbrev other_addition : Entry
+other_addition = record { label = hex (codes "c9cbcdcfd1d3d5d7d9dbdddfe1e3e5e7"); text = hex (codes "cacbcccdcecfd0d4") }
+
+abbrev added : ServerState
+added = taken whole (AddFrame 3 (addition ∷ []) [])
+
+abbrev deleted : ServerState
+deleted = taken added (DeleteFrame 4 (number ∷ []))
+
+abbrev added_again : ServerState
+added_again = taken deleted (AddFrame 5 (other_addition ∷ []) (number ∷ []))
+
+added_row : found toy added (keys_of_bytes of_a) ≡ Some (1 ∷ 5 ∷ [])
+added_row = simp (map.gets, set.members)
+
+deleted_row : found toy deleted (keys_of_bytes of_a) ≡ Some (1 ∷ [])
+deleted_row = simp (map.gets, set.members)
+
+added_again_row : found toy added_again (keys_of_bytes of_a) ≡ Some (1 ∷ 5 ∷ [])
+added_again_row = simp (map.gets, set.members)
+
+other_word_row : found toy added_again (keys_of_bytes of_c) ≡ Some (5 ∷ [])
+other_word_row = simp (map.gets, set.members)
+
+-- an addition whose label is there, a number to be taken out that isn't there, and one to be put in that is
+addition_clash_row : clash added (AddFrame 4 (addition ∷ []) []) ≡ Some (Clash 2 0)
+addition_clash_row = simp (map.gets)
+
+restored_clash_row : clash added (AddFrame 4 [] (number ∷ [])) ≡ Some (Clash 3 0)
+restored_clash_row = simp (set.members)
+
+deleted_clash_row : clash deleted (DeleteFrame 5 (number ∷ [])) ≡ Some (Clash 3 0)
+deleted_clash_row = simp (set.members)

@@ -1,4 +1,5 @@
 pub mod Dictionary
+pub mod Refusal
 pub mod Search
 pub mod Slots
 pub mod State

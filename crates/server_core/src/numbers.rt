@@ -1,6 +1,6 @@
 ghost use Rattle.std.specs.Prelude.{◌≡◌};
 ghost use Rattle.sse_frames.specs.Seen.{seen};
-ghost use Rattle.server_core.specs.Step.{update_number};
+ghost use Rattle.server_core.specs.Refusal.{update_number};
 
 use sse_frames::Frame;
 

@@ -6,7 +6,8 @@ ghost use Rattle.sse_frames.specs.Seen.{seen, entries_in};
 ghost use Rattle.keyed_fn.specs.KeyedFn.{keyed_fn};
 ghost use Rattle.server_core.specs.Search.{found};
 ghost use Rattle.server_core.specs.State.{at_first, is_ready};
-ghost use Rattle.server_core.specs.Step.{update_number, in_place, clash, refusal, taken, answers, step};
+ghost use Rattle.server_core.specs.Refusal.{update_number, in_place, clash, refusal};
+ghost use Rattle.server_core.specs.Step.{taken, answers, step};
 ghost use Rattle.server_core.specs.Views.{refuse_reply, answer_replies, HasRange, HasRoom, TakesMemory};
 
 use crate::entries::entry_count;
@@ -94,6 +95,7 @@ impl Server {
         ensures refused { IfSome (refusal self.old.state (seen frame.now)) (λ reply. IsErrAnd result (λ e. refuse_reply e ≡ reply)) }
         ensures accepted { refusal self.old.state (seen frame.now) ≡ None → IsOkUnless result Refuse.NoMemory }
         ensures no_memory { result ≡ Err Refuse.NoMemory → TakesMemory (seen frame.now) }
+        ensures memory_last { result ≡ Err Refuse.NoMemory → refusal self.old.state (seen frame.now) ≡ None }
         ensures room { OnOk result (HasRoom self.new.room (seen frame.now)) }
     {
         if let Some(refuse) = self.refusal(frame) {
@@ -164,12 +166,13 @@ impl Server {
     /// a search found where the answer is `Found`.
     ///
     /// `NoMemory` where there is no memory, which never comes for Hello or for a frame that begins or ends
-    /// a setup; the server's state is then as before.
+    /// a setup, nor for one that is refused for another cause; the server's state is then as before.
     pub fn handle<K: Keyed>(&mut self, keyed: &K, frame: &Frame<'_>, out: &mut Vec<u64>) -> Answer
         requires { InGrammar (seen frame.now) }
         ensures state { result ≢ Answer.NoMemory → self.new.state ≡ (step (keyed_fn K.prf K.pad) self.old.state (seen frame.now)).0 }
         ensures replies { result ≢ Answer.NoMemory → answer_replies result out.new.items ≡ (step (keyed_fn K.prf K.pad) self.old.state (seen frame.now)).1 }
         ensures no_memory { result ≡ Answer.NoMemory → (self.new.state ≡ self.old.state) × TakesMemory (seen frame.now) }
+        ensures memory_last { result ≡ Answer.NoMemory → refusal self.old.state (seen frame.now) ≡ None }
         ensures ids { result ≡ Answer.Found → All (λ id. 0 < id) out.new.items }
         ensures range { HasRange result }
     {
@@ -188,6 +191,7 @@ impl Server {
         ensures refused { IfSome (refusal self.old.state (seen frame.now)) (λ reply. (self.new.state ≡ self.old.state) × ((ids : List ℕ) → answer_replies result ids ≡ reply ∷ [])) }
         ensures taken { refusal self.old.state (seen frame.now) ≡ None → result ≢ Answer.NoMemory → (self.new.state ≡ taken self.old.state (seen frame.now)) × (Some self.old.state.next ≡ update_number (seen frame.now)) × (result ≡ Answer.Took self.old.state.next) }
         ensures no_memory { result ≡ Answer.NoMemory → (self.new.state ≡ self.old.state) × TakesMemory (seen frame.now) }
+        ensures memory_last { result ≡ Answer.NoMemory → refusal self.old.state (seen frame.now) ≡ None }
         ensures no_search { result ≢ Answer.Found }
         ensures range { HasRange result }
     {
@@ -222,7 +226,8 @@ impl Server {
     // The first cause that stands, other than want of memory.
     fn refusal(&self, frame: &Frame<'_>) -> Option<Refuse>
         requires { InGrammar (seen frame.now) }
-        ensures { option_map refuse_reply result ≡ refusal self.now.state (seen frame.now) }
+        ensures cause { option_map refuse_reply result ≡ refusal self.now.state (seen frame.now) }
+        ensures no_memory { result ≢ Some Refuse.NoMemory }
     {
         if let Some(q) = number_of(frame)
             && q != self.next
@@ -270,7 +275,8 @@ impl Server {
     // The first collision of the frame with what the server holds.
     fn clash(&self, frame: &Frame<'_>) -> Option<Refuse>
         requires { InGrammar (seen frame.now) }
-        ensures { option_map refuse_reply result ≡ clash self.now.state (seen frame.now) }
+        ensures cause { option_map refuse_reply result ≡ clash self.now.state (seen frame.now) }
+        ensures no_memory { result ≢ Some Refuse.NoMemory }
     {
         let Frame::SetupDict { width, entries, .. } = *frame else {
             return None;

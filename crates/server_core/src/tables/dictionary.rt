@@ -5,7 +5,8 @@ ghost use Rattle.std.specs.Cmp.Lexicographic.{slice_cmp};
 ghost use Rattle.std.specs.Ordering.{nat_cmp};
 ghost use Rattle.sse_frames.specs.Frames.{Rises, labels_of};
 ghost use Rattle.sse_frames.specs.Seen.{entries_in};
-ghost use Rattle.server_core.specs.Step.{first_known, with_entries};
+ghost use Rattle.server_core.specs.Refusal.{first_known};
+ghost use Rattle.server_core.specs.Step.{with_entries};
 
 use super::slot::Slot;
 use crate::entries::next_entry;

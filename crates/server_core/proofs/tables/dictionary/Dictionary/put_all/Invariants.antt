@@ -1,7 +1,8 @@
 use Rattle.std.proofs.Common.{◌≡◌, ◌*◌, ◌≤◌, length, None}
 use Rattle.sse_frames.specs.Frames.{Rises, labels_of}
 use Rattle.sse_frames.specs.Seen.{entries_in}
-use Rattle.server_core.specs.Step.{first_known, with_entries}
+use Rattle.server_core.specs.Refusal.{first_known}
+use Rattle.server_core.specs.Step.{with_entries}
 use Rattle.server_core.proofs.tables.dictionary.Dictionary.put_all.Given as goal
 
 abbrev pub invariant-loop-label : goal.invariant-loop-label
