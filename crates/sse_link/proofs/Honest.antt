@@ -1,16 +1,20 @@
 -- Laws of honest links: what is served joins and splits, and a frame that a server handles is served.
-use Rattle.std.proofs.Common.{◌≡◌, ◌≢◌, ◌⊎◌, inl, inr, ℕ, List, [], ◌∷◌, ◌++◌, map, None, refl, sym, ap, ◌∙◌, subst}
+use Rattle.std.proofs.Common.{◌≡◌, ◌≢◌, ◌⊎◌, inl, inr, ℕ, List, [], ◌∷◌, ◌++◌, map, Option, None, refl, sym, ap, ◌∙◌, subst}
 use Rattle.keyed_fn.specs.KeyedFn.{KeyedFn}
 use Rattle.sse_frames.specs.Frames.{FrameText, Hello, SetupBegin, SetupDict, SetupArray, SetupEnd, AddFrame, DeleteFrame, SearchFrame, InGrammar, frame_bytes}
 use Rattle.sse_frames.specs.Replies.{ReplyText, reply_bytes}
 use Rattle.sse_frames.specs.Reading.{IsBuilt}
+use Rattle.sse_frames.specs.Seen.{seen}
+use Rattle.sse_frames.specs.declared.frame.Frame.{Frame}
+use Rattle.sse_frames.specs.declared.frame.Frame.TheVariants as frames
 use Rattle.server_core.specs.declared.answer.Answer.{Answer}
 use Rattle.server_core.specs.declared.answer.Answer.TheVariants as answers
 use Rattle.server_core.specs.State.{ServerState}
 use Rattle.server_core.specs.Step.{step}
 use Rattle.server_core.specs.Views.{answer_replies, TakesMemory}
-use Rattle.sse_link.specs.Events.{Event, Sent, Received}
-use Rattle.sse_link.specs.Served.{Served, Serves, IsServed, MayLackMemory}
+use Rattle.sse_frames.proofs.Spelling.{one_frame}
+use Rattle.sse_link.specs.Events.{Event, Sent, Received, Remote}
+use Rattle.sse_link.specs.Served.{Served, Serves, IsServed, IsAnswered, MayLackMemory}
 
 -- what leads from one to another, and on from there to a third, leads from the first to the third
 pub IsServed-append : (f : KeyedFn) (start mid end : Served) (xs ys : List Event) → IsServed f start xs mid → IsServed f mid ys end → IsServed f start (xs ++ ys) end
@@ -72,6 +76,39 @@ Serves-handled f before after bytes ids read answer replies only state answered 
       | inr has ↦ inl (state has ∙ ap (λ g. (step f before g).0) same, ap (map reply_bytes) (is ∙ answered has ∙ ap (λ g. (step f before g).1) same))
     ]
 
+-- a frame of the code is one that is read
+pub IsBuilt-seen : (frame : Frame) → IsBuilt (seen frame)
+IsBuilt-seen frames.Hello = tt
+IsBuilt-seen (frames.SetupBegin q b big m a) = tt
+IsBuilt-seen (frames.SetupDict q width entries) = tt
+IsBuilt-seen (frames.SetupEnd q) = tt
+IsBuilt-seen (frames.Search token) = tt
+
 -- bytes that no frame of the grammar has are served by anything
 pub Serves-none : (f : KeyedFn) (before after : ServerState) (bytes : List ℕ) (due : List (List ℕ)) → ((frame : FrameText) → InGrammar frame → IsBuilt frame → bytes ≡ frame_bytes frame → ⊥) → Serves f before bytes after due
 Serves-none f before after bytes due none frame grammar built spelled = absurd (none frame grammar built spelled)
+
+-- a frame's step serves it
+pub Serves-step : (f : KeyedFn) (s : ServerState) (frame : FrameText) → InGrammar frame → Serves f s (frame_bytes frame) (step f s frame).0 (map reply_bytes (step f s frame).1)
+Serves-step f s frame is other grammar built spelled =
+    let same = (one_frame frame other [] [] is grammar (ap (λ bytes. bytes ++ []) spelled)).0 in
+    inl (ap (λ g. (step f s g).0) same, ap (λ g. map reply_bytes (step f s g).1) same)
+
+-- what is received is the front of what waits
+pub received_front : (f : KeyedFn) (state : ServerState) (due replies : List (List ℕ)) (later : List Event) (end : Served) → IsServed f (record { state = state; due = due }) (map Received replies ++ later) end → (rest : List (List ℕ)) × (due ≡ replies ++ rest) × IsServed f (record { state = state; due = rest }) later end
+received_front f state due [] later end served = (due, refl, served)
+received_front f state due (reply ∷ replies) later end served =
+    let behind = received_front f state served.0 replies later end served.2 in
+    (behind.0, served.1 ∙ ap (λ more. reply ∷ more) behind.1, behind.2)
+
+-- a frame and the replies to it that are received: they are the front of the step's, or of out of memory alone
+pub IsServed-exchange : (f : KeyedFn) (start end : Served) (frame : FrameText) (behind : Option Remote) (replies : List (List ℕ)) (later : List Event) → InGrammar frame → IsBuilt frame → IsServed f start (Sent (frame_bytes frame) behind ∷ (map Received replies ++ later)) end → (after : Served) × IsAnswered f start.state frame replies after × IsServed f after later end
+IsServed-exchange f start end frame behind replies later grammar built served =
+    let now = served.0 in
+    let rest = received_front f now.state now.due replies later end served.3 in
+    let after : Served = record { state = now.state; due = rest.0 } in
+    let answered : IsAnswered f start.state frame replies after = elim (served.2 frame grammar built refl) [
+      | inl stepped ↦ inl (stepped.0, sym rest.1 ∙ stepped.1)
+      | inr lacked ↦ inr (lacked.0, lacked.1, sym rest.1 ∙ lacked.2)
+    ] in
+    (after, answered, rest.2)

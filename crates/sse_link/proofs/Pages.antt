@@ -7,7 +7,7 @@ use Rattle.std.specs.List.{AllByRecursion}
 use Rattle.std.specs.Int.{div_ceil}
 use Rattle.std.specs.Simd.{first_chunks}
 use Rattle.sse_frames.specs.Replies.{Page, IsIdentifier, reply_bytes}
-use Rattle.server_core.specs.Step.{is_nil}
+use Rattle.server_core.specs.Refusal.{is_nil}
 use Rattle.sse_frames.specs.Sending.{page_each, pages_of, pages}
 use Rattle.server_core.specs.declared.answer.Answer.{Answer}
 use Rattle.server_core.specs.declared.answer.Answer.TheVariants as answers

@@ -1,5 +1,5 @@
 -- What an honest link brings: for each frame the server's step, and its replies in order.
-use Rattle.std.specs.Prelude.{◌≡◌, ◌⊎◌, ℕ, List, [], ◌∷◌, map, Option, None, Some}
+use Rattle.std.specs.Prelude.{◌≡◌, ◌⊎◌, ℕ, List, [], ◌∷◌, ◌++◌, map, Option, None, Some}
 use Rattle.sse_frames.specs.Frames.{FrameText, Hello, InGrammar, frame_bytes}
 use Rattle.sse_frames.specs.Replies.{NoMemory, reply_bytes}
 use Rattle.sse_frames.specs.Reading.{IsBuilt}
@@ -42,3 +42,9 @@ IsServed f start (Sent bytes behind ∷ later) end =
     (now : Served) × IsBehind behind now.state × Serves f start.state bytes now.state now.due × IsServed f now later end
 IsServed f start (Received bytes ∷ later) end =
     (rest : List (List ℕ)) × (start.due ≡ bytes ∷ rest) × IsServed f (record { state = start.state; due = rest }) later end
+
+-- a frame was answered by these replies, and by those that wait still: the step's, or out of memory and the server as before
+abbrev pub IsAnswered : KeyedFn → ServerState → FrameText → List (List ℕ) → Served → Type 0
+IsAnswered f before frame replies after =
+    ((after.state ≡ (step f before frame).0) × (replies ++ after.due ≡ map reply_bytes (step f before frame).1))
+    ⊎ (MayLackMemory frame × (after.state ≡ before) × (replies ++ after.due ≡ reply_bytes NoMemory ∷ []))

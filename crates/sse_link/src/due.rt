@@ -1,6 +1,6 @@
 ghost use Rattle.std.specs.Prelude.{◌≡◌, ◌≢◌, ◌∷◌, ◌≤◌, ◌<◌, ◌^◌, true, false, All, ℕ, List, [], Bool, not, length, take, map};
 ghost use Rattle.sse_frames.specs.Replies.{Page, StoreFault, reply_bytes};
-ghost use Rattle.server_core.specs.Step.{is_nil};
+ghost use Rattle.server_core.specs.Refusal.{is_nil};
 ghost use Rattle.server_core.specs.Views.{answer_replies, HasRange};
 ghost use Rattle.sse_link.specs.Due.{waiting, is_open_page, IsDue};
 

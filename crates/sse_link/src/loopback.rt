@@ -1,9 +1,11 @@
-ghost use Rattle.std.specs.Prelude.{◌≡◌, ℕ, List, ◌^◌, ◌-◌, ◌+◌, min, [], map};
+ghost use Rattle.std.specs.Prelude.{◌≡◌, ℕ, List, ◌^◌, ◌-◌, ◌+◌, ◌≤◌, min, [], map};
+ghost use Rattle.sse_outside.specs.Causes.{Rose};
 ghost use Rattle.server_core.specs.State.{at_first};
 ghost use Rattle.keyed_fn.specs.KeyedFn.{keyed_fn};
 ghost use Rattle.sse_link.specs.Passed.{events_of};
 ghost use Rattle.sse_link.specs.Served.{IsServed, at_start};
 
+use crate::faults::one_more;
 use crate::{Fail, Link, LinkFault, Passed, SteadyLoopback};
 use keyed_fn::Keyed;
 use std::alloc::Global;
@@ -59,11 +61,25 @@ impl<K: Keyed> Loopback<K> {
     {
         self.steady.transcript()
     }
+
+    // A call fails: nothing more is received, and the count rises.
+    fn fail(&mut self) -> LinkFault
+        ensures fault { result ≡ LinkFault.Cut }
+        ensures events { self.new.told.events ≡ self.old.told.events }
+        ensures state { self.new.told.state ≡ self.old.told.state }
+        ensures due { self.new.told.due ≡ [] }
+        ensures rose { Rose self.old.faults self.new.faults }
+        ensures later { self.old.faults ≤ self.new.faults }
+    {
+        self.cut = true;
+        self.faults = one_more(self.faults);
+        LinkFault::Cut
+    }
 }
 
 impl<K: Keyed> Link for Loopback<K> {
     ghost use Rattle.std.specs.Prelude.{Some, not};
-    ghost use Rattle.server_core.specs.Step.{is_nil};
+    ghost use Rattle.server_core.specs.Refusal.{is_nil};
 
     ghost reply_due = { λ l. not (is_nil l.told.due) };
 
@@ -84,9 +100,7 @@ impl<K: Keyed> Link for Loopback<K> {
         if delivered {
             self.steady.send(frame)?;
         }
-        self.cut = true;
-        self.faults = self.faults.saturating_add(1);
-        Err(LinkFault::Cut)
+        Err(self.fail())
     }
 
     fn recv(&mut self, out: &mut [u8]) -> Result<usize, LinkFault> {
@@ -95,9 +109,7 @@ impl<K: Keyed> Link for Loopback<K> {
         if fail_at(&self.fails, call).is_none() {
             return self.steady.recv(out);
         }
-        self.cut = true;
-        self.faults = self.faults.saturating_add(1);
-        Err(LinkFault::Cut)
+        Err(self.fail())
     }
 }
 

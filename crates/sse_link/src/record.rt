@@ -59,7 +59,7 @@ impl Record {
     }
 
     /// What passed, in order.
-    pub fn passed(&self) -> &[Passed]
+    pub fn as_slice(&self) -> &[Passed]
         ensures { events_of result.now ≡ self.now }
     {
         self.passed.as_slice()

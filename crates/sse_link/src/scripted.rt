@@ -4,6 +4,7 @@ ghost use Rattle.sse_link.specs.Due.{is_open_page};
 ghost use Rattle.sse_link.specs.Passed.{events_of};
 ghost use Rattle.sse_link.specs.Scripted.{reply_size};
 
+use crate::faults::one_more;
 use crate::record::Record;
 use crate::{Link, LinkFault, Passed};
 use sse_frames::MAX_REPLY_BODY;
@@ -20,7 +21,7 @@ pub struct ScriptedLink {
     at: usize,
     due: bool,
     faults: u64,
-    record: Record,
+    passed: Record,
 }
 
 impl Model for ScriptedLink {
@@ -31,7 +32,7 @@ impl Model for ScriptedLink {
 
     ghost coded = { script_code };
 
-    ghost view = { λ l. record { events = l.record; rest = drop l.at l.replies.items; due = l.due; faults = l.faults } };
+    ghost view = { λ l. record { events = l.passed; rest = drop l.at l.replies.items; due = l.due; faults = l.faults } };
 
     ghost invariant = { λ l. l.at ≤ vec_len l.replies };
 }
@@ -46,7 +47,7 @@ impl ScriptedLink {
             at: 0,
             due: false,
             faults: 0,
-            record: Record::new(alloc),
+            passed: Record::new(alloc),
         }
     }
 
@@ -54,12 +55,14 @@ impl ScriptedLink {
     pub fn transcript(&self) -> &[Passed]
         ensures { events_of result.now ≡ self.now.events }
     {
-        self.record.passed()
+        self.passed.as_slice()
     }
 }
 
 impl Link for ScriptedLink {
-    ghost use Rattle.std.specs.Prelude.{Some, None};
+    ghost use Rattle.std.specs.Prelude.{Some, None, Err, true, false, ◌∷◌, ◌++◌, take, drop, IfOk, OnOk, OnErr};
+    ghost use Rattle.sse_outside.specs.Causes.{Rose};
+    ghost use Rattle.sse_link.specs.Events.{Sent, Received};
 
     ghost reply_due = { λ l. l.due };
 
@@ -69,25 +72,47 @@ impl Link for ScriptedLink {
 
     ghost remote = { λ _. None };
 
-    fn send(&mut self, frame: &[u8]) -> Result<(), LinkFault> {
-        self.record.sent(frame)?;
+    /// Keeps the frame. No frame is refused, and none takes bytes of the script.
+    fn send(&mut self, frame: &[u8]) -> Result<(), LinkFault>
+        ensures ok { OnOk result (self.new ≡ record self.old { events = self.old.events ++ Sent frame.now None ∷ []; due = true }) }
+        ensures err { OnErr result ((result ≡ Err LinkFault.NoMemory) × (self.new ≡ self.old)) }
+    {
+        self.passed.sent(frame)?;
         self.due = true;
         Ok(())
     }
 
-    fn recv(&mut self, out: &mut [u8]) -> Result<usize, LinkFault> {
+    /// Hands out the reply in front of the bytes that are left.
+    fn recv(&mut self, out: &mut [u8]) -> Result<usize, LinkFault>
+        requires room { 65544 ≤ length out.old }
+        ensures size { IfOk result (λ n. reply_size self.old.rest ≡ Some n) }
+        ensures reply { IfOk result (λ n. take n out.new ≡ take n self.old.rest) }
+        ensures rest { IfOk result (λ n. self.new.rest ≡ drop n self.old.rest) }
+        ensures told { IfOk result (λ n. self.new.events ≡ self.old.events ++ Received (take n out.new) ∷ []) }
+        ensures due { IfOk result (λ n. self.new.due ≡ is_open_page (take n out.new)) }
+        ensures least { IfOk result (λ n. 4 ≤ n) }
+        ensures most { IfOk result (λ n. n ≤ 65544) }
+        ensures store_fault { IfOk result (λ n. take n out.new ≡ reply_bytes StoreFault → Rose self.old.faults self.new.faults) }
+
+        // It is cut where the bytes end.
+        ensures end { result ≡ Err LinkFault.Cut → reply_size self.old.rest ≡ None }
+        ensures cut { result ≡ Err LinkFault.Cut → (self.new.due ≡ false) × Rose self.old.faults self.new.faults }
+        ensures err { OnErr result ((self.new.events ≡ self.old.events) × (self.new.rest ≡ self.old.rest)) }
+        ensures no_memory { result ≡ Err LinkFault.NoMemory → self.new ≡ self.old }
+        ensures later { self.old.faults ≤ self.new.faults }
+    {
         let (_, rest) = self.replies.split_at(self.at);
         let Some(n) = size_of_reply(rest) else {
             self.due = false;
-            self.faults = self.faults.saturating_add(1);
+            self.faults = one_more(self.faults);
             return Err(LinkFault::Cut);
         };
         let (reply, _) = rest.split_at(n);
-        self.record.received(reply)?;
+        self.passed.received(reply)?;
         out[..n].copy_from_slice(reply);
         self.due = is_open(reply);
         if is_store_fault(reply) {
-            self.faults = self.faults.saturating_add(1);
+            self.faults = one_more(self.faults);
         }
         self.at += n;
         Ok(n)

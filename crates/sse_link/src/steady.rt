@@ -1,7 +1,9 @@
 ghost use Rattle.std.specs.Prelude.{◌≡◌, false, ◌+◌, ◌∷◌, ◌≤◌, [], length, take, map, IfOk, OnErr};
-ghost use Rattle.sse_frames.specs.Replies.{reply_bytes};
+ghost use Rattle.sse_frames.specs.Replies.{BadFrame, reply_bytes};
+ghost use Rattle.sse_frames.specs.Reading.{frame_outcome};
 ghost use Rattle.server_core.specs.State.{at_first};
-ghost use Rattle.server_core.specs.Step.{is_nil};
+ghost use Rattle.server_core.specs.Refusal.{is_nil};
+ghost use Rattle.sse_link.specs.BadFrames.{bad_reason, IsNoFrame};
 ghost use Rattle.sse_link.specs.Due.{waiting, IsDue};
 ghost use Rattle.sse_link.specs.Events.{Remote};
 ghost use Rattle.keyed_fn.specs.KeyedFn.{keyed_fn};
@@ -29,7 +31,7 @@ pub struct SteadyLoopback<K: Keyed> {
     server: Server,
     found: Vec<u64>,
     due: Due,
-    record: Record,
+    passed: Record,
 }
 
 impl<K: Keyed> Model for SteadyLoopback<K> {
@@ -46,12 +48,12 @@ impl<K: Keyed> Model for SteadyLoopback<K> {
     ghost use Rattle.sse_link.specs.Steady.{IsSteady};
 
     ghost view = { λ l. record {
-      events = l.record;
+      events = l.passed;
       state = l.server.state;
       due = map reply_bytes (waiting l.due l.found.items);
     } };
 
-    ghost invariant = { λ l. IsSteady (keyed_fn K.prf K.pad) l.record l.server.state l.due l.found.items };
+    ghost invariant = { λ l. IsSteady (keyed_fn K.prf K.pad) l.passed l.server.state l.due l.found.items };
 }
 
 impl<K: Keyed> SteadyLoopback<K> {
@@ -64,7 +66,7 @@ impl<K: Keyed> SteadyLoopback<K> {
             server: Server::new(alloc),
             found: Vec::new(alloc),
             due: Due::Nothing,
-            record: Record::new(alloc),
+            passed: Record::new(alloc),
         }
     }
 
@@ -74,13 +76,13 @@ impl<K: Keyed> SteadyLoopback<K> {
         ensures events { events_of result.now ≡ self.now.events }
         ensures honest { IsServed (keyed_fn K.prf K.pad) at_start self.now.events (record { state = self.now.state; due = self.now.due }) }
     {
-        self.record.passed()
+        self.passed.as_slice()
     }
 }
 
 impl<K: Keyed> Link for SteadyLoopback<K> {
     ghost use Rattle.std.specs.Prelude.{Some, not};
-    ghost use Rattle.server_core.specs.Step.{is_nil};
+    ghost use Rattle.server_core.specs.Refusal.{is_nil};
 
     ghost reply_due = { λ l. not (is_nil l.due) };
 
@@ -91,24 +93,27 @@ impl<K: Keyed> Link for SteadyLoopback<K> {
     ghost remote = { λ l. Some (record { state = l.state }) };
 
     fn send(&mut self, frame: &[u8]) -> Result<(), LinkFault> {
-        self.record.sent(frame)?;
+        self.passed.sent(frame)?;
         self.due = replies_to(&self.keyed, &mut self.server, &mut self.found, frame);
         Ok(())
     }
 
     fn recv(&mut self, out: &mut [u8]) -> Result<usize, LinkFault> {
         let (n, due) = write_due(&self.due, &self.found, out);
-        self.record.received(&out[..n])?;
+        self.passed.received(&out[..n])?;
         self.due = due;
         Ok(n)
     }
 }
 
-// The replies to the bytes that were sent: those of the server's step where they are one whole frame.
+// The replies to the bytes that were sent: those of the server's step where they are one whole frame. Bytes
+// that aren't leave the server as it is, and have the one reply that says why.
 fn replies_to<K: Keyed>(keyed: &K, server: &mut Server, found: &mut Vec<u64>, bytes: &[u8]) -> Due
     ensures due { IsDue result found.new.items }
     ensures some { is_nil (waiting result found.new.items) ≡ false }
     ensures serves { Serves (keyed_fn K.prf K.pad) server.old.state bytes.now server.new.state (map reply_bytes (waiting result found.new.items)) }
+    ensures bad_state { IsNoFrame bytes.now → server.new.state ≡ server.old.state }
+    ensures bad_reply { IsNoFrame bytes.now → waiting result found.new.items ≡ BadFrame (bad_reason (frame_outcome bytes.now)) ∷ [] }
 {
     match whole_frame(bytes) {
         Ok(frame) => due_of(server.handle(keyed, &frame, found)),

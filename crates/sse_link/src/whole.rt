@@ -1,7 +1,8 @@
 ghost use Rattle.std.specs.Prelude.{◌≡◌, ◌≤◌, IfOk, IfErr, IsOkAnd};
 ghost use Rattle.sse_frames.specs.Frames.{FrameText, InGrammar, frame_bytes};
-ghost use Rattle.sse_frames.specs.Reading.{IsBuilt};
+ghost use Rattle.sse_frames.specs.Reading.{IsBuilt, frame_outcome};
 ghost use Rattle.sse_frames.specs.Seen.{seen};
+ghost use Rattle.sse_link.specs.BadFrames.{bad_reason};
 
 use sse_frames::{Frame, FrameFault, read_frame};
 
@@ -9,8 +10,9 @@ use sse_frames::{Frame, FrameFault, read_frame};
 /// is out of range or isn't that of the bytes, 2 for an unknown kind, 3 for another field.
 pub fn whole_frame(bytes: &[u8]) -> Result<Frame<'_>, u8>
     ensures grammar { IfOk result (λ frame. InGrammar (seen frame)) }
+    ensures spelled { IfOk result (λ frame. bytes.now ≡ frame_bytes (seen frame)) }
     ensures only { (text : FrameText) → InGrammar text → IsBuilt text → bytes.now ≡ frame_bytes text → IsOkAnd result (λ frame. seen frame ≡ text) }
-    ensures reason { IfErr result (λ reason. (1 ≤ reason) × (reason ≤ 3)) }
+    ensures reason { IfErr result (λ reason. reason ≡ bad_reason (frame_outcome bytes.now)) }
 {
     match read_frame(bytes) {
         Ok(Some((frame, n))) => {

@@ -12,5 +12,5 @@ invariant_of-self-2 g c =
     let now : Served = record { state = c.self.inside.server.state; due = map reply_bytes (waiting c.self.inside.due c.self.inside.found.items) } in
     record {
       writable = rw (← c.deref.ensures.value) c.write_due-n.ensures.due;
-      honest = rw c.in_ok-received.ensures.ok (IsServed-received (keyed_fn g.K.Keyed.prf g.K.Keyed.pad) at_start now c.self.inside.record _ _ c.self.invariant.honest (rw (← c.deref.ensures.value) c.write_due-n.ensures.reply));
+      honest = rw c.in_ok-received.ensures.ok (IsServed-received (keyed_fn g.K.Keyed.prf g.K.Keyed.pad) at_start now c.self.inside.passed _ _ c.self.invariant.honest (rw (← c.deref.ensures.value) c.write_due-n.ensures.reply));
     }

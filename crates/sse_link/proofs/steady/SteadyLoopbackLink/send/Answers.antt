@@ -14,5 +14,5 @@ invariant_of-self-2 g c =
     let later : Served = record { state = replies.new.server.state; due = map reply_bytes (waiting replies.result replies.new.found.items) } in
     record {
       writable = replies.ensures.due;
-      honest = rw c.in_ok-sent.ensures.ok (IsServed-sent (keyed_fn g.K.Keyed.prf g.K.Keyed.pad) at_start now later c.self.inside.record c.args.frame.now c.self.invariant.honest replies.ensures.serves);
+      honest = rw c.in_ok-sent.ensures.ok (IsServed-sent (keyed_fn g.K.Keyed.prf g.K.Keyed.pad) at_start now later c.self.inside.passed c.args.frame.now c.self.invariant.honest replies.ensures.serves);
     }
