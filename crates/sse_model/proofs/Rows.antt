@@ -1,16 +1,14 @@
--- The wire of short runs under the toy function and the key of 32 zero bytes, whose bytes were computed by hand.
-use Rattle.std.proofs.Common.{◌≡◌, List, ℕ, [], ◌∷◌, map, flat_map, true, refl}
-use Rattle.std.specs.Prelude.{replicate}
-use Rattle.keyed_fn.specs.KeyedFn.{keyed_fn}
-use Rattle.keyed_fn.specs.Toy.{toy_prf, toy_pad}
-use Rattle.client_registry.specs.Document.{Document}
+-- The wire and the sessions of short runs under the toy function and the key of 32 zero bytes: the bytes of the wires were
+-- computed by hand, those of the sessions written by another program.
+use Rattle.std.proofs.Common.{◌≡◌, List, ℕ, [], ◌∷◌, ◌++◌, map, flat_map, true, None, Some, refl}
+use Rattle.std.specs.Prelude.{codes}
 use Rattle.client_registry.specs.Setup.{setup_of}
 use Rattle.client_registry.specs.Command.{Add, Delete, Search}
 use Rattle.client_registry.specs.Run.{Run, at_first}
 use Rattle.sse_frames.specs.Frames.{frame_bytes}
 use Rattle.sse_frames.specs.Replies.{Took, Page}
-use Rattle.sse_model.specs.Names.{table}
 use Rattle.sse_model.specs.Wire.{wire, replies}
+use Rattle.sse_model.proofs.ToyBytes.{hex, document, zero_table, session_bytes}
 
 abbrev a : List ℕ
 a = 0x61 ∷ []
@@ -18,14 +16,11 @@ a = 0x61 ∷ []
 abbrev c : List ℕ
 c = 0x63 ∷ []
 
-abbrev document : ℕ → List (List ℕ) → Document
-document id words = record { id = id; words = words }
-
 -- the bytes of all frames of a run, under the key of zeros
 abbrev wire_bytes : Run → List (List ℕ)
 wire_bytes run =
     map frame_bytes (flat_map (λ frames. frames)
-    (wire (table (keyed_fn toy_prf toy_pad) run.setup.shape (λ epoch. replicate 32 0)) at_first run))
+    (wire (zero_table run.setup.shape) at_first run))
 
 -- one document with one word, and a search for it
 one_word : wire_bytes (record { setup = setup_of (document 1 (a ∷ []) ∷ []) 1 1; later = Search a ∷ [] }) ≡
@@ -114,3 +109,125 @@ answers :
     })) ≡
     Took 0 ∷ Took 1 ∷ Took 2 ∷ Took 3 ∷ Page true (1 ∷ 5 ∷ []) ∷ Took 4 ∷ Page true (1 ∷ []) ∷ []
 answers = refl
+
+-- with no setup the greeting passes alone
+no_setup_session : session_bytes None ≡ hex (codes "0000000101") ∷ hex (codes "000000058100000000") ∷ []
+no_setup_session = refl
+
+-- the search frame of `a`
+abbrev search_a : List ℕ
+search_a =
+    hex (codes "000000a108"
+    ++ codes "c3c4c5c6c7c8c9cacbcccdcecfd0d1d2d3d4d5d6d7d8d9dadbdcdddedfe0e1e2"
+    ++ codes "c4c5c6c7c8c9cacbcccdcecfd0d1d2d3d4d5d6d7d8d9dadbdcdddedfe0e1e2e3"
+    ++ codes "c5c6c7c8c9cacbcccdcecfd0d1d2d3d4d5d6d7d8d9dadbdcdddedfe0e1e2e3e4"
+    ++ codes "c6c7c8c9cacbcccdcecfd0d1d2d3d4d5d6d7d8d9dadbdcdddedfe0e1e2e3e4e5"
+    ++ codes "c7c8c9cacbcccdcecfd0d1d2d3d4d5d6d7d8d9dadbdcdddedfe0e1e2e3e4e5e6")
+
+-- one document with one word, and a search for it
+one_word_session :
+    session_bytes (Some (record {
+      setup = setup_of (document 1 (a ∷ []) ∷ []) 1 1;
+      later = Search a ∷ [];
+    })) ≡
+    hex (codes "0000000101")
+    ∷ hex (codes "000000058100000000")
+    ∷ hex (codes "000000110200000000000100010000000100000000")
+    ∷ hex (codes "000000058200000000")
+    ∷ hex (codes "00000022030000000100090001c3c5c7c9cbcdcfd1d3d5d7d9dbdddfe1c4c5c6c7c8c9cacbcd")
+    ∷ hex (codes "000000058200000001")
+    ∷ hex (codes "000000050500000002")
+    ∷ hex (codes "000000058200000002")
+    ∷ search_a
+    ∷ hex (codes "0000000c850100010000000000000001")
+    ∷ []
+one_word_session = refl
+
+-- a list of two identifiers in one block, and a search for it
+one_block_session :
+    session_bytes (Some (record {
+      setup = setup_of (document 1 (a ∷ []) ∷ document 2 (a ∷ []) ∷ []) 1 2;
+      later = Search a ∷ [];
+    })) ≡
+    hex (codes "0000000101")
+    ∷ hex (codes "000000058100000000")
+    ∷ hex (codes "000000110200000000000100020000000100000001")
+    ∷ hex (codes "000000058200000000")
+    ∷ hex (codes "00000022030000000100090001c3c5c7c9cbcdcfd1d3d5d7d9dbdddfe1c5c5c6c7c8c9cacbcd")
+    ∷ hex (codes "000000058200000001")
+    ∷ hex (codes "00000019040000000200100001c5c6c7c8c9cacbcdcdcecfd0d1d2d3d6")
+    ∷ hex (codes "000000058200000002")
+    ∷ hex (codes "000000050500000003")
+    ∷ hex (codes "000000058200000003")
+    ∷ search_a
+    ∷ hex (codes "000000148501000200000000000000010000000000000002")
+    ∷ []
+one_block_session = refl
+
+-- an addition, its deletion, the same identifier again with one word more, and a search
+added_again_session :
+    session_bytes (Some (record {
+      setup = setup_of (document 1 (a ∷ []) ∷ []) 1 1;
+      later = Add (document 5 (a ∷ [])) ∷ Delete 5 ∷ Add (document 5 (a ∷ c ∷ [])) ∷ Search a ∷ [];
+    })) ≡
+    hex (codes "0000000101")
+    ∷ hex (codes "000000058100000000")
+    ∷ hex (codes "000000110200000000000100010000000100000000")
+    ∷ hex (codes "000000058200000000")
+    ∷ hex (codes "00000022030000000100090001c3c5c7c9cbcdcfd1d3d5d7d9dbdddfe1c4c5c6c7c8c9cacbcd")
+    ∷ hex (codes "000000058200000001")
+    ∷ hex (codes "000000050500000002")
+    ∷ hex (codes "000000058200000002")
+    ∷ hex (codes "00000021060000000300010000c5c7c9cbcdcfd1d3d5d7d9dbdddfe1e3c6c7c8c9cacbccc8")
+    ∷ hex (codes "000000058200000003")
+    ∷ hex (codes "0000001707000000040001eff1f3f5f7f9fbfdff01030507090b0d")
+    ∷ hex (codes "000000058200000004")
+    ∷ hex (codes "00000031060000000500010001c9cbcdcfd1d3d5d7d9dbdddfe1e3e5e7cacbcccdcecfd0d4eff1f3f5f7f9fbfdff0103"
+    ++ codes "0507090b0d")
+    ∷ hex (codes "000000058200000005")
+    ∷ search_a
+    ∷ hex (codes "000000148501000200000000000000010000000000000005")
+    ∷ []
+added_again_session = refl
+
+-- one document is set up, and another one is added: its addition is the word's first
+second_document_session :
+    session_bytes (Some (record {
+      setup = setup_of (document 5 (a ∷ []) ∷ []) 1 1;
+      later = Add (document 6 (a ∷ [])) ∷ [];
+    })) ≡
+    hex (codes "0000000101")
+    ∷ hex (codes "000000058100000000")
+    ∷ hex (codes "000000110200000000000100010000000100000000")
+    ∷ hex (codes "000000058200000000")
+    ∷ hex (codes "00000022030000000100090001c3c5c7c9cbcdcfd1d3d5d7d9dbdddfe1c4c5c6c7c8c9cacbc9")
+    ∷ hex (codes "000000058200000001")
+    ∷ hex (codes "000000050500000002")
+    ∷ hex (codes "000000058200000002")
+    ∷ hex (codes "00000021060000000300010000c5c7c9cbcdcfd1d3d5d7d9dbdddfe1e3c6c7c8c9cacbcccb")
+    ∷ hex (codes "000000058200000003")
+    ∷ []
+second_document_session = refl
+
+-- a document without words, added and deleted, and another one added
+no_words_session :
+    session_bytes (Some (record {
+      setup = setup_of (document 1 (a ∷ []) ∷ []) 1 1;
+      later = Add (document 2 []) ∷ Delete 2 ∷ Add (document 3 (a ∷ [])) ∷ [];
+    })) ≡
+    hex (codes "0000000101")
+    ∷ hex (codes "000000058100000000")
+    ∷ hex (codes "000000110200000000000100010000000100000000")
+    ∷ hex (codes "000000058200000000")
+    ∷ hex (codes "00000022030000000100090001c3c5c7c9cbcdcfd1d3d5d7d9dbdddfe1c4c5c6c7c8c9cacbcd")
+    ∷ hex (codes "000000058200000001")
+    ∷ hex (codes "000000050500000002")
+    ∷ hex (codes "000000058200000002")
+    ∷ hex (codes "00000009060000000300000000")
+    ∷ hex (codes "000000058200000003")
+    ∷ hex (codes "0000000707000000040000")
+    ∷ hex (codes "000000058200000004")
+    ∷ hex (codes "00000021060000000500010000c5c7c9cbcdcfd1d3d5d7d9dbdddfe1e3c6c7c8c9cacbccce")
+    ∷ hex (codes "000000058200000005")
+    ∷ []
+no_words_session = refl

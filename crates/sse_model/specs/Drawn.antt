@@ -59,7 +59,7 @@ probed_by epoch s past (Delete id) = []
 abbrev pub probed : Offsets → Run → List (List Name)
 probed o run = [] ∷ over (probed_by o.epoch run.setup) [] run.later
 
--- the classes whose values a server compares with one another
+-- the classes of which a table's values have to differ: by them values are told apart or put in order
 abbrev pub is_compared : Class → Bool
 is_compared ListLabels = true
 is_compared PlusLabels = true

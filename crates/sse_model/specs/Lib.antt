@@ -1,4 +1,6 @@
 pub mod Names
 pub mod Positions
 pub mod Wire
+pub mod Transcript
 pub mod Drawn
+pub mod Values

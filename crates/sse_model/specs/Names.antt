@@ -1,5 +1,5 @@
 -- Names for the values of which the wire is made, and the table of their values under a key.
-use Rattle.std.specs.Prelude.{◌≡◌, ℕ, zero, suc, ◌+◌, ◌*◌, List, length, All}
+use Rattle.std.specs.Prelude.{◌≡◌, ℕ, zero, suc, ◌+◌, ◌*◌, Bool, true, false, ◌&&◌, ◌==◌, List, length, All, bytes_eq}
 use Rattle.two_level.specs.Shape.{Shape}
 use Rattle.keyed_fn.specs.KeyedFn.{KeyedFn}
 use Rattle.keyed_fn.specs.KeyFormulas.{part_key, list_label, cell_pad, block_pad, plus_label, plus_pad, revocation, place_tag, token_of}
@@ -23,6 +23,20 @@ pub record Name : Type 0 where
 
 abbrev pub name : ℕ → List ℕ → Kind → ℕ → Name
 name epoch word kind number = record { epoch = epoch; word = word; kind = kind; number = number }
+
+abbrev pub same_kind : Kind → Kind → Bool
+same_kind Token Token = true
+same_kind ListLabel ListLabel = true
+same_kind ListPad ListPad = true
+same_kind PlusLabel PlusLabel = true
+same_kind PlusPad PlusPad = true
+same_kind Revocation Revocation = true
+same_kind PlaceTag PlaceTag = true
+same_kind _ _ = false
+
+-- whether two names are the same: epoch, word, kind and number alike
+abbrev pub same_name : Name → Name → Bool
+same_name x y = x.epoch == y.epoch && bytes_eq x.word y.word && same_kind x.kind y.kind && x.number == y.number
 
 -- names that could be taken for one another; a cell's pad and a block's are one kind and two classes
 pub data Class : Type 0 where
@@ -84,7 +98,3 @@ size_at s PlusLabel number = 16
 size_at s PlusPad number = 8
 size_at s Revocation number = 16
 size_at s PlaceTag number = 16
-
--- the table gives each of these names a value of its size
-abbrev pub HasSizes : Shape → Table → List Name → Type 0
-HasSizes s t names = All (λ n. length (t n) ≡ size_at s n.kind n.number) names

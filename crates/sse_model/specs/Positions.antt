@@ -19,12 +19,12 @@ pub record Position : Type 0 where
   pub clear : List ℕ → List ℕ
 
 -- how many blocks the list of a word takes
-abbrev pub blocks_of : Setup → List ℕ → ℕ
-blocks_of s word = block_count (plan s.shape (length (setup_list s word)))
+abbrev pub word_blocks : Setup → List ℕ → ℕ
+word_blocks s word = block_count (plan s.shape (length (setup_list s word)))
 
 -- the list of a word whose blocks begin at this position among all of setup's, under the ranks of all blocks
 abbrev pub laid_at : Setup → ℕ → List ℕ → List ℕ → Option Laid
-laid_at s first word ranks = laid s.shape (take (blocks_of s word) (drop first ranks)) (setup_list s word)
+laid_at s first word ranks = laid s.shape (take (word_blocks s word) (drop first ranks)) (setup_list s word)
 
 abbrev pub cell_text : Option Laid → List ℕ
 cell_text None = []
@@ -52,14 +52,14 @@ block_position epoch s first word i = record {
 abbrev pub entries_from : ℕ → Setup → ℕ → List (List ℕ) → List Position
 entries_from epoch s first [] = []
 entries_from epoch s first (word ∷ words) =
-    entry_position epoch s first word ∷ entries_from epoch s (first + blocks_of s word) words
+    entry_position epoch s first word ∷ entries_from epoch s (first + word_blocks s word) words
 
 -- the blocks of these words
 abbrev pub blocks_from : ℕ → Setup → ℕ → List (List ℕ) → List Position
 blocks_from epoch s first [] = []
 blocks_from epoch s first (word ∷ words) =
-    map (block_position epoch s first word) (range_with_len 0 (blocks_of s word))
-    ++ blocks_from epoch s (first + blocks_of s word) words
+    map (block_position epoch s first word) (range_with_len 0 (word_blocks s word))
+    ++ blocks_from epoch s (first + word_blocks s word) words
 
 -- setup's entries, by word number
 abbrev pub entry_positions : ℕ → Setup → List Position
