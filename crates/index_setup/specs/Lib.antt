@@ -1,2 +1,4 @@
 pub mod Cells
+pub mod Entries
+pub mod Lists
 pub mod Refused

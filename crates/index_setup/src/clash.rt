@@ -1,14 +1,24 @@
-use crate::entry::Entry;
+ghost use Rattle.std.specs.Prelude.{◌≡◌, ◌≤◌, ◌^◌, length, map, IfOk};
+ghost use Rattle.client_registry.specs.FirstClash as clashes;
 
-/// The two word numbers with equal labels in entries sorted by label whose ties stand by word number:
-/// of several such pairs the one with the least second number, then the least first.
-pub(crate) fn first_clash(entries: &[Entry]) -> Option<(u32, u32)> {
-    let mut found: Option<(u32, u32)> = None;
-    for i in 1..entries.len() {
-        let (first, second) = (&entries[i - 1], &entries[i]);
-        if first.label == second.label && found.is_none_or(|(_, least)| second.word < least) {
-            found = Some((first.word, second.word));
+use crate::entry::Entry;
+use std::alloc::{AllocFailed, Global};
+use std::collections::HashMap;
+
+/// The places of two entries with equal labels: of several such pairs the one with the least second
+/// place, then the least first.
+pub(crate) fn first_clash(
+    alloc: Global,
+    entries: &[Entry],
+) -> Result<Option<(u32, u32)>, AllocFailed<([u8; 16], u32)>>
+    requires { length entries.now ≤ 2 ^ 20 }
+    ensures { IfOk result (λ places. places ≡ clashes.first_clash (map (λ entry. entry.label) entries.now)) }
+{
+    let mut seen: HashMap<[u8; 16], u32> = HashMap::new(alloc);
+    for (second, entry) in entries.iter().enumerate() {
+        if let Some(first) = seen.insert(entry.label, second as u32)? {
+            return Ok(Some((first, second as u32)));
         }
     }
-    found
+    Ok(None)
 }

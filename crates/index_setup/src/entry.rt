@@ -2,6 +2,5 @@
 #[derive(Debug, Drop)]
 pub(crate) struct Entry {
     pub(crate) label: [u8; 16],
-    pub(crate) word: u32,
     pub(crate) cell: Vec<u8>,
 }

@@ -24,6 +24,7 @@ impl Index {
         ensures b { result.b ≡ b }
         ensures big { result.big ≡ big }
         ensures words { result.words ≡ words }
+        ensures entries { result.entries ≡ entries }
     {
         Index {
             b,

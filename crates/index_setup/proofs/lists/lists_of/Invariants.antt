@@ -1,5 +1,6 @@
-use Rattle.std.proofs.Common.{◌≡◌, vec_len}
+use Rattle.std.proofs.Common.{◌≡◌, take}
+use Rattle.index_setup.specs.Lists.{as_lists, lists_among}
 use Rattle.index_setup.proofs.lists.lists_of.Given as goal
 
 abbrev pub invariant-documents : goal.invariant-documents
-invariant-documents l = vec_len l.lists ≡ vec_len l.initial.lists
+invariant-documents l = as_lists l.lists.items ≡ lists_among l.docs (take l.i l.docs)

@@ -1,0 +1,6 @@
+mod JoinedBytes
+mod CellBytes
+mod Places
+mod Clashes
+mod AddedWords
+mod SealedEntries
