@@ -1,1 +1,4 @@
+pub mod Faults
 pub mod Sending
+pub mod Pages
+pub mod Setup

@@ -1,9 +1,20 @@
 -- What a contract sees of a client that sends.
-use Rattle.std.specs.Prelude.{ℕ, ◌-◌, Option, Some, None, vec_len}
+use Rattle.std.specs.Prelude.{◌≡◌, ◌≢◌, ℕ, ◌+◌, ◌-◌, ◌≤◌, Bool, false, ◌==◌, List, [], map, drop, Option, Some, None, Vec, vec_items, vec_len}
+use Rattle.sse_frames.specs.Replies.{ReplyText, Took, reply_bytes}
+use Rattle.client_core.specs.Faults.{IsFaultOf}
 use Rattle.client_core.specs.declared.behind.Behind.{Behind}
+use Rattle.client_core.specs.declared.client.Client.{Client}
 use Rattle.client_core.specs.declared.reply_fault.ReplyFault.{ReplyFault}
 use Rattle.client_core.specs.declared.sending.Taken.{Taken}
 use Rattle.client_core.specs.declared.sending.Taken.TheVariants as taken
+
+-- frames in their vectors, as lists of bytes
+abbrev pub frame_list : {Y Z : Type 0} → Vec (Vec ℕ Y) Z → List (List ℕ)
+frame_list frames = map vec_items (vec_items frames)
+
+-- the frames that the server may lack, in the order in which they are sent
+abbrev pub to_send : Behind → List (List ℕ)
+to_send behind = drop behind.next (frame_list behind.frames)
 
 -- how many frames the server may lack
 abbrev pub frames_left : Behind → ℕ
@@ -20,3 +31,18 @@ abbrev pub stopped_by : Taken → Option ReplyFault
 stopped_by (taken.Behind client) = None
 stopped_by (taken.Ready client) = None
 stopped_by (taken.Stopped client fault) = Some fault
+
+-- whether a reply is the acknowledgement of the frame of this number
+abbrev pub is_took : ReplyText → ℕ → Bool
+is_took (Took q) number = q == number
+is_took _ number = false
+
+-- what a reply makes of a client: the acknowledgement of its next frame takes that frame off, all else is a fault
+abbrev pub AfterReply : Client Behind → List ℕ → Taken → Type 0
+AfterReply client reply (taken.Behind next) =
+    (reply ≡ reply_bytes (Took client.state.next)) × (next.key ≡ client.key) × (next.state.next ≡ client.state.next + 1)
+    × (to_send next.state ≡ drop 1 (to_send client.state)) × (1 ≤ frames_left next.state)
+AfterReply client reply (taken.Ready next) =
+    (reply ≡ reply_bytes (Took client.state.next)) × (next.key ≡ client.key) × (drop 1 (to_send client.state) ≡ [])
+AfterReply client reply (taken.Stopped next fault) =
+    (reply ≢ reply_bytes (Took client.state.next)) × (next.key ≡ client.key) × IsFaultOf reply fault

@@ -12,12 +12,14 @@ pub struct Behind {
 }
 
 impl Behind {
-    ghost use Rattle.client_core.specs.Sending.{frames_left};
+    ghost use Rattle.client_core.specs.Sending.{frames_left, frame_list, to_send};
     ghost use Rattle.std.specs.Prelude.{◌≡◌};
 
     /// None of the planned frames was sent.
     pub(crate) fn new(planned: Planned) -> Behind
-        ensures { frames_left result ≡ vec_len planned.frames }
+        ensures left { frames_left result ≡ vec_len planned.frames }
+        ensures frames { to_send result ≡ frame_list planned.frames }
+        ensures first { result.next ≡ 0 }
     {
         Behind {
             frames: planned.frames,

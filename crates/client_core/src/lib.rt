@@ -8,11 +8,13 @@ mod behind;
 mod client;
 mod found;
 mod fresh;
+mod page_in;
 mod planned;
 mod ready;
 mod reply_fault;
 mod sending;
 mod setup_frames;
+mod whole_reply;
 
 pub use behind::Behind;
 pub use client::{Client, Spent};

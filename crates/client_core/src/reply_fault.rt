@@ -1,7 +1,10 @@
 ghost use Rattle.std.specs.Prelude.{◌≡◌};
-ghost use Rattle.sse_frames.specs.Replies.{reply_bytes, StoreFault};
+ghost use Rattle.sse_frames.specs.Replies.{ReplyText, reply_bytes, StoreFault};
+ghost use Rattle.sse_frames.specs.Seen.{seen_reply};
+ghost use Rattle.client_core.specs.Faults.{IsReply, fault_told, IsFaultOf};
 
-use sse_frames::{Reply, read_reply};
+use crate::whole_reply::whole_reply;
+use sse_frames::Reply;
 use std::alloc::AllocError;
 
 /// Why a reply ends the client's run.
@@ -22,16 +25,31 @@ pub enum ReplyFault {
 /// The fault that a reply, all of these bytes, reports where it isn't one that is expected: what the server says
 /// went wrong there, else `BadReply`.
 pub fn fault_of(reply: &[u8]) -> ReplyFault
+    ensures fault { IsFaultOf reply.now result }
+    ensures told { (text : ReplyText) → IsReply text reply.now → result ≡ fault_told text }
     ensures store { result ≡ ReplyFault.StoreFault → reply.now ≡ reply_bytes StoreFault }
 {
-    match read_reply(reply) {
-        Ok(Some((reply_read, size))) if size == reply.len() => match reply_read {
-            Reply::Clash { what, place } => ReplyFault::Clash { what, place },
-            Reply::NoMemory => ReplyFault::NoMemory,
-            Reply::StoreFault => ReplyFault::StoreFault,
-            _ => ReplyFault::BadReply,
-        },
-        _ => ReplyFault::BadReply,
+    match whole_reply(reply) {
+        Some(read) => told_by(read),
+        None => ReplyFault::BadReply,
+    }
+}
+
+/// The fault that a reply reports.
+fn told_by(reply: Reply<'_>) -> ReplyFault
+    ensures { result ≡ fault_told (seen_reply reply.entry) }
+{
+    match reply {
+        Reply::Clash { what, place } => ReplyFault::Clash { what, place },
+        Reply::NoMemory => ReplyFault::NoMemory,
+        Reply::StoreFault => ReplyFault::StoreFault,
+        Reply::Next(_)
+        | Reply::Took(_)
+        | Reply::Number(_)
+        | Reply::Page { .. }
+        | Reply::BadList
+        | Reply::BadFrame(_)
+        | Reply::OutOfPlace => ReplyFault::BadReply,
     }
 }
 

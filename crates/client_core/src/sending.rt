@@ -1,12 +1,15 @@
-ghost use Rattle.std.specs.Prelude.{◌≡◌, ◌<◌, Some, slice_get};
-ghost use Rattle.sse_frames.specs.Replies.{reply_bytes, StoreFault};
-ghost use Rattle.client_core.specs.Sending.{frames_left, left_behind, stopped_by};
+ghost use Rattle.std.specs.Prelude.{◌≡◌, ◌≢◌, ◌<◌, ◌∷◌, [], true, false, take, Some};
+ghost use Rattle.sse_frames.specs.Frames.{IsNumber};
+ghost use Rattle.sse_frames.specs.Replies.{reply_bytes, Took, StoreFault};
+ghost use Rattle.sse_frames.specs.Seen.{seen_reply};
+ghost use Rattle.client_core.specs.Sending.{frames_left, to_send, left_behind, stopped_by, AfterReply, is_took};
 
 use crate::behind::Behind;
 use crate::client::{Client, Spent};
 use crate::ready::Ready;
 use crate::reply_fault::{ReplyFault, fault_of};
-use sse_frames::{Reply, read_reply};
+use crate::whole_reply::whole_reply;
+use sse_frames::Reply;
 
 /// What a reply makes of a client with unacknowledged frames.
 #[derive(Drop)]
@@ -21,12 +24,15 @@ pub enum Taken {
 
 impl Client<Behind> {
     /// The bytes of the next frame to send, with its four length bytes.
-    pub fn frame(&self) -> &[u8] {
+    pub fn frame(&self) -> &[u8]
+        ensures { take 1 (to_send self.now.state) ≡ result.now ∷ [] }
+    {
         &self.state.frames[self.state.next as usize]
     }
 
     /// Takes the reply to the next frame, with its four length bytes. It takes no memory.
     pub fn take_reply(self, reply: &[u8]) -> Taken
+        ensures after { AfterReply self reply.now result }
         ensures less { left_behind result < frames_left self.state }
         ensures store { stopped_by result ≡ Some ReplyFault.StoreFault → reply.now ≡ reply_bytes StoreFault }
     {
@@ -48,9 +54,31 @@ impl Client<Behind> {
 }
 
 /// Whether the reply, all of these bytes, is the acknowledgement of this update frame.
-fn acknowledges(reply: &[u8], number: u32) -> bool {
-    match read_reply(reply) {
-        Ok(Some((Reply::Took(q), size))) => q == number && size == reply.len(),
-        _ => false,
+fn acknowledges(reply: &[u8], number: u32) -> bool
+    requires { IsNumber number }
+    ensures yes { result ≡ true → reply.now ≡ reply_bytes (Took number) }
+    ensures no { result ≡ false → reply.now ≢ reply_bytes (Took number) }
+{
+    match whole_reply(reply) {
+        Some(read) => is_took_of(read, number),
+        None => false,
+    }
+}
+
+/// Whether the reply is the acknowledgement of this update frame.
+fn is_took_of(reply: Reply<'_>, number: u32) -> bool
+    ensures { result ≡ is_took (seen_reply reply.entry) number }
+{
+    match reply {
+        Reply::Took(q) => q == number,
+        Reply::Next(_)
+        | Reply::Number(_)
+        | Reply::Clash { .. }
+        | Reply::Page { .. }
+        | Reply::BadList
+        | Reply::NoMemory
+        | Reply::StoreFault
+        | Reply::BadFrame(_)
+        | Reply::OutOfPlace => false,
     }
 }

@@ -1,5 +1,9 @@
-ghost use Rattle.std.specs.Prelude.{◌≡◌, ◌≤◌, ◌^◌, vec_len, IfOk};
+ghost use Rattle.std.specs.Prelude.{◌≡◌, ◌+◌, ◌*◌, ◌≤◌, ◌^◌, vec_len, IfOk};
+ghost use Rattle.sse_frames.specs.Frames.{SetupBegin, SetupDict, frame_bytes};
+ghost use Rattle.sse_frames.specs.Seen.{seen, entries_in};
 ghost use Rattle.sse_frames.specs.Sizes.{HasSizes, AreEntries};
+ghost use Rattle.client_core.specs.Sending.{frame_list};
+ghost use Rattle.client_core.specs.Setup.{setup_bytes};
 
 use index_setup::Index;
 use sse_frames::{ENTRIES_PER_FRAME, Frame, LABEL_LEN, write_frame};
@@ -9,6 +13,7 @@ use std::alloc::{AllocError, Global};
 pub(crate) fn setup_frames(alloc: Global, index: &Index) -> Result<Vec<Vec<u8>>, AllocError>
     ensures some { IfOk result (λ frames. 1 ≤ vec_len frames) }
     ensures most { IfOk result (λ frames. vec_len frames ≤ 2 ^ 21) }
+    ensures frames { IfOk result (λ frames. frame_list frames ≡ setup_bytes index.now.b index.now.big index.now.entries.items) }
 {
     let words = index.words() as usize;
     let width = index.cell_size();
@@ -28,7 +33,9 @@ pub(crate) fn setup_frames(alloc: Global, index: &Index) -> Result<Vec<Vec<u8>>,
     Ok(frames)
 }
 
-fn begin_frame(alloc: Global, index: &Index) -> Result<Vec<u8>, AllocError> {
+fn begin_frame(alloc: Global, index: &Index) -> Result<Vec<u8>, AllocError>
+    ensures { IfOk result (λ bytes. bytes.items ≡ frame_bytes (SetupBegin 0 index.now.b index.now.big index.now.words 0)) }
+{
     let begin = Frame::SetupBegin {
         q: 0,
         b: index.b(),
@@ -46,12 +53,14 @@ fn dictionary_frame(
     entries: &[u8],
 ) -> Result<Vec<u8>, AllocError>
     requires { AreEntries width entries.now }
+    ensures { IfOk result (λ bytes. bytes.items ≡ frame_bytes (SetupDict q width (entries_in width entries.now))) }
 {
     bytes_of(alloc, &Frame::SetupDict { q, width, entries })
 }
 
 fn bytes_of(alloc: Global, frame: &Frame<'_>) -> Result<Vec<u8>, AllocError>
     requires { HasSizes frame.now }
+    ensures { IfOk result (λ bytes. bytes.items ≡ frame_bytes (seen frame.now)) }
 {
     let mut bytes = Vec::new(alloc);
     write_frame(frame, &mut bytes)?;
