@@ -1,1 +1,15 @@
 pub mod Stops
+pub mod Refused
+pub mod LineFaults
+pub mod Outcome
+pub mod Built
+pub mod OutcomeViews
+pub mod Stages
+pub mod Meaning
+pub mod Exchange
+pub mod Ending
+pub mod Call
+pub mod Clauses
+pub mod Progress
+pub mod Carried
+pub mod Standing

@@ -1,11 +1,13 @@
 -- How the faults of the devices and of the server become what stops a run.
-use Rattle.std.specs.Prelude.{ℕ}
+use Rattle.std.specs.Prelude.{ℕ, List, take}
 use Rattle.client_core.specs.declared.reply_fault.ReplyFault.{ReplyFault}
 use Rattle.client_core.specs.declared.reply_fault.ReplyFault.TheVariants as faults
-use Rattle.sse_link.specs.declared.link_fault.LinkFault.{LinkFault}
+use Rattle.sse_link.specs.declared.link_fault.LinkFault.{LinkFault as FaultOfLink}
 use Rattle.sse_link.specs.declared.link_fault.LinkFault.TheVariants as links
 use Rattle.sse_outside.specs.declared.device_fault.DeviceFault.{DeviceFault}
 use Rattle.sse_outside.specs.declared.device_fault.DeviceFault.TheVariants as devices
+use Rattle.sse_script.specs.Shown.{Cause, BadWords, BadLine, SourceFault, LinkFault, NoMemory, LabelClash, Clash, PeerElsewhere, BadReply}
+use Rattle.sse_script.specs.Stops as ending
 use Rattle.sse_script.specs.declared.read_stop.ReadStop.{ReadStop}
 use Rattle.sse_script.specs.declared.read_stop.ReadStop.TheVariants as reads
 use Rattle.sse_client.specs.declared.peer_stop.PeerStop.{PeerStop}
@@ -13,7 +15,7 @@ use Rattle.sse_client.specs.declared.peer_stop.PeerStop.TheVariants as peers
 use Rattle.sse_client.specs.declared.stop.Stop.{Stop}
 use Rattle.sse_client.specs.declared.stop.Stop.TheVariants as stops
 
-abbrev pub stop_of_link : LinkFault → PeerStop
+abbrev pub stop_of_link : FaultOfLink → PeerStop
 stop_of_link links.Cut = peers.Link
 stop_of_link links.NoMemory = peers.Memory
 
@@ -25,23 +27,31 @@ abbrev pub stop_of_source : ReadStop → Stop
 stop_of_source reads.Failed = stops.Source
 stop_of_source reads.NoMemory = stops.Memory
 
--- the exit status of what stopped the exchange with the server
-abbrev pub peer_status : PeerStop → ℕ
-peer_status peers.Link = 5
-peer_status peers.Memory = 7
-peer_status (peers.LabelClash first second) = 8
-peer_status (peers.Clash what place) = 8
-peer_status (peers.Elsewhere got) = 9
-peer_status (peers.BadReply start) = 9
+-- the cause that is printed where the exchange with the server stopped a run; of a reply its first bytes
+abbrev pub peer_cause : PeerStop → Cause
+peer_cause peers.Link = LinkFault
+peer_cause peers.Memory = NoMemory
+peer_cause (peers.LabelClash first second) = LabelClash first second
+peer_cause (peers.Clash what place) = Clash what place
+peer_cause (peers.Elsewhere got) = PeerElsewhere 0 0 got
+peer_cause (peers.BadReply start) = BadReply (take start.len start.bytes)
 
--- the exit status of a run that was stopped
-abbrev pub status_of : Stop → ℕ
-status_of stops.Words = 2
-status_of (stops.Line number) = 2
-status_of stops.Source = 3
-status_of stops.Sink = 4
-status_of stops.Memory = 7
-status_of (stops.Peer stop) = peer_status stop
+-- the cause that is printed for a fault that was found in a reply
+abbrev pub cause_of_fault : ReplyFault → List ℕ → Cause
+cause_of_fault (faults.Clash what place) reply = Clash what place
+cause_of_fault faults.NoMemory reply = NoMemory
+cause_of_fault faults.OutOfMemory reply = NoMemory
+cause_of_fault faults.StoreFault reply = LinkFault
+cause_of_fault faults.BadReply reply = BadReply (take 16 reply)
+
+-- what stopped a run before the end of its input
+abbrev pub stop_view : Stop → ending.Stop
+stop_view stops.Words = ending.At BadWords
+stop_view (stops.Line number) = ending.At (BadLine number)
+stop_view stops.Source = ending.At SourceFault
+stop_view stops.Sink = ending.SinkFault
+stop_view stops.Memory = ending.At NoMemory
+stop_view (stops.Peer stop) = ending.At (peer_cause stop)
 
 -- what reading a line can stop a run with
 abbrev pub IsInputStop : Stop → Type 0

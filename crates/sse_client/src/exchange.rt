@@ -1,7 +1,10 @@
-ghost use Rattle.std.specs.Prelude.{◌≡◌, ◌≤◌, length, take, IfOk, IsErrOf};
+ghost use Rattle.std.specs.Prelude.{◌≡◌, ◌≢◌, ◌≤◌, ◌<◌, ◌^◌, ℕ, [], ◌∷◌, Some, Err, length, take, IfOk, IfErr, OnOk, IfSome, IsErrOf};
 ghost use Rattle.sse_outside.specs.Causes.{Rose};
-ghost use Rattle.sse_frames.specs.Replies.{StoreFault, reply_bytes};
-ghost use Rattle.sse_link.specs.Due.{is_open_page};
+ghost use Rattle.sse_frames.specs.Frames.{Hello};
+ghost use Rattle.sse_frames.specs.Replies.{Next, StoreFault, reply_bytes};
+ghost use Rattle.sse_frames.specs.Seen.{seen_reply};
+ghost use Rattle.sse_client.specs.Progress.{IsAnswered, IsUnanswered, IsExchanged, IsCutShort, next_number};
+ghost use Rattle.sse_client.specs.Stops.{peer_cause};
 
 use crate::peer_stop::PeerStop;
 use client_core::fault_of;
@@ -16,9 +19,12 @@ pub(crate) fn exchange<L: Link>(
     room: &mut [u8],
 ) -> Result<usize, PeerStop>
     requires { 65544 ≤ length room.old }
+    ensures answered { IfOk result (λ n. IsAnswered (L.transcript link.old) (L.transcript link.new) frame.now (take n room.new)) }
+    ensures unanswered { IfErr result (λ stop. IsUnanswered (L.transcript link.old) (L.transcript link.new) frame.now (peer_cause stop)) }
     ensures size { IfOk result (λ n. n ≤ length room.new) }
     ensures store { IfOk result (λ n. take n room.new ≡ reply_bytes StoreFault → Rose (L.faults link.old) (L.faults link.new)) }
     ensures later { L.faults link.old ≤ L.faults link.new }
+    ensures no_label_clash { (first second : ℕ) → result ≢ Err (PeerStop.LabelClash first second) }
     ensures failed { IsErrOf result PeerStop.Link → Rose (L.faults link.old) (L.faults link.new) }
 {
     link.send(frame)?;
@@ -29,7 +35,10 @@ pub(crate) fn exchange<L: Link>(
 /// Opens the session: sends Hello, to which a server that has taken nothing answers Next(0).
 pub(crate) fn greet<L: Link>(alloc: Global, link: &mut L, room: &mut [u8]) -> Result<(), PeerStop>
     requires { 65544 ≤ length room.old }
+    ensures greeted { OnOk result (IsExchanged (L.transcript link.old) (L.transcript link.new) [] (Hello ∷ [])) }
+    ensures cut { IfErr result (λ stop. IsCutShort (L.transcript link.old) (L.transcript link.new) (Hello ∷ []) (peer_cause stop)) }
     ensures later { L.faults link.old ≤ L.faults link.new }
+    ensures no_label_clash { (first second : ℕ) → result ≢ Err (PeerStop.LabelClash first second) }
     ensures failed { IsErrOf result PeerStop.Link → Rose (L.faults link.old) (L.faults link.new) }
 {
     let mut hello = Vec::new(alloc);
@@ -44,9 +53,39 @@ pub(crate) fn greet<L: Link>(alloc: Global, link: &mut L, room: &mut [u8]) -> Re
 }
 
 /// The number in a Next reply that is all of these bytes.
-fn next_in(reply: &[u8]) -> Option<u32> {
-    match read_reply(reply) {
-        Ok(Some((Reply::Next(number), size))) if size == reply.len() => Some(number),
-        _ => None,
+fn next_in(bytes: &[u8]) -> Option<u32>
+    ensures found { IfSome result (λ q. bytes.now ≡ reply_bytes (Next q)) }
+    ensures only { (q : ℕ) → q < 2 ^ 32 → bytes.now ≡ reply_bytes (Next q) → result ≡ Some q }
+{
+    match read_reply(bytes) {
+        Ok(found) => match found {
+            Some((reply, size)) => {
+                if size == bytes.len() {
+                    number_of(reply)
+                } else {
+                    None
+                }
+            }
+            None => None,
+        },
+        Err(_) => None,
+    }
+}
+
+/// The number of a Next reply.
+fn number_of(reply: Reply<'_>) -> Option<u32>
+    ensures { result ≡ next_number (seen_reply reply.entry) }
+{
+    match reply {
+        Reply::Next(number) => Some(number),
+        Reply::Took(_)
+        | Reply::Number(_)
+        | Reply::Clash { .. }
+        | Reply::Page { .. }
+        | Reply::BadList
+        | Reply::NoMemory
+        | Reply::StoreFault
+        | Reply::BadFrame(_)
+        | Reply::OutOfPlace => None,
     }
 }

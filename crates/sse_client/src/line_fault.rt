@@ -1,3 +1,7 @@
+ghost use Rattle.std.specs.Prelude.{◌≡◌, Some};
+ghost use Rattle.sse_client.specs.Refused.{word_refused, doc_refused, docs_refused};
+ghost use Rattle.sse_client.specs.LineFaults.{fault_shown, refusal_shown};
+
 use client_core::SetupFault;
 use client_registry::{DocFault, DocsFault, WordFault, Zero};
 use sse_script::Shown;
@@ -14,7 +18,9 @@ pub(crate) enum LineFault {
 
 impl LineFault {
     /// What a fault of the word field at this position, from 0, means.
-    pub(crate) fn of_word(fault: WordFault, position: u32) -> LineFault {
+    pub(crate) fn of_word(fault: WordFault, position: u32) -> LineFault
+        ensures { fault_shown result ≡ refusal_shown (word_refused position fault) }
+    {
         match fault {
             // A field has at least one byte, so this word isn't met.
             WordFault::Empty => LineFault::Refused(Shown::BadByte { position, place: 0 }),
@@ -26,12 +32,18 @@ impl LineFault {
 }
 
 impl From<Zero> for LineFault {
+    ghost use Rattle.sse_script.specs.Shown.{Refused as refusing, Zero as zero};
+
+    ghost from_gives = { λ _ fault. fault_shown fault ≡ Some (refusing zero) };
+
     fn from(_zero: Zero) -> LineFault {
         LineFault::Refused(Shown::Zero)
     }
 }
 
 impl From<DocFault> for LineFault {
+    ghost from_gives = { λ cause fault. fault_shown fault ≡ refusal_shown (doc_refused cause) };
+
     fn from(fault: DocFault) -> LineFault {
         match fault {
             DocFault::TooManyWords(n) => LineFault::Refused(Shown::TooManyWords { n }),
@@ -44,6 +56,8 @@ impl From<DocFault> for LineFault {
 }
 
 impl From<DocsFault> for LineFault {
+    ghost from_gives = { λ cause fault. fault_shown fault ≡ refusal_shown (docs_refused cause) };
+
     fn from(fault: DocsFault) -> LineFault {
         match fault {
             DocsFault::AlreadyLive(id) => LineFault::Refused(Shown::AlreadyLive { id }),
@@ -55,12 +69,20 @@ impl From<DocsFault> for LineFault {
 }
 
 impl From<AllocError> for LineFault {
+    ghost use Rattle.sse_client.specs.declared.line_fault.LineFault.TheVariants.{NoMemory};
+
+    ghost from_gives = { λ _ fault. fault ≡ NoMemory };
+
     fn from(_e: AllocError) -> LineFault {
         LineFault::NoMemory
     }
 }
 
 impl<T: Drop> From<AllocFailed<T>> for LineFault {
+    ghost use Rattle.sse_client.specs.declared.line_fault.LineFault.TheVariants.{NoMemory};
+
+    ghost from_gives = { λ _ fault. fault ≡ NoMemory };
+
     fn from(_e: AllocFailed<T>) -> LineFault {
         LineFault::NoMemory
     }

@@ -1,5 +1,8 @@
-ghost use Rattle.std.specs.Prelude.{◌≡◌, ◌≤◌, IsErrOf};
+ghost use Rattle.std.specs.Prelude.{◌≡◌, ℕ, ◌≤◌, take, flat_map, OnOk, IsErrOf};
+ghost use Rattle.std.specs.Io.KnownBytes.{append_known};
 ghost use Rattle.sse_outside.specs.Causes.{Rose};
+ghost use Rattle.sse_script.specs.Texts.{text_of};
+ghost use Rattle.sse_client.specs.OutcomeViews.{outcome_view, refuses};
 
 use sse_outside::{DeviceFault, Sink};
 use sse_script::{Shown, print};
@@ -20,12 +23,16 @@ pub(crate) enum Outcome {
 
 impl Outcome {
     /// Whether the command was refused.
-    pub(crate) fn is_refusal(&self) -> bool {
+    pub(crate) fn is_refusal(&self) -> bool
+        ensures { result ≡ refuses self.now }
+    {
         matches!(self, Outcome::Refused(_))
     }
 
     /// Prints the line of the outcome, where it has one.
     pub(crate) fn print<W: Sink>(&self, alloc: Global, sink: &mut W) -> Result<(), DeviceFault>
+        ensures all { OnOk result (W.written sink.new ≡ append_known (W.written sink.old) (flat_map text_of (outcome_view self.now))) }
+        ensures front { (n : ℕ) × (W.written sink.new ≡ append_known (W.written sink.old) (take n (flat_map text_of (outcome_view self.now)))) }
         ensures later { W.faults sink.old ≤ W.faults sink.new }
         ensures failed { IsErrOf result DeviceFault.Failed → Rose (W.faults sink.old) (W.faults sink.new) }
     {

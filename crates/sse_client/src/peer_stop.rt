@@ -1,4 +1,4 @@
-ghost use Rattle.std.specs.Prelude.{◌≡◌, ◌≤◌};
+ghost use Rattle.std.specs.Prelude.{◌≡◌, ◌≢◌, ◌≤◌, ℕ, take};
 
 use client_core::ReplyFault;
 use sse_link::LinkFault;
@@ -30,22 +30,30 @@ pub(crate) struct ReplyStart {
 }
 
 impl ReplyStart {
-    fn of(reply: &[u8]) -> ReplyStart {
+    fn of(reply: &[u8]) -> ReplyStart
+        ensures { take result.len result.bytes ≡ take 16 reply.now }
+    {
         let len = reply.len().min(16);
         let mut bytes = [0; 16];
         bytes[..len].copy_from_slice(&reply[..len]);
         ReplyStart { bytes, len }
     }
 
-    pub(crate) fn as_slice(&self) -> &[u8] {
+    pub(crate) fn as_slice(&self) -> &[u8]
+        ensures { result.now ≡ take self.now.len self.now.bytes }
+    {
         &self.bytes[..self.len]
     }
 }
 
 impl PeerStop {
+    ghost use Rattle.sse_client.specs.Stops.{peer_cause, cause_of_fault};
+
     /// What a fault that was found in these reply bytes means for the run.
     pub(crate) fn of_fault(fault: ReplyFault, reply: &[u8]) -> PeerStop
-        ensures { result ≡ PeerStop.Link → fault ≡ ReplyFault.StoreFault }
+        ensures cause { peer_cause result ≡ cause_of_fault fault reply.now }
+        ensures link { result ≡ PeerStop.Link → fault ≡ ReplyFault.StoreFault }
+        ensures no_label_clash { (first second : ℕ) → result ≢ PeerStop.LabelClash first second }
     {
         match fault {
             ReplyFault::Clash { what, place } => PeerStop::Clash { what, place },

@@ -1,6 +1,15 @@
-ghost use Rattle.std.specs.Prelude.{◌≡◌, ◌≢◌, ◌≤◌, length, IsErrOf, IfErr};
+ghost use Rattle.std.specs.Prelude.{◌≡◌, ◌≢◌, ◌≤◌, ℕ, List, Bool, false, length, map, take, string_bytes, IsErrOf, IfErr, IfOk};
+ghost use Rattle.std.specs.Io.KnownBytes.{append_known};
+ghost use Rattle.keyed_fn.specs.KeyedFn.{keyed_fn};
 ghost use Rattle.sse_outside.specs.Causes.{Rose};
-ghost use Rattle.sse_client.specs.Stops.{IsInputStop};
+ghost use Rattle.sse_script.specs.Shown.{Stopped, BadWords};
+ghost use Rattle.sse_script.specs.Stops.{status_of};
+ghost use Rattle.sse_script.specs.TextLines.{bytes_to_come, lines_left};
+ghost use Rattle.sse_script.specs.Texts.{text_of};
+ghost use Rattle.sse_client.specs.Call.{IsRun};
+ghost use Rattle.sse_client.specs.Ending.{stop_text};
+ghost use Rattle.sse_client.specs.Standing.{Outputs, Stands, RunsTo, EndsWell, has_refused};
+ghost use Rattle.sse_client.specs.Stops.{IsInputStop, stop_view};
 
 use crate::exchange::greet;
 use crate::input::Input;
@@ -26,7 +35,8 @@ enum Refusals {
 }
 
 /// All that a client program does with these words of its command line: `run` carries out the script
-/// of the source over the link and prints to the sink; the disk isn't touched.
+/// of the source over the link and prints to the sink; the disk isn't touched. Other words end with
+/// status 2 and `stopped: words`, and nothing is read, sent or received.
 pub fn sse_run<K: Keyed, L: Link, D: Disk, S: Source, W: Sink>(
     alloc: Global,
     words: &[String],
@@ -36,6 +46,11 @@ pub fn sse_run<K: Keyed, L: Link, D: Disk, S: Source, W: Sink>(
     source: &mut S,
     sink: &mut W,
 ) -> u8
+    ensures words_source { (IsRun (map (λ word. string_bytes word) words.now) → ⊥) → source.new ≡ source.old }
+    ensures words_link { (IsRun (map (λ word. string_bytes word) words.now) → ⊥) → link.new ≡ link.old }
+    ensures words_status { (IsRun (map (λ word. string_bytes word) words.now) → ⊥) → result ≡ 2 }
+    ensures words_line { (IsRun (map (λ word. string_bytes word) words.now) → ⊥) →
+        (n : ℕ) × (W.written sink.new ≡ append_known (W.written sink.old) (take n (text_of (Stopped BadWords)))) }
     ensures source_failed { result ≡ 3 → Rose (S.faults source.old) (S.faults source.new) }
     ensures sink_failed { result ≡ 4 → Rose (W.faults sink.old) (W.faults sink.new) }
     ensures link_failed { result ≡ 5 → Rose (L.faults link.old) (L.faults link.new) }
@@ -49,13 +64,24 @@ pub fn sse_run<K: Keyed, L: Link, D: Disk, S: Source, W: Sink>(
     match ended {
         Ok(Refusals::None) => 0,
         Ok(Refusals::Some) => 1,
-        Err(stop) => {
-            if let Some(shown) = stop.shown() {
-                let _ = print(alloc, sink, &shown);
-            }
-            stop.status()
-        }
+        Err(stop) => finish(alloc, sink, stop),
     }
+}
+
+/// Prints the last line of a run that stopped, as far as the sink takes it, and answers the run's status.
+fn finish<W: Sink>(alloc: Global, sink: &mut W, stop: Stop) -> u8
+    ensures status { (refused : Bool) → result ≡ status_of refused (stop_view stop) }
+    ensures line { (n : ℕ) × (W.written sink.new ≡ append_known (W.written sink.old) (take n (stop_text (stop_view stop)))) }
+    ensures later { W.faults sink.old ≤ W.faults sink.new }
+    ensures source { result ≡ 3 → stop ≡ Stop.Source }
+    ensures sink { result ≡ 4 → stop ≡ Stop.Sink }
+    ensures link { result ≡ 5 → stop ≡ Stop.Peer PeerStop.Link }
+    ensures known { (2 ≤ result) × (result ≤ 9) × (result ≢ 6) }
+{
+    if let Some(shown) = stop.shown() {
+        let _ = print(alloc, sink, &shown);
+    }
+    stop.status()
 }
 
 /// Carries out a script: its key line, the greeting, then each line to the end of the input.
@@ -113,6 +139,14 @@ fn run_lines<K: Keyed, L: Link, S: Source, W: Sink>(
     mut stage: Stage,
 ) -> Result<Refusals, Stop>
     requires { 65544 ≤ length room.old }
+    ensures ended { IfOk result (λ refusals. (bytes : List ℕ) (before : Outputs) →
+        Stands (keyed_fn K.prf K.pad) bytes before (record { told = L.transcript link.old; written = W.written sink.old })
+        (lines_left input.old.reader (S.remaining source.old)) stage false input.old.number (bytes_to_come input.old.reader (S.handed_out source.old)) →
+        EndsWell (keyed_fn K.prf K.pad) bytes before (record { told = L.transcript link.new; written = W.written sink.new }) (has_refused refusals)) }
+    ensures stopped { IfErr result (λ stop. (bytes : List ℕ) (before : Outputs) →
+        Stands (keyed_fn K.prf K.pad) bytes before (record { told = L.transcript link.old; written = W.written sink.old })
+        (lines_left input.old.reader (S.remaining source.old)) stage false input.old.number (bytes_to_come input.old.reader (S.handed_out source.old)) →
+        RunsTo (keyed_fn K.prf K.pad) bytes before (record { told = L.transcript link.new; written = W.written sink.new }) (stop_view stop)) }
     ensures source_later { S.faults source.old ≤ S.faults source.new }
     ensures source_failed { IsErrOf result Stop.Source → Rose (S.faults source.old) (S.faults source.new) }
     ensures sink_later { W.faults sink.old ≤ W.faults sink.new }
@@ -146,6 +180,10 @@ pub fn run_in_memory<K: Keyed + Copy, S: Source, W: Sink>(
     source: &mut S,
     sink: &mut W,
 ) -> u8
+    ensures words_source { (IsRun (map (λ word. string_bytes word) words.now) → ⊥) → source.new ≡ source.old }
+    ensures words_status { (IsRun (map (λ word. string_bytes word) words.now) → ⊥) → result ≡ 2 }
+    ensures words_line { (IsRun (map (λ word. string_bytes word) words.now) → ⊥) →
+        (n : ℕ) × (W.written sink.new ≡ append_known (W.written sink.old) (take n (text_of (Stopped BadWords)))) }
     ensures source_failed { result ≡ 3 → Rose (S.faults source.old) (S.faults source.new) }
     ensures sink_failed { result ≡ 4 → Rose (W.faults sink.old) (W.faults sink.new) }
     ensures no_link_fault { result ≢ 5 }

@@ -1,5 +1,11 @@
-ghost use Rattle.std.specs.Prelude.{◌≡◌, ◌≤◌, length, IsErrOf};
+ghost use Rattle.std.specs.Prelude.{◌≡◌, ◌≢◌, ◌≤◌, ℕ, [], ◌∷◌, Err, length, IfErr, IfOk, IsErrOf};
+ghost use Rattle.client_registry.specs.WordBytes.{word_bytes};
+ghost use Rattle.keyed_fn.specs.KeyFormulas.{token_of};
+ghost use Rattle.keyed_fn.specs.KeyedFn.{keyed_fn};
+ghost use Rattle.sse_frames.specs.Frames.{SearchFrame};
 ghost use Rattle.sse_outside.specs.Causes.{Rose};
+ghost use Rattle.sse_client.specs.Progress.{IsSearched, IsCutShort};
+ghost use Rattle.sse_client.specs.Stops.{peer_cause};
 
 use crate::peer_stop::PeerStop;
 use client_core::{Client, Found, Progress, Ready};
@@ -18,7 +24,12 @@ pub(crate) fn search<K: Keyed, L: Link>(
     room: &mut [u8],
 ) -> Result<Vec<u64>, PeerStop>
     requires { 65544 ≤ length room.old }
+    ensures searched { IfOk result (λ found. IsSearched (L.transcript link.old) (L.transcript link.new)
+        (SearchFrame (token_of (keyed_fn K.prf K.pad) client.now.key (word_bytes word.now))) found.items) }
+    ensures cut { IfErr result (λ stop. IsCutShort (L.transcript link.old) (L.transcript link.new)
+        (SearchFrame (token_of (keyed_fn K.prf K.pad) client.now.key (word_bytes word.now)) ∷ []) (peer_cause stop)) }
     ensures later { L.faults link.old ≤ L.faults link.new }
+    ensures no_label_clash { (first second : ℕ) → result ≢ Err (PeerStop.LabelClash first second) }
     ensures failed { IsErrOf result PeerStop.Link → Rose (L.faults link.old) (L.faults link.new) }
 {
     link.send(&client.search_frame(keyed, word))?;

@@ -1,5 +1,24 @@
-ghost use Rattle.std.specs.Prelude.{◌≡◌, ◌≢◌, ◌≤◌, Err, length, IsErrOf};
+ghost use Rattle.std.specs.Prelude.{◌≡◌, ◌≢◌, ◌≤◌, ◌^◌, ℕ, List, [], ◌∷◌, false, Some, None, Err, length, map, option_map, IfOk, IfErr, OnOk, IsErrOf, IsTrue};
+ghost use Rattle.std.specs.Result.{result_ok};
 ghost use Rattle.sse_outside.specs.Causes.{Rose};
+ghost use Rattle.client_registry.specs.declared.faults.SizeFault.{SizeFault};
+ghost use Rattle.index_setup.specs.Refused.{refused_by_size};
+ghost use Rattle.keyed_fn.specs.KeyedFn.{keyed_fn};
+ghost use Rattle.sse_script.specs.Lines as lines;
+ghost use Rattle.sse_script.specs.Shown as says;
+ghost use Rattle.sse_script.specs.ShownViews.{shown_view};
+ghost use Rattle.sse_script.specs.Views.{line_view};
+ghost use Rattle.sse_script.specs.declared.shown.Shown.{Shown as Printed};
+ghost use Rattle.sse_client.specs.Refused.{size_refused};
+ghost use Rattle.sse_client.specs.Carried.{key_of, frames_by_result, IsCarried};
+ghost use Rattle.sse_client.specs.Progress.{IsExchanged, IsCutAt, AreNumbered};
+ghost use Rattle.sse_client.specs.OutcomeViews.{outcome_view, refuses};
+ghost use Rattle.client_core.specs.Sending.{frame_list};
+ghost use Rattle.sse_frames.specs.Frames.{FrameText, frame_bytes};
+ghost use Rattle.sse_client.specs.Stops.{peer_cause};
+ghost use Rattle.sse_client.specs.Clauses.{label_clash};
+ghost use Rattle.sse_client.specs.Outcome.{Place, after};
+ghost use Rattle.sse_client.specs.Stages.{stage_view, place_view, words_in, is_alone, comes_to, DidAs};
 
 use crate::documents::{add_document, word_of};
 use crate::line_fault::LineFault;
@@ -30,7 +49,19 @@ pub(crate) fn take_line<K: Keyed, L: Link>(
     stage: Stage,
     line: Line<'_>,
 ) -> Result<(Stage, Outcome), PeerStop>
-    requires { 65544 ≤ length room.old }
+    requires room { 65544 ≤ length room.old }
+    requires words { words_in (line_view line) ≤ 2 ^ 19 }
+    ensures carried { IfOk result (λ done. (place : Place) → stage_view stage ≡ place_view place →
+        IsCarried (keyed_fn K.prf K.pad) (key_of stage) (L.transcript link.old) (L.transcript link.new) done.0 done.1 place (comes_to place (line_view line.entry))) }
+    ensures cut { IfErr result (λ stop. (place : Place) → stage_view stage ≡ place_view place →
+        IsCutAt (L.transcript link.old) (L.transcript link.new) (frames_by_result (keyed_fn K.prf K.pad) (key_of stage) place.history (comes_to place (line_view line.entry))) (peer_cause stop)) }
+    ensures clash { (first second : ℕ) → result ≡ Err (PeerStop.LabelClash first second) → (place : Place) → stage_view stage ≡ place_view place →
+        label_clash (keyed_fn K.prf K.pad) (Some (key_of stage)) (after (comes_to place (line_view line.entry)) place).history ≡ Some (first, second) }
+    ensures clash_link { (first second : ℕ) → result ≡ Err (PeerStop.LabelClash first second) → link.new ≡ link.old }
+    ensures alone { IfOk result (λ done. (place : Place) → stage_view stage ≡ place_view place → IsTrue (is_alone (line_view line.entry)) →
+        DidAs done.0 done.1 place (comes_to place (line_view line.entry))) }
+    ensures alone_stop { IsTrue (is_alone (line_view line.entry)) → IfErr result (λ stop. stop ≡ PeerStop.Memory) }
+    ensures alone_link { IsTrue (is_alone (line_view line.entry)) → link.new ≡ link.old }
     ensures later { L.faults link.old ≤ L.faults link.new }
     ensures failed { IsErrOf result PeerStop.Link → Rose (L.faults link.old) (L.faults link.new) }
 {
@@ -50,7 +81,11 @@ fn collect(
     id: u64,
     fields: Fields<'_>,
 ) -> Result<(Stage, Outcome), PeerStop>
-    ensures { result ≢ Err PeerStop.Link }
+    requires { length fields ≤ 2 ^ 19 }
+    ensures did { IfOk result (λ done. (place : Place) → stage_view stage ≡ place_view place →
+        DidAs done.0 done.1 place (comes_to place (lines.Doc id fields.entry))) }
+    ensures key { IfOk result (λ done. key_of done.0 ≡ key_of stage) }
+    ensures memory { IfErr result (λ stop. stop ≡ PeerStop.Memory) }
 {
     match stage {
         Stage::Collecting(client, mut docs) => {
@@ -66,7 +101,11 @@ fn collect(
 
 /// What a line without a line of its own comes to: nothing, or its refusal.
 fn refusal_of(done: Result<(), LineFault>) -> Result<Outcome, PeerStop>
-    ensures { result ≢ Err PeerStop.Link }
+    ensures nothing { OnOk done (result ≡ Ok Outcome.Nothing) }
+    ensures refused { (shown : Printed) → done ≡ Err (LineFault.Refused shown) → result ≡ Ok (Outcome.Refused shown) }
+    ensures memory { IsErrOf done LineFault.NoMemory → result ≡ Err PeerStop.Memory }
+    ensures link { result ≢ Err PeerStop.Link }
+    ensures no_label_clash { (first second : ℕ) → result ≢ Err (PeerStop.LabelClash first second) }
 {
     match done {
         Ok(()) => Ok(Outcome::Nothing),
@@ -86,6 +125,13 @@ fn set_up<K: Keyed, L: Link>(
     big: u64,
 ) -> Result<(Stage, Outcome), PeerStop>
     requires { 65544 ≤ length room.old }
+    ensures carried { IfOk result (λ done. (place : Place) → stage_view stage ≡ place_view place →
+        IsCarried (keyed_fn K.prf K.pad) (key_of stage) (L.transcript link.old) (L.transcript link.new) done.0 done.1 place (comes_to place (lines.SetupLine b big))) }
+    ensures cut { IfErr result (λ stop. (place : Place) → stage_view stage ≡ place_view place →
+        IsCutAt (L.transcript link.old) (L.transcript link.new) (frames_by_result (keyed_fn K.prf K.pad) (key_of stage) place.history (comes_to place (lines.SetupLine b big))) (peer_cause stop)) }
+    ensures clash { (first second : ℕ) → result ≡ Err (PeerStop.LabelClash first second) → (place : Place) → stage_view stage ≡ place_view place →
+        label_clash (keyed_fn K.prf K.pad) (Some (key_of stage)) (after (comes_to place (lines.SetupLine b big)) place).history ≡ Some (first, second) }
+    ensures clash_link { (first second : ℕ) → result ≡ Err (PeerStop.LabelClash first second) → link.new ≡ link.old }
     ensures later { L.faults link.old ≤ L.faults link.new }
     ensures failed { IsErrOf result PeerStop.Link → Rose (L.faults link.old) (L.faults link.new) }
 {
@@ -114,7 +160,16 @@ fn send_setup<L: Link>(
     room: &mut [u8],
 ) -> Result<(Stage, Outcome), PeerStop>
     requires { 65544 ≤ length room.old }
+    ensures sent { (frames : List FrameText) → frame_list planned.frames ≡ map frame_bytes frames → AreNumbered 0 frames →
+        OnOk result (IsExchanged (L.transcript link.old) (L.transcript link.new) [] frames) }
+    ensures cut { (frames : List FrameText) → frame_list planned.frames ≡ map frame_bytes frames → AreNumbered 0 frames →
+        IfErr result (λ stop. IsCutAt (L.transcript link.old) (L.transcript link.new) frames (peer_cause stop)) }
+    ensures shown { IfOk result (λ done. outcome_view done.1 ≡ says.SetUp planned.words planned.blocks ∷ []) }
+    ensures accepted { IfOk result (λ done. refuses done.1 ≡ false) }
+    ensures set_up { IfOk result (λ done. stage_view done.0 ≡ None) }
+    ensures key { IfOk result (λ done. key_of done.0 ≡ client.key) }
     ensures later { L.faults link.old ≤ L.faults link.new }
+    ensures no_label_clash { (first second : ℕ) → result ≢ Err (PeerStop.LabelClash first second) }
     ensures failed { IsErrOf result PeerStop.Link → Rose (L.faults link.old) (L.faults link.new) }
 {
     let (words, blocks) = (planned.words(), planned.blocks());
@@ -124,7 +179,11 @@ fn send_setup<L: Link>(
 
 /// The line of a refused setup; equal labels and want of memory end the run instead.
 fn setup_refusal(fault: SetupFault) -> Result<Shown<'static>, PeerStop>
-    ensures { result ≢ Err PeerStop.Link }
+    ensures size { (size : SizeFault) → fault ≡ refused_by_size size → option_map shown_view (result_ok result) ≡ Some (says.Refused (size_refused size)) }
+    ensures not_built { fault ≡ SetupFault.NotBuilt → option_map shown_view (result_ok result) ≡ Some (says.Refused says.NotBuilt) }
+    ensures clash { (first second : ℕ) → fault ≡ SetupFault.LabelClash first second → result ≡ Err (PeerStop.LabelClash first second) }
+    ensures memory { fault ≡ SetupFault.NoMemory → result ≡ Err PeerStop.Memory }
+    ensures link { result ≢ Err PeerStop.Link }
 {
     match fault {
         SetupFault::BadParameter { which, value } => Ok(Shown::BadParameter { which, value }),
@@ -146,7 +205,12 @@ fn find<K: Keyed, L: Link>(
     field: &[u8],
 ) -> Result<(Stage, Outcome), PeerStop>
     requires { 65544 ≤ length room.old }
+    ensures carried { IfOk result (λ done. (place : Place) → stage_view stage ≡ place_view place →
+        IsCarried (keyed_fn K.prf K.pad) (key_of stage) (L.transcript link.old) (L.transcript link.new) done.0 done.1 place (comes_to place (lines.Find field.now))) }
+    ensures cut { IfErr result (λ stop. (place : Place) → stage_view stage ≡ place_view place →
+        IsCutAt (L.transcript link.old) (L.transcript link.new) (frames_by_result (keyed_fn K.prf K.pad) (key_of stage) place.history (comes_to place (lines.Find field.now))) (peer_cause stop)) }
     ensures later { L.faults link.old ≤ L.faults link.new }
+    ensures no_label_clash { (first second : ℕ) → result ≢ Err (PeerStop.LabelClash first second) }
     ensures failed { IsErrOf result PeerStop.Link → Rose (L.faults link.old) (L.faults link.new) }
 {
     match stage {

@@ -1,5 +1,8 @@
-ghost use Rattle.std.specs.Prelude.{◌≡◌, ◌≢◌, ◌≤◌};
-ghost use Rattle.sse_client.specs.Stops as stops;
+ghost use Rattle.std.specs.Prelude.{◌≡◌, ◌≢◌, ◌≤◌, Bool, option_map};
+ghost use Rattle.sse_script.specs.Shown as says;
+ghost use Rattle.sse_script.specs.ShownViews.{shown_view};
+ghost use Rattle.sse_script.specs.Stops.{cause_status, status_of, stop_line};
+ghost use Rattle.sse_client.specs.Stops.{peer_cause, stop_view};
 
 use crate::peer_stop::PeerStop;
 use sse_outside::DeviceFault;
@@ -24,11 +27,9 @@ pub(crate) enum Stop {
 }
 
 impl Stop {
-    ghost use Rattle.sse_client.specs.Stops.{status_of};
-
     /// The exit status.
     pub(crate) fn status(&self) -> u8
-        ensures status { result ≡ status_of self.now }
+        ensures status { (refused : Bool) → result ≡ status_of refused (stop_view self.now) }
         ensures source { result ≡ 3 → self.now ≡ Stop.Source }
         ensures sink { result ≡ 4 → self.now ≡ Stop.Sink }
         ensures link { result ≡ 5 → self.now ≡ Stop.Peer PeerStop.Link }
@@ -45,7 +46,9 @@ impl Stop {
     }
 
     /// The last line of the run; none where the sink is what failed.
-    pub(crate) fn shown(&self) -> Option<Shown<'_>> {
+    pub(crate) fn shown(&self) -> Option<Shown<'_>>
+        ensures { option_map shown_view result ≡ stop_line (stop_view self.now) }
+    {
         match self {
             Stop::Words => Some(Shown::BadWords),
             Stop::Line(number) => Some(Shown::BadLine { number: *number }),
@@ -58,7 +61,7 @@ impl Stop {
 }
 
 fn peer_status(stop: &PeerStop) -> u8
-    ensures status { result ≡ stops.peer_status stop.now }
+    ensures status { result ≡ cause_status (peer_cause stop.now) }
     ensures least { 5 ≤ result }
     ensures known { (result ≤ 9) × (result ≢ 6) }
     ensures link { result ≡ 5 → stop.now ≡ PeerStop.Link }
@@ -73,7 +76,9 @@ fn peer_status(stop: &PeerStop) -> u8
     }
 }
 
-fn peer_shown(stop: &PeerStop) -> Shown<'_> {
+fn peer_shown(stop: &PeerStop) -> Shown<'_>
+    ensures { shown_view result ≡ says.Stopped (peer_cause stop.now) }
+{
     match stop {
         PeerStop::Link => Shown::LinkFault,
         PeerStop::Memory => Shown::NoMemory,

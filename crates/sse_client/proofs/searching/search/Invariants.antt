@@ -1,5 +1,9 @@
 use Rattle.std.proofs.Common.{◌≡◌, ◌-◌, ◌≤◌, true, length}
 use Rattle.client_core.specs.declared.found.TheConstants.{MAX_PAGES}
+use Rattle.client_registry.specs.WordBytes.{word_bytes}
+use Rattle.keyed_fn.specs.KeyFormulas.{token_of}
+use Rattle.keyed_fn.specs.KeyedFn.{keyed_fn}
+use Rattle.sse_client.proofs.Reading.{IsReading}
 use Rattle.sse_client.proofs.searching.search.Given as goal
 
 abbrev pub invariant-pages : goal.invariant-pages
@@ -7,6 +11,8 @@ invariant-pages g l = record {
   room : 65544 ≤ length l.room;
   due : g.L.Link.reply_due l.link ≡ true;
   later : g.L.Link.faults l.fn.link ≤ g.L.Link.faults l.link;
+  reading : IsReading (g.L.Link.transcript l.fn.link) (g.L.Link.transcript l.link)
+      (token_of (keyed_fn g.K.Keyed.prf g.K.Keyed.pad) l.fn.client.key (word_bytes l.fn.word)) l.found.ids.items l.found.pages;
 }
 
 abbrev pub decreases-pages : goal.decreases-pages

@@ -1,0 +1,36 @@
+pub mod FirstLines
+pub mod FirstCollisions
+pub mod Limits
+pub mod Sized
+pub mod MeaningBuilt
+pub mod Finds
+pub mod NoClash
+pub mod LineWords
+pub mod Collected
+pub mod AllLines
+pub mod Answers
+pub mod Exchanged
+pub mod Passing
+pub mod AnswersTaken
+pub mod UnderWay
+pub mod PagesRead
+pub mod Reading
+pub mod Replying
+pub mod Sessions
+pub mod Searched
+pub mod OverLink
+pub mod Undisturbed
+pub mod Headline
+mod Rows
+mod HeadlineRows
+pub mod Carrying
+pub mod SetupCarried
+pub mod NextFrames
+pub mod NextLine
+pub mod FramesFirst
+pub mod Standing
+pub mod Stopping
+pub mod StoppedWithin
+pub mod CutWithin
+pub mod CutShown
+pub mod CutStands
