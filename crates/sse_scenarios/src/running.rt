@@ -20,7 +20,7 @@ pub struct Ended {
 }
 
 /// Runs a script over a link; the calls of the source and the sink with these numbers, from 0, fail.
-pub fn run_over<K: Keyed, L: Link>(
+pub(crate) fn run_over<K: Keyed, L: Link>(
     alloc: Global,
     keyed: &K,
     link: &mut L,
