@@ -1,3 +1,5 @@
 pub mod Causes
 pub mod MemSink
 pub mod MemSource
+pub mod StdSink
+pub mod Told

@@ -14,7 +14,7 @@ pub trait Disk {
 
     ghost faults: { Self → ℕ };
 
-    /// The number of bytes of the file, at most 2^63. `Failed` comes only where the count of faults rose.
+    /// The number of bytes of the file, at most 2^63. With `Failed` the count of faults rose, and else it stays.
     fn len(&mut self) -> Result<u64, Failed>
         ensures bound { IfOk result (λ n. n ≤ 2 ^ 63) }
         ensures size { IfOk result (λ n. IfSome (content self.old) (λ bytes. n ≡ length bytes)) }
@@ -25,7 +25,7 @@ pub trait Disk {
     /// Puts the bytes of the file from byte `at` on, counted from 0, at the front of `out`, as many as there are
     /// and as fit, and answers how many: none where `at` is at or behind the end.
     ///
-    /// `Failed` comes only where the count of faults rose; what `out` holds is then left open.
+    /// With `Failed` the count of faults rose, and else it stays; what `out` holds after `Failed` is left open.
     fn read_at(&mut self, at: u64, out: &mut [u8]) -> Result<usize, Failed>
         ensures bound { ReadsAtMost result out.new }
         ensures bytes { IfOk result (λ n. IfSome (content self.old)

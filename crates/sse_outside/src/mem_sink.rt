@@ -1,4 +1,4 @@
-ghost use Rattle.std.specs.Prelude.{◌≡◌, ◌+◌, ◌-◌, ◌^◌, ◌<◌, ◌≤◌, ◌↔◌, min, [], length, take, Contains, Some, IfOk, OnErr, IsErrOf};
+ghost use Rattle.std.specs.Prelude.{◌≡◌, ◌+◌, ◌-◌, ◌^◌, ◌<◌, ◌≤◌, ◌↔◌, min, [], length, take, Contains, Some, IfOk, OnOk, OnErr, IsErrOf};
 ghost use Rattle.std.specs.Io.KnownBytes.{append_known};
 ghost use Rattle.sse_outside.specs.Causes.{Rose};
 
@@ -61,6 +61,8 @@ impl Sink for MemSink {
         ensures bytes_err { OnErr result (Some (bytes_of self.new) ≡ Some (bytes_of self.old)) }
         ensures later { faults_of self.old ≤ faults_of self.new }
         ensures failed { IsErrOf result DeviceFault.Failed → Rose (faults_of self.old) (faults_of self.new) }
+        ensures steady { OnOk result (faults_of self.new ≡ faults_of self.old) }
+        ensures no_memory { IsErrOf result DeviceFault.NoMemory → faults_of self.new ≡ faults_of self.old }
     {
         self.calls.count()?;
         self.bytes.extend_from_slice(bytes)?;

@@ -1,4 +1,4 @@
-ghost use Rattle.std.specs.Prelude.{◌≡◌, ℕ, ◌<◌, ◌≤◌, List, length, take, IfOk, OnErr, IsErrOf};
+ghost use Rattle.std.specs.Prelude.{◌≡◌, ℕ, ◌<◌, ◌≤◌, List, length, take, IfOk, OnOk, OnErr, IsErrOf};
 ghost use Rattle.std.specs.declared.option.Option.{Option};
 ghost use Rattle.std.specs.Io.KnownBytes.{append_known};
 ghost use Rattle.sse_outside.specs.Causes.{Rose};
@@ -16,13 +16,18 @@ pub trait Sink {
 
     /// Takes bytes from the front of `bytes`, which isn't empty, and answers how many: between one and all.
     ///
-    /// `DeviceFault::Failed` comes only where the count of faults rose in this call; a device that takes nothing
-    /// counts a fault. After an error none of `bytes` was taken.
+    /// After an error none of `bytes` was taken. With `DeviceFault::Failed` the count of faults rose in this call;
+    /// a device that takes nothing, as a full one, counts a fault. With any other answer the count stays, so that
+    /// want of memory never stands for a fault of the device.
     fn write(&mut self, bytes: &[u8]) -> Result<usize, DeviceFault>
         requires { 0 < length bytes.now }
         ensures some { IfOk result (λ n. (0 < n) × (n ≤ length bytes.now)) }
         ensures bytes { IfOk result (λ n. written self.new ≡ append_known (written self.old) (take n bytes.now)) }
         ensures bytes_err { OnErr result (written self.new ≡ written self.old) }
+
+        // The count of faults.
         ensures later { faults self.old ≤ faults self.new }
-        ensures failed { IsErrOf result DeviceFault.Failed → Rose (faults self.old) (faults self.new) };
+        ensures failed { IsErrOf result DeviceFault.Failed → Rose (faults self.old) (faults self.new) }
+        ensures steady { OnOk result (faults self.new ≡ faults self.old) }
+        ensures no_memory { IsErrOf result DeviceFault.NoMemory → faults self.new ≡ faults self.old };
 }

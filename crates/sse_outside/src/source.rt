@@ -21,8 +21,8 @@ pub trait Source {
     /// Puts the next bytes of the source at the front of `out`, which isn't empty, and answers how many they are.
     ///
     /// Zero bytes are the end of the input. A source hands out at most 2^63 bytes in all: a read that would pass
-    /// this answers `Failed`, as any fault of the device does, and its count of faults has then risen. After
-    /// `Failed` nothing of the source is lost; what `out` holds is left open.
+    /// this answers `Failed`, as at any fault of the device. With `Failed` the count of faults rose in this call, and
+    /// else it stays. After `Failed` nothing of the source is lost; what `out` holds is left open.
     fn read(&mut self, out: &mut [u8]) -> Result<usize, Failed>
         requires { 0 < length out.old }
         ensures bound { ReadsAtMost result out.new }

@@ -1,56 +1,141 @@
-ghost use Rattle.std.specs.Prelude.{◌≡◌, None};
+ghost use Rattle.std.specs.Prelude.{◌≡◌, ◌≢◌, ◌<◌, ◌≤◌, length, take, Err, IfOk, OnOk, OnErr, IsErrOf};
+ghost use Rattle.std.specs.Io.KnownBytes.{append_known};
+ghost use Rattle.sse_outside.specs.Causes.{HasCause, Rose};
+ghost use Rattle.sse_outside.specs.Told.{AllTellOrNone};
 
-use crate::{DeviceFault, Sink};
-use std::io::Write;
+use crate::{DeviceFault, Failed, Sink};
+use std::io::{ErrorKind, Write};
 
-/// A sink over a writer of std, as standard output. What it took can't be told.
+/// A sink over a writer of std, as standard output. It tells the bytes that the writer tells: those of a `Vec` are
+/// told, those of standard output or of a file can't be.
 ///
-/// Each error of the writer is a fault, an interrupted call too, and so is a write that takes nothing, as of a
-/// device that is full.
+/// A write that a signal interrupts is tried again, up to 2^64 - 1 times. Every other error of the writer is a
+/// fault, and so is a write that takes nothing, as of a device that is full. The writer is never flushed, so it
+/// should keep nothing back.
 #[derive(Drop)]
 pub struct StdSink<W: Write> {
     writer: W,
     faults: u64,
+    ghost told: { AllTellOrNone W.contents },
 }
 
 impl<W: Write> StdSink<W> {
-    /// A sink that hands all bytes on to `writer`.
+    /// A sink that hands all bytes on to `writer`. Writers of its type must all tell their bytes, or none of them.
     pub fn new(writer: W) -> StdSink<W>
-        ensures { ⟦<StdSink<W> as Sink>⟧.faults result ≡ 0 }
+        requires { AllTellOrNone W.contents }
+        ensures content { ⟦<StdSink<W> as Sink>⟧.written result ≡ W.contents writer }
+        ensures faults { ⟦<StdSink<W> as Sink>⟧.faults result ≡ 0 }
     {
         StdSink { writer, faults: 0 }
     }
 }
 
 impl<W: Write> Sink for StdSink<W> {
-    ghost written = { λ _. None };
+    ghost use Rattle.sse_outside.specs.StdSink.{written_of, faults_of};
 
-    ghost faults = { λ s. s.faults };
+    ghost written = { written_of };
 
-    fn write(&mut self, bytes: &[u8]) -> Result<usize, DeviceFault> {
-        match self.writer.write(bytes) {
-            Ok(count) if count > 0 => Ok(count),
-            _ => {
+    ghost faults = { faults_of };
+
+    fn write(&mut self, bytes: &[u8]) -> Result<usize, DeviceFault>
+        requires { 0 < length bytes.now }
+
+        // It takes no memory, and each error is a fault that was counted.
+        ensures cause { HasCause (faults_of self.old) (faults_of self.new) result }
+        ensures never_memory { result ≢ Err DeviceFault.NoMemory }
+
+        // As of every sink.
+        ensures some { IfOk result (λ n. (0 < n) × (n ≤ length bytes.now)) }
+        ensures bytes { IfOk result (λ n.
+            written_of self.new ≡ append_known (written_of self.old) (take n bytes.now)) }
+        ensures bytes_err { OnErr result (written_of self.new ≡ written_of self.old) }
+        ensures later { faults_of self.old ≤ faults_of self.new }
+        ensures failed { IsErrOf result DeviceFault.Failed → Rose (faults_of self.old) (faults_of self.new) }
+        ensures steady { OnOk result (faults_of self.new ≡ faults_of self.old) }
+        ensures no_memory { IsErrOf result DeviceFault.NoMemory → faults_of self.new ≡ faults_of self.old }
+    {
+        match write_retrying(&mut self.writer, bytes) {
+            Ok(count) => Ok(count),
+            Err(Failed) => {
                 self.faults = self.faults.saturating_add(1);
-                Err(DeviceFault::Failed)
+                Err(Failed.into())
             }
         }
     }
 }
 
+/// One write, tried again where a signal interrupts it. It fails where the writer takes nothing.
+fn write_retrying<W: Write>(writer: &mut W, bytes: &[u8]) -> Result<usize, Failed>
+    requires { AllTellOrNone W.contents }
+    ensures some { IfOk result (λ n. (0 < n) × (n ≤ length bytes.now)) }
+    ensures bytes { IfOk result (λ n. W.contents writer.new ≡ append_known (W.contents writer.old) (take n bytes.now)) }
+    ensures bytes_err { OnErr result (W.contents writer.new ≡ W.contents writer.old) }
+{
+    for _ in 0..u64::MAX {
+        match writer.write(bytes) {
+            Ok(count) if count > 0 => return Ok(count),
+            Ok(_) => return Err(Failed),
+            Err(error) if error.kind() == ErrorKind::Interrupted => continue,
+            Err(_) => return Err(Failed),
+        }
+    }
+    Err(Failed)
+}
+
 #[cfg(test)]
 mod tests {
     use super::*;
+    use std::io;
+    use std::test::Fail;
+
+    /// Takes one byte at each `None`, and fails with the kind of error at each other place.
+    #[derive(Drop)]
+    struct Scripted<'a>(&'a [Option<ErrorKind>]);
+
+    impl Write for Scripted<'_> {
+        fn write(&mut self, buf: &[u8]) -> io::Result<usize> {
+            let [first, others @ ..] = self.0 else {
+                return Ok(0);
+            };
+            self.0 = others;
+            match first {
+                None => Ok(buf.len().min(1)),
+                Some(kind) => Err(io::Error::new(*kind, "scripted")),
+            }
+        }
+
+        fn flush(&mut self) -> io::Result<()> {
+            Ok(())
+        }
+    }
 
     #[test]
-    fn a_full_device_counts_a_fault(rt: HostRuntime) {
-        let mut room = [0; 4];
-        let mut sink = StdSink::new(room.as_mut_slice());
-        let expected = [(Ok(3), 0), (Ok(1), 0), (Err(DeviceFault::Failed), 1)];
+    fn an_interrupted_write_goes_on_and_other_errors_and_a_full_device_are_faults(rt: HostRuntime) {
+        let mut sink = StdSink::new(Scripted(&[
+            None,
+            Some(ErrorKind::Interrupted),
+            Some(ErrorKind::Interrupted),
+            None,
+            Some(ErrorKind::OutOfMemory),
+        ]));
+        let expected = [
+            (Ok(1), 0),
+            (Ok(1), 0),
+            (Err(DeviceFault::Failed), 1),
+            (Err(DeviceFault::Failed), 2),
+        ];
         for (i, (answer, faults)) in expected.iter().enumerate() {
             assert_eq!(rt; sink.write(b"abc"), *answer, "write {i}");
             assert_eq!(rt; sink.faults, *faults, "write {i}");
         }
-        assert_eq!(rt; room, *b"abca");
+    }
+
+    #[test]
+    fn a_vector_tells_what_was_written(rt: HostRuntime) -> Result<(), Fail> {
+        let mut sink = StdSink::new(Vec::new(rt.alloc()));
+        assert_eq!(rt; sink.write(b"ab"), Ok(2));
+        assert_eq!(rt; sink.write(b"c"), Ok(1));
+        assert_eq!(rt; sink.writer.as_slice(), b"abc".as_slice());
+        Ok(())
     }
 }

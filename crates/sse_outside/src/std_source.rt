@@ -1,26 +1,33 @@
-ghost use Rattle.std.specs.Prelude.{◌≡◌, ◌^◌, ◌≤◌, None};
+ghost use Rattle.std.specs.Prelude.{◌≡◌, ◌-◌, ◌^◌, ◌≤◌, min, take, IfOk, OnErr};
+ghost use Rattle.std.specs.Io.{ReadsAtMost};
+ghost use Rattle.std.specs.Io.KnownBytes.{prepend_known, IsAtEnd};
+ghost use Rattle.sse_outside.specs.Told.{AllTellOrNone};
 
 use crate::{Failed, Source};
-use std::io::Read;
+use std::io::{ErrorKind, Read};
 
 /// The most bytes that a source hands out.
 const MOST_BYTES: u64 = 1 << 63;
 
-/// A source over a reader of std, as standard input. Its bytes can't be told.
+/// A source over a reader of std, as standard input. It tells the bytes that the reader tells: those of a slice of
+/// bytes are told, those of standard input or of a file can't be.
 ///
-/// Each error of the reader, an interrupted call too, is a fault; a read that would pass 2^63 bytes in all is one
-/// as well.
+/// A read that a signal interrupts is tried again, up to 2^64 - 1 times. Every other error of the reader is a fault,
+/// and so is a read behind 2^63 bytes in all, for which the reader isn't asked.
 #[derive(Drop)]
 pub struct StdSource<R: Read> {
     reader: R,
     handed_out: u64,
     faults: u64,
     ghost in_limit: { handed_out ≤ 2 ^ 63 },
+    ghost told: { AllTellOrNone R.remaining },
 }
 
 impl<R: Read> StdSource<R> {
-    /// A source of what `reader` gives.
+    /// A source of what `reader` gives. Readers of its type must all tell their bytes, or none of them.
     pub fn new(reader: R) -> StdSource<R>
+        requires { AllTellOrNone R.remaining }
+        ensures content { ⟦<StdSource<R> as Source>⟧.remaining result ≡ R.remaining reader }
         ensures handed_out { ⟦<StdSource<R> as Source>⟧.handed_out result ≡ 0 }
         ensures faults { ⟦<StdSource<R> as Source>⟧.faults result ≡ 0 }
     {
@@ -33,19 +40,20 @@ impl<R: Read> StdSource<R> {
 }
 
 impl<R: Read> Source for StdSource<R> {
-    ghost remaining = { λ _. None };
+    ghost remaining = { λ s. R.remaining s.reader };
 
     ghost handed_out = { λ s. s.handed_out };
 
     ghost faults = { λ s. s.faults };
 
     fn read(&mut self, out: &mut [u8]) -> Result<usize, Failed> {
-        match self.reader.read(out) {
-            Ok(count) if count as u64 <= MOST_BYTES - self.handed_out => {
+        let (room, _) = out.split_at_mut(room_left(self.handed_out, out.len()));
+        match read_retrying(&mut self.reader, room) {
+            Ok(count) => {
                 self.handed_out += count as u64;
                 Ok(count)
             }
-            _ => {
+            Err(Failed) => {
                 self.faults = self.faults.saturating_add(1);
                 Err(Failed)
             }
@@ -53,14 +61,44 @@ impl<R: Read> Source for StdSource<R> {
     }
 }
 
+/// How many of `wanted` bytes may still be handed out.
+fn room_left(handed_out: u64, wanted: usize) -> usize
+    ensures { result ≡ min wanted (2 ^ 63 - handed_out) }
+{
+    let left = MOST_BYTES.saturating_sub(handed_out);
+    wanted.min(left as usize)
+}
+
+/// One read, tried again where a signal interrupts it. With no room to read into it fails, and the reader isn't
+/// asked.
+fn read_retrying<R: Read>(reader: &mut R, out: &mut [u8]) -> Result<usize, Failed>
+    requires { AllTellOrNone R.remaining }
+    ensures bound { ReadsAtMost result out.new }
+    ensures bytes { IfOk result (λ n. R.remaining reader.old ≡ prepend_known (take n out.new) (R.remaining reader.new)) }
+    ensures end { IfOk result (λ n. n ≡ 0 → IsAtEnd (R.remaining reader.new)) }
+    ensures bytes_err { OnErr result (R.remaining reader.new ≡ R.remaining reader.old) }
+{
+    if out.is_empty() {
+        return Err(Failed);
+    }
+    for _ in 0..u64::MAX {
+        match reader.read(out) {
+            Ok(count) => return Ok(count),
+            Err(error) if error.kind() == ErrorKind::Interrupted => continue,
+            Err(_) => return Err(Failed),
+        }
+    }
+    Err(Failed)
+}
+
 #[cfg(test)]
 mod tests {
     use super::*;
     use std::io;
 
-    /// Gives one byte for each number, and an error for each `None`.
+    /// Gives one byte for each number, and fails with the kind of error at each other place.
     #[derive(Drop)]
-    struct Scripted<'a>(&'a [Option<u8>]);
+    struct Scripted<'a>(&'a [Result<u8, ErrorKind>]);
 
     impl Read for Scripted<'_> {
         fn read(&mut self, buf: &mut [u8]) -> io::Result<usize> {
@@ -69,18 +107,25 @@ mod tests {
             };
             self.0 = others;
             match (first, buf) {
-                (Some(byte), [front, ..]) => {
+                (Ok(byte), [front, ..]) => {
                     *front = *byte;
                     Ok(1)
                 }
-                _ => Err(io::Error::from(io::ErrorKind::Other)),
+                (Ok(_), []) => Ok(0),
+                (Err(kind), _) => Err(io::Error::new(*kind, "scripted")),
             }
         }
     }
 
     #[test]
-    fn an_error_of_the_reader_is_a_fault_and_the_end_is_none(rt: HostRuntime) {
-        let mut source = StdSource::new(Scripted(&[Some(7), None, Some(9)]));
+    fn an_interrupted_read_goes_on_and_other_errors_are_faults(rt: HostRuntime) {
+        let mut source = StdSource::new(Scripted(&[
+            Ok(7),
+            Err(ErrorKind::Other),
+            Err(ErrorKind::Interrupted),
+            Err(ErrorKind::Interrupted),
+            Ok(9),
+        ]));
         let mut out = [0; 3];
         let expected = [
             (Ok(1), 7, 0),
@@ -94,5 +139,17 @@ mod tests {
             assert_eq!(rt; source.faults, *faults, "read {i}");
         }
         assert_eq!(rt; source.handed_out, 2);
+    }
+
+    #[test]
+    fn no_byte_is_read_behind_the_limit(rt: HostRuntime) {
+        let mut source = StdSource::new(b"abcd".as_slice());
+        source.handed_out = MOST_BYTES - 3;
+        let mut out = [0; 2];
+        assert_eq!(rt; source.read(&mut out), Ok(2));
+        assert_eq!(rt; source.read(&mut out), Ok(1));
+        assert_eq!(rt; out, *b"cb");
+        assert_eq!(rt; source.read(&mut out), Err(Failed));
+        assert_eq!(rt; source.reader, b"d".as_slice());
     }
 }

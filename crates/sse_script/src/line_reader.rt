@@ -2,11 +2,11 @@ ghost use Rattle.std.specs.Prelude.{◌≡◌, ◌≢◌, ℕ, ◌+◌, ◌^◌,
 ghost use Rattle.std.specs.Option.{option_map};
 ghost use Rattle.std.specs.List.{position_or_len, after_first};
 ghost use Rattle.std.specs.Io.KnownBytes.{prepend_known, IsAtEnd};
-ghost use Rattle.sse_outside.specs.Causes.{Rose};
+ghost use Rattle.sse_outside.specs.Causes.{HasCause, Rose};
 ghost use Rattle.sse_script.specs.TextLines.{lines_left, bytes_to_come, TakesNext};
 
 use crate::{NextLine, NoMemory, ReadStop};
-use sse_outside::Source;
+use sse_outside::{Failed, Source};
 use std::alloc::Global;
 use std::marker::Model;
 
@@ -54,8 +54,8 @@ impl LineReader {
     ///
     /// A last line needs no ending: `a`, and `a` with 0a behind it, have one line each, an empty input has none.
     /// A line of more than `MAX_LINE` bytes is passed over, with its ending. With no line read, `line` is empty.
-    /// `ReadStop::Failed` comes only where the source's count of faults rose. After an error some front of what was
-    /// left is lost, which may end within a line.
+    /// After an error some front of what was left is lost, which may end within a line. With `ReadStop::Failed` the
+    /// source's count of faults rose, and with any other answer it stays.
     pub fn next_line<S: Source>(
         &mut self,
         source: &mut S,
@@ -72,6 +72,8 @@ impl LineReader {
             < bytes_to_come self.old (S.handed_out source.old)) }
         ensures later { S.faults source.old ≤ S.faults source.new }
         ensures failed { IsErrOf result ReadStop.Failed → Rose (S.faults source.old) (S.faults source.new) }
+        ensures steady { OnOk result (S.faults source.new ≡ S.faults source.old) }
+        ensures no_memory { IsErrOf result ReadStop.NoMemory → S.faults source.new ≡ S.faults source.old }
     {
         line.clear();
         'reading: loop {
@@ -99,13 +101,12 @@ impl LineReader {
     }
 
     /// Passes over the rest of a line, with its ending.
-    fn skip_line<S: Source>(&mut self, source: &mut S) -> Result<(), ReadStop>
+    fn skip_line<S: Source>(&mut self, source: &mut S) -> Result<(), Failed>
         ensures rest { OnOk result (prepend_known self.new (S.remaining source.new)
             ≡ option_map (after_first (λ b. b == 10)) (prepend_known self.old (S.remaining source.old))) }
         ensures come { OnOk result (bytes_to_come self.new (S.handed_out source.new)
             ≤ bytes_to_come self.old (S.handed_out source.old)) }
-        ensures later { S.faults source.old ≤ S.faults source.new }
-        ensures failed { IsErrOf result ReadStop.Failed → Rose (S.faults source.old) (S.faults source.new) }
+        ensures cause { HasCause (S.faults source.old) (S.faults source.new) result }
     {
         'skipping: loop {
             let count = self.line_front();
@@ -160,7 +161,7 @@ impl LineReader {
     }
 
     /// Reads more bytes where none is pending, and answers how many: none is the end of the input.
-    fn refill<S: Source>(&mut self, source: &mut S) -> Result<usize, ReadStop>
+    fn refill<S: Source>(&mut self, source: &mut S) -> Result<usize, Failed>
         requires { self.old ≡ [] }
         ensures count { IfOk result (λ n. n ≡ length self.new) }
         ensures same { OnOk result (prepend_known self.new (S.remaining source.new) ≡ S.remaining source.old) }
@@ -168,8 +169,7 @@ impl LineReader {
         ensures handed { IfOk result (λ n. S.handed_out source.new ≡ S.handed_out source.old + n) }
         ensures within { OnOk result (S.handed_out source.new ≤ 2 ^ 63) }
         ensures err { OnErr result (self.new ≡ []) }
-        ensures later { S.faults source.old ≤ S.faults source.new }
-        ensures failed { IsErrOf result ReadStop.Failed → Rose (S.faults source.old) (S.faults source.new) }
+        ensures cause { HasCause (S.faults source.old) (S.faults source.new) result }
     {
         let count = source.read(&mut self.chunk)?;
         self.from = 0;

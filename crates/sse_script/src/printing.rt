@@ -11,13 +11,15 @@ use std::alloc::Global;
 
 /// Prints one line, its end (byte 0a) included, in time and memory in proportion to its length.
 ///
-/// After an error the sink has taken some front of that line, and no other byte. `Failed` comes only where the
-/// sink's count of faults rose, and `NoMemory` where there was no memory here or in the sink.
+/// After an error the sink has taken some front of that line, and no other byte. With `DeviceFault::Failed` the sink's
+/// count of faults rose, and with any other answer it stays; `NoMemory` is want of memory here or in the sink.
 pub fn print<W: Sink>(alloc: Global, sink: &mut W, shown: &Shown<'_>) -> Result<(), DeviceFault>
     ensures all { OnOk result (W.written sink.new ≡ append_known (W.written sink.old) (text_of (shown_view shown.now))) }
     ensures front { (n : ℕ) × (W.written sink.new ≡ append_known (W.written sink.old) (take n (text_of (shown_view shown.now)))) }
     ensures later { W.faults sink.old ≤ W.faults sink.new }
     ensures failed { IsErrOf result DeviceFault.Failed → Rose (W.faults sink.old) (W.faults sink.new) }
+    ensures steady { OnOk result (W.faults sink.new ≡ W.faults sink.old) }
+    ensures no_memory { IsErrOf result DeviceFault.NoMemory → W.faults sink.new ≡ W.faults sink.old }
 {
     let text = line_text(alloc, shown)?;
     print_all(sink, text.as_bytes())

@@ -261,6 +261,18 @@ fn printed_lines(rt: HostRuntime) -> Result<(), Fail> {
 }
 
 #[test]
+fn a_search_that_finds_every_document_of_a_full_setup_is_printed(
+    rt: HostRuntime,
+) -> Result<(), Fail> {
+    let ids = vec![in rt.alloc(); 7; 1 << 18]?;
+    let mut sink = SteadySink::new(rt.alloc());
+    print(rt.alloc(), &mut sink, &Shown::Found { ids: &ids })?;
+    assert!(rt; sink.bytes().starts_with(b"found 262144: 7 7 7"));
+    assert_eq!(rt; sink.bytes().len(), 13 + 2 * (1 << 18) + 1);
+    Ok(())
+}
+
+#[test]
 fn a_failing_sink_has_the_lines_before(rt: HostRuntime) -> Result<(), Fail> {
     let fails = Vec::from_slice(rt.alloc(), [1].as_slice())?;
     let mut sink = MemSink::new(rt.alloc(), fails);

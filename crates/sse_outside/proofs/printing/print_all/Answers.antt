@@ -1,4 +1,4 @@
-use Rattle.std.proofs.Common.{arith}
+use Rattle.std.proofs.Common.{◌∙◌, arith}
 use Rattle.sse_outside.proofs.Known.{append_known-front}
 use Rattle.sse_outside.proofs.printing.print_all.Goals as goal
 
@@ -6,5 +6,5 @@ pub loop-done-preserved : goal.loop-done-preserved
 loop-done-preserved g c = record {
   within = omega (arith, c.in_ok-done.ensures.some, c.split_at.ensures.back_len);
   front = append_known-front _ _ _ _ _ _ _ c.loop-done.invariant.front c.split_at.ensures.back c.in_ok-done.ensures.bytes;
-  later = omega (arith, c.loop-done.invariant.later, c.write.ensures.later);
+  steady = c.in_ok-done.ensures.steady ∙ c.loop-done.invariant.steady;
 }

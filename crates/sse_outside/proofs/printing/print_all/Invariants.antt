@@ -2,12 +2,12 @@ use Rattle.std.proofs.Common.{length, ◌-◌, ◌≡◌, ◌≤◌, take}
 use Rattle.std.specs.Io.KnownBytes.{append_known}
 use Rattle.sse_outside.proofs.printing.print_all.Given as goal
 
--- the sink has taken the front of the bytes
+-- the sink has taken the front of the bytes, with no fault
 abbrev pub invariant-loop-done : goal.invariant-loop-done
 invariant-loop-done g l = record {
   within : l.done ≤ length l.bytes;
   front : g.W.Sink.written l.sink ≡ append_known (g.W.Sink.written l.fn.sink) (take l.done l.bytes);
-  later : g.W.Sink.faults l.fn.sink ≤ g.W.Sink.faults l.sink;
+  steady : g.W.Sink.faults l.sink ≡ g.W.Sink.faults l.fn.sink;
 }
 
 abbrev pub decreases-loop-done : goal.decreases-loop-done

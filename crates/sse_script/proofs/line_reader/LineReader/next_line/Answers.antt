@@ -49,7 +49,7 @@ reading-preserved g c = record {
     c.in_ok-refill.ensures.within,
     c.reading.invariant.come,
   );
-  later = omega (arith, c.refill.ensures.later, c.reading.invariant.later);
+  steady = c.in_ok-refill.ensures.cause.steady ∙ c.reading.invariant.steady;
 }
 
 pub returns-in-reading-clause-taken : goal.returns-in-reading-clause-taken

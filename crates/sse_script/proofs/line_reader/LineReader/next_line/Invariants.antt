@@ -14,7 +14,7 @@ invariant-reading g l = record {
   short : length l.line.items ≤ MAX_LINE;
   come : length l.line.items + bytes_to_come l.self (g.S.Source.handed_out l.source)
       ≡ bytes_to_come l.initial.self (g.S.Source.handed_out l.initial.source);
-  later : g.S.Source.faults l.initial.source ≤ g.S.Source.faults l.source;
+  steady : g.S.Source.faults l.source ≡ g.S.Source.faults l.initial.source;
 }
 
 abbrev pub decreases-reading : goal.decreases-reading

@@ -20,5 +20,5 @@ skipping-preserved g c =
           ∙ sym (after_first-unended c.skipping.self _ unended)
           ∙ c.skipping.invariant.rest;
       come = omega (arith, c.in_ok-refill.ensures.count, c.in_ok-refill.ensures.handed, c.in_ok-refill.ensures.within, c.skipping.invariant.come);
-      later = omega (arith, c.refill.ensures.later, c.skipping.invariant.later);
+      steady = c.in_ok-refill.ensures.cause.steady ∙ c.skipping.invariant.steady;
     }

@@ -11,7 +11,7 @@ invariant-skipping g l = record {
   rest : option_map (after_first (λ b. b == 10)) (prepend_known l.self (g.S.Source.remaining l.source))
       ≡ option_map (after_first (λ b. b == 10)) (prepend_known l.initial.self (g.S.Source.remaining l.initial.source));
   come : bytes_to_come l.self (g.S.Source.handed_out l.source) ≤ bytes_to_come l.initial.self (g.S.Source.handed_out l.initial.source);
-  later : g.S.Source.faults l.initial.source ≤ g.S.Source.faults l.source;
+  steady : g.S.Source.faults l.source ≡ g.S.Source.faults l.initial.source;
 }
 
 abbrev pub decreases-skipping : goal.decreases-skipping
