@@ -1,13 +1,13 @@
 ghost use Rattle.std.specs.Prelude.{◌≡◌, ◌++◌, ℕ, List, []};
 
-use crate::key_block::{INNER_MASK, OUTER_MASK, key_block, mask_in_place};
+use crate::hmac_key::HmacKey;
 use sha2::{Digest, Sha256};
 
 /// HMAC-SHA-256 of a text that comes in pieces, one after another.
 #[derive(Drop)]
 pub struct Hmac {
-    inner: Sha256,
-    outer: Sha256,
+    pub(crate) inner: Sha256,
+    pub(crate) outer: Sha256,
 }
 
 impl Hmac {
@@ -18,14 +18,7 @@ impl Hmac {
     pub fn new(key: &[u8]) -> Hmac
         ensures { IsMac result key.now [] }
     {
-        let mut inner_block = key_block(key);
-        let mut outer_block = inner_block;
-        mask_in_place(&mut inner_block, INNER_MASK);
-        mask_in_place(&mut outer_block, OUTER_MASK);
-        let mut inner = Sha256::new();
-        inner.update(inner_block.as_slice());
-        let mut outer = Sha256::new();
-        outer.update(outer_block.as_slice());
+        let HmacKey { inner, outer } = HmacKey::new(key);
         Hmac { inner, outer }
     }
 

@@ -1,4 +1,4 @@
-use super::{Hmac, hmac};
+use super::{Hmac, HmacKey, hmac};
 
 /// A key, a text and the code that the source of the table gives for them.
 #[derive(Drop)]
@@ -124,6 +124,9 @@ fn hmac_sha256_rfc_4231(rt: HostRuntime) {
     for case in RFC_4231 {
         assert_eq!(rt; hmac(case.key, case.text), *case.code);
         assert_eq!(rt; in_pieces(case.key, case.text, 5), Some(*case.code));
+        let key = HmacKey::new(case.key);
+        assert_eq!(rt; key.code(case.text), *case.code);
+        assert_eq!(rt; key.code(case.text), *case.code);
     }
 }
 
@@ -138,5 +141,6 @@ fn codes_of_python(rt: HostRuntime) {
         };
         assert_eq!(rt; hmac(key, text), *code);
         assert_eq!(rt; in_pieces(key, text, text.len()), Some(*code));
+        assert_eq!(rt; HmacKey::new(key).code(text), *code);
     }
 }

@@ -1,5 +1,4 @@
-ghost use Rattle.std.specs.Prelude.{◌≡◌, ◌≤◌, length, take};
-ghost use Rattle.std.specs.Int.{w64, to_be_bytes};
+ghost use Rattle.std.specs.Prelude.{◌≡◌, ◌≤◌, length};
 ghost use Rattle.chacha_stream.specs.Xored.{xored};
 
 use crate::keyed::Keyed;
@@ -19,14 +18,4 @@ pub fn xor_pad<K: Keyed>(keyed: &K, key: &[u8; 32], n: u64, text: &mut [u8])
     let pad = &mut buffer[..len];
     keyed.pad_into(key, n, pad);
     xor(text, pad);
-}
-
-/// The first 16 bytes of the function under the key at a number, which is written high byte first.
-pub fn front_at<K: Keyed>(keyed: &K, key: &[u8; 32], number: u64) -> [u8; 16]
-    ensures { result ≡ take 16 (K.prf key.now (to_be_bytes w64 number)) }
-{
-    let code = keyed.prf(key, &number.to_be_bytes());
-    let mut front = [0u8; 16];
-    front.copy_from_slice(&code[..16]);
-    front
 }

@@ -1,4 +1,4 @@
-use super::{Keyed, Real};
+use super::{Keyed, PreparedKey, Real, Toy, front_at};
 
 /// The master key of the tables: byte i is 7 i + 1, modulo 256.
 const MASTER: &[u8; 32] =
@@ -60,18 +60,54 @@ const PADS: [(u8, u64, &[u8; 8]); 4] = [
     (4, 4294967294, b"\xba\x6a\x32\x40\x0c\xfc\x20\xfb"),
 ];
 
+/// The part, the number, and the first 16 bytes of the toy function under the key of the part for the word
+/// `a`, where the master key is zero: computed by hand.
+const TOY_CODES: [(u8, u64, &[u8; 16]); 3] = [
+    // the label of the list
+    (
+        1,
+        0,
+        b"\xc3\xc5\xc7\xc9\xcb\xcd\xcf\xd1\xd3\xd5\xd7\xd9\xdb\xdd\xdf\xe1",
+    ),
+    // the label of addition 0
+    (
+        3,
+        0,
+        b"\xc5\xc7\xc9\xcb\xcd\xcf\xd1\xd3\xd5\xd7\xd9\xdb\xdd\xdf\xe1\xe3",
+    ),
+    // the revocation number of identifier 1
+    (
+        5,
+        1,
+        b"\xcf\xd1\xd3\xd5\xd7\xd9\xdb\xdd\xdf\xe1\xe3\xe5\xe7\xe9\xeb\xed",
+    ),
+];
+
 /// The key of a part for the word `archive`.
 fn part_key(part: u8) -> [u8; 32] {
     let mut input = *b"?archive";
     input[0] = part;
-    Real.prf(MASTER, &input)
+    PreparedKey::new(&Real, MASTER).prf(&Real, &input)
 }
 
 #[test]
 fn codes_of_real(rt: HostRuntime) {
     for (part, number, code) in CODES {
-        let result = Real.prf(&part_key(part), &number.to_be_bytes());
-        assert_eq!(rt; &result[..16], code.as_slice());
+        let key = part_key(part);
+        assert_eq!(rt; front_at(&Real, &key, number), *code);
+        assert_eq!(rt;
+            PreparedKey::new(&Real, &key).front_at(&Real, number),
+            *code
+        );
+    }
+}
+
+#[test]
+fn codes_of_toy(rt: HostRuntime) {
+    for (part, number, code) in TOY_CODES {
+        let key = PreparedKey::new(&Toy, &[0; 32]).prf(&Toy, &[part, b'a']);
+        assert_eq!(rt; front_at(&Toy, &key, number), *code);
+        assert_eq!(rt; PreparedKey::new(&Toy, &key).front_at(&Toy, number), *code);
     }
 }
 

@@ -8,12 +8,23 @@ use crate::keyed::Keyed;
 #[derive(Clone, Copy, Debug)]
 pub struct Toy;
 
+/// A key of the toy function: of it alone there is nothing to compute.
+#[derive(Drop)]
+pub struct ToyKey {
+    bytes: [u8; 32],
+}
+
 impl Keyed for Toy {
+    ghost use Rattle.std.specs.Prelude.{◌≡◌};
     ghost use Rattle.keyed_fn.specs.ToyLaws.{length-toy_prf, All-toy_prf, length-toy_pad, All-toy_pad, take-toy_pad};
+
+    type Prepared = ToyKey;
 
     ghost prf = { toy_prf };
 
     ghost pad = { toy_pad };
+
+    ghost is_prepared = { λ prepared key. prepared.bytes ≡ key };
 
     ghost prf_length = { length-toy_prf };
 
@@ -29,6 +40,14 @@ impl Keyed for Toy {
         let mut code = [0u8; 32];
         write_code(&mut code, key, sum_of(input));
         code
+    }
+
+    fn prepare(&self, key: &[u8; 32]) -> ToyKey {
+        ToyKey { bytes: *key }
+    }
+
+    fn prf_prepared(&self, prepared: &ToyKey, input: &[u8]) -> [u8; 32] {
+        self.prf(&prepared.bytes, input)
     }
 
     fn pad_into(&self, key: &[u8; 32], n: u64, out: &mut [u8]) {

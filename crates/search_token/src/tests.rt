@@ -28,7 +28,16 @@ fn calls_of_a_token(rt: HostRuntime) {
     assert_eq!(rt; token.to_bytes(), *TOKEN);
     assert_eq!(rt; token.list_label(&Real), *LIST_LABEL);
     assert_eq!(rt; token.plus_label(&Real, 4294967294), *PLUS_LABEL);
+    assert_eq!(rt;
+        token.plus_labels(&Real).label(&Real, 4294967294),
+        *PLUS_LABEL
+    );
     assert_eq!(rt; token.revocation(&Real, 18446744073709551615), *REVOCATION);
+    let revocations = token.revocations(&Real);
+    assert_eq!(rt;
+        revocations.number(&Real, 18446744073709551615),
+        *REVOCATION
+    );
     let [mut cell, mut block, mut addition] = [[1, 2, 3, 4, 5, 6, 7, 8]; 3];
     token.open_cell(&Real, &mut cell);
     token.open_block(&Real, 65537, &mut block);

@@ -4,6 +4,8 @@ ghost use Rattle.keyed_fn.specs.KeyFormulas as formula;
 ghost use Rattle.keyed_fn.specs.Xored.{xored};
 ghost use Rattle.search_token.specs.TokenKeys.{keys_in_order, keys_of_bytes, token_bytes};
 
+use crate::plus_labels::PlusLabels;
+use crate::revocations::Revocations;
 use keyed_fn::{Keyed, front_at, xor_pad};
 use std::marker::Model;
 
@@ -86,25 +88,25 @@ impl Token {
         bytes
     }
 
-    /// The key of the pads of the word's list, for the one who encrypts it.
-    pub fn pad_key(&self) -> &[u8; 32]
-        ensures { result.now ≡ self.now.pad_key }
-    {
-        &self.pad_key
-    }
-
-    /// The key of the pads of the word's additions, for the one who encrypts them.
-    pub fn plus_pad_key(&self) -> &[u8; 32]
-        ensures { result.now ≡ self.now.plus_pad_key }
-    {
-        &self.plus_pad_key
-    }
-
     /// The 16-byte label of the word's list.
     pub fn list_label<K: Keyed>(&self, keyed: &K) -> [u8; 16]
         ensures { result ≡ formula.list_label (keyed_fn K.prf K.pad) self.now.label_key }
     {
         front_at(keyed, &self.label_key, 0)
+    }
+
+    /// The labels of the word's additions, prepared for many.
+    pub fn plus_labels<K: Keyed>(&self, keyed: &K) -> PlusLabels<K>
+        ensures { result ≡ self.now.plus_label_key }
+    {
+        PlusLabels::new(keyed, &self.plus_label_key)
+    }
+
+    /// The word's revocation numbers, prepared for many.
+    pub fn revocations<K: Keyed>(&self, keyed: &K) -> Revocations<K>
+        ensures { result ≡ self.now.revocation_key }
+    {
+        Revocations::new(keyed, &self.revocation_key)
     }
 
     /// The 16-byte label of the word's addition number `c`, from 0.

@@ -1,3 +1,5 @@
+pub mod HashNumbers
+pub mod KeyPair
 pub mod PadName
 pub use Rattle.keyed_fn.specs.KeyedFn
 pub use Rattle.keyed_fn.specs.KeyFormulas

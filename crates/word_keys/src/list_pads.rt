@@ -2,7 +2,6 @@ ghost use Rattle.std.specs.Prelude.{◌≡◌, ◌<◌, ◌^◌};
 ghost use Rattle.word_keys.specs.PadName.{cell_name, name_after};
 
 use crate::pad_slot::PadSlot;
-use search_token::Token;
 use std::marker::Model;
 
 /// The pads of a word's list, one after another: the pad of the cell, then those of blocks 0, 1, 2, ..
@@ -21,14 +20,11 @@ impl Model for ListPads {
 }
 
 impl ListPads {
-    /// Begins with the pad of the cell, number 0.
-    pub fn begin(token: Token) -> ListPads
-        ensures { result ≡ cell_name token }
+    /// Begins with the pad of the cell, number 0, under the key of the list's pads.
+    pub(crate) fn begin(key: [u8; 32]) -> ListPads
+        ensures { result ≡ cell_name key }
     {
-        ListPads {
-            key: *token.pad_key(),
-            given: 0,
-        }
+        ListPads { key, given: 0 }
     }
 
     /// The next pad. Fewer than 2^22 were given.

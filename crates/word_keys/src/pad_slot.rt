@@ -1,10 +1,9 @@
 ghost use Rattle.std.specs.Prelude.{◌≡◌, ◌≤◌, length};
 ghost use Rattle.keyed_fn.specs.KeyedFn.{keyed_fn};
 ghost use Rattle.keyed_fn.specs.Xored.{xored};
-ghost use Rattle.word_keys.specs.PadName.{plus_name, named_pad};
+ghost use Rattle.word_keys.specs.PadName.{named_pad};
 
 use keyed_fn::{Keyed, xor_pad};
-use search_token::Token;
 use std::marker::Model;
 
 /// One pad, by its key and its number, that is still to be spent. It can't be copied, cloned or dropped,
@@ -29,13 +28,6 @@ impl PadSlot {
     {
         PadSlot { key, number }
     }
-}
-
-/// The pad of addition `c` of a word, from 0. It encrypts 8 bytes.
-pub fn plus_slot(token: &Token, c: u32) -> PadSlot
-    ensures { result ≡ plus_name token.now c }
-{
-    PadSlot::new(*token.plus_pad_key(), u64::from(c))
 }
 
 /// Spends a slot: XORs its pad into a plaintext of at most 2,048 bytes.

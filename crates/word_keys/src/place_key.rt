@@ -2,10 +2,12 @@ ghost use Rattle.std.specs.Prelude.{◌≡◌};
 ghost use Rattle.keyed_fn.specs.KeyedFn.{keyed_fn};
 ghost use Rattle.keyed_fn.specs.KeyFormulas.{place_tag};
 
+use crate::place_tags::PlaceTags;
 use keyed_fn::{Keyed, front_at};
 use std::marker::Model;
 
-/// A word's key of part 6, which tags the places of its list's blocks. Nothing gives its bytes back.
+/// A word's key of part 6, 32 bytes, which tags the places of its list's blocks. Nothing gives its bytes
+/// back.
 #[derive(Drop)]
 pub struct PlaceKey {
     bytes: [u8; 32],
@@ -32,5 +34,12 @@ impl PlaceKey {
         ensures { result ≡ place_tag (keyed_fn K.prf K.pad) self.now i }
     {
         front_at(keyed, &self.bytes, u64::from(i))
+    }
+
+    /// The tags of the list's blocks, prepared for many.
+    pub fn tags<K: Keyed>(&self, keyed: &K) -> PlaceTags<K>
+        ensures { result ≡ self.now }
+    {
+        PlaceTags::new(keyed, &self.bytes)
     }
 }

@@ -1,0 +1,17 @@
+-- The two keys under which a word's list, or each of its additions, is labelled and encrypted.
+use Rattle.std.specs.Prelude.{ℕ, List}
+use Rattle.keyed_fn.specs.KeyedFn.{KeyedFn}
+use Rattle.keyed_fn.specs.KeyFormulas.{part_key}
+
+-- a key of labels and a key of pads, each of 32 bytes
+pub record KeyPair : Type 0 where
+  pub label_key : List ℕ
+  pub pad_key : List ℕ
+
+-- the keys of a word's list: its keys of the parts 1 and 2 under the master key
+abbrev pub list_keys : KeyedFn → List ℕ → List ℕ → KeyPair
+list_keys f master word = record { label_key = part_key f master 1 word; pad_key = part_key f master 2 word }
+
+-- the keys of a word's additions: its keys of the parts 3 and 4 under the master key
+abbrev pub plus_keys : KeyedFn → List ℕ → List ℕ → KeyPair
+plus_keys f master word = record { label_key = part_key f master 3 word; pad_key = part_key f master 4 word }

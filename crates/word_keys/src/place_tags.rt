@@ -1,0 +1,44 @@
+ghost use Rattle.std.specs.Prelude.{◌≡◌};
+ghost use Rattle.keyed_fn.specs.KeyedFn.{keyed_fn};
+ghost use Rattle.keyed_fn.specs.KeyFormulas.{place_tag};
+
+use keyed_fn::{Keyed, PreparedKey};
+use std::marker::Model;
+
+/// The place tags of a list of more than one block: the word's key of part 6, prepared. A contract sees
+/// the key.
+pub struct PlaceTags<K: Keyed> {
+    key: PreparedKey<K>,
+}
+
+impl<K: Keyed> Model for PlaceTags<K> {
+    ghost use Rattle.std.specs.Prelude.{ℕ, List};
+
+    ghost Value = { List ℕ };
+
+    ghost view = { λ tags. tags.key };
+}
+
+impl<K: Keyed> Drop for PlaceTags<K> {
+    fn drop(self) {
+        let PlaceTags { key: _ } = self;
+    }
+}
+
+impl<K: Keyed> PlaceTags<K> {
+    /// Prepares the 32 bytes of the key.
+    pub(crate) fn new(keyed: &K, key: &[u8; 32]) -> PlaceTags<K>
+        ensures { result ≡ key.now }
+    {
+        PlaceTags {
+            key: PreparedKey::new(keyed, key),
+        }
+    }
+
+    /// The 16-byte place tag of block `i` of the list, from 0.
+    pub fn tag(&self, keyed: &K, i: u32) -> [u8; 16]
+        ensures { result ≡ place_tag (keyed_fn K.prf K.pad) self.now i }
+    {
+        self.key.front_at(keyed, u64::from(i))
+    }
+}

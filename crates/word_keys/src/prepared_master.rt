@@ -1,0 +1,157 @@
+ghost use Rattle.std.specs.Prelude.{◌≡◌, ◌≤◌, ◌∷◌, length};
+ghost use Rattle.client_registry.specs.HashNumbers.{hash_numbers};
+ghost use Rattle.client_registry.specs.WordBytes.{word_bytes};
+ghost use Rattle.keyed_fn.specs.KeyedFn.{keyed_fn};
+ghost use Rattle.keyed_fn.specs.KeyFormulas.{mark_of, part_key, plain_key};
+ghost use Rattle.search_token.specs.TokenKeys.{token_keys};
+ghost use Rattle.word_keys.specs.HashNumbers.{numbers_of_key};
+ghost use Rattle.word_keys.specs.KeyPair.{list_keys, plus_keys};
+
+use crate::list_keys::ListKeys;
+use crate::place_key::PlaceKey;
+use crate::plus_keys::PlusKeys;
+use crate::revocation_key::RevocationKey;
+use client_registry::{HashKeys, Word};
+use keyed_fn::{Keyed, PreparedKey, front_of};
+use search_token::Token;
+use std::marker::Model;
+
+// The parts, by the number that stands in front of a word.
+
+/// The part whose key gives the label of a word's list.
+const LIST_LABEL: u8 = 1;
+
+/// The part whose key gives the pads of a word's list.
+const LIST_PADS: u8 = 2;
+
+/// The part whose key gives the labels of a word's additions.
+const PLUS_LABELS: u8 = 3;
+
+/// The part whose key gives the pads of a word's additions.
+const PLUS_PADS: u8 = 4;
+
+/// The part whose key gives a word's revocation numbers.
+const REVOCATIONS: u8 = 5;
+
+/// The part whose key tags the places of a list's blocks.
+const PLACES: u8 = 6;
+
+/// The part whose key, for no word, begins with the key mark.
+const MARK: u8 = 7;
+
+/// The part whose key, for no word, begins with the numbers of the hasher.
+const HASHING: u8 = 13;
+
+/// The master key, prepared for a keyed function: it gives a word's keys, each of them for one value of the
+/// function. A contract sees the master key's bytes; nothing gives them back.
+pub struct PreparedMaster<K: Keyed> {
+    key: PreparedKey<K>,
+}
+
+impl<K: Keyed> Model for PreparedMaster<K> {
+    ghost use Rattle.std.specs.Prelude.{ℕ, List};
+
+    ghost Value = { List ℕ };
+
+    ghost view = { λ master. master.key };
+}
+
+impl<K: Keyed> Drop for PreparedMaster<K> {
+    fn drop(self) {
+        let PreparedMaster { key: _ } = self;
+    }
+}
+
+impl<K: Keyed> PreparedMaster<K> {
+    /// Prepares the 32 bytes of the key.
+    pub(crate) fn new(keyed: &K, bytes: &[u8; 32]) -> PreparedMaster<K>
+        ensures { result ≡ bytes.now }
+    {
+        PreparedMaster {
+            key: PreparedKey::new(keyed, bytes),
+        }
+    }
+
+    /// The search token of a word: its keys of the parts 1 to 5, for one who searches.
+    pub fn token(&self, keyed: &K, word: &Word) -> Token
+        ensures { result ≡ token_keys (keyed_fn K.prf K.pad) self.now (word_bytes word.now) }
+    {
+        let word = word.bytes();
+        Token::new([
+            self.key_of_part(keyed, LIST_LABEL, word),
+            self.key_of_part(keyed, LIST_PADS, word),
+            self.key_of_part(keyed, PLUS_LABELS, word),
+            self.key_of_part(keyed, PLUS_PADS, word),
+            self.key_of_part(keyed, REVOCATIONS, word),
+        ])
+    }
+
+    /// The keys of a word's list: its keys of the parts 1 and 2.
+    pub fn list_keys(&self, keyed: &K, word: &Word) -> ListKeys
+        ensures { result ≡ list_keys (keyed_fn K.prf K.pad) self.now (word_bytes word.now) }
+    {
+        let label_key = self.key_of_part(keyed, LIST_LABEL, word.bytes());
+        let pad_key = self.key_of_part(keyed, LIST_PADS, word.bytes());
+        ListKeys::new(label_key, pad_key)
+    }
+
+    /// The keys of a word's additions: its keys of the parts 3 and 4.
+    pub fn plus_keys(&self, keyed: &K, word: &Word) -> PlusKeys
+        ensures { result ≡ plus_keys (keyed_fn K.prf K.pad) self.now (word_bytes word.now) }
+    {
+        let label_key = self.key_of_part(keyed, PLUS_LABELS, word.bytes());
+        let pad_key = self.key_of_part(keyed, PLUS_PADS, word.bytes());
+        PlusKeys::new(label_key, pad_key)
+    }
+
+    /// The key of a word's revocation numbers: its key of part 5.
+    pub fn revocation_key(&self, keyed: &K, word: &Word) -> RevocationKey
+        ensures { result ≡ part_key (keyed_fn K.prf K.pad) self.now 5 (word_bytes word.now) }
+    {
+        RevocationKey::new(self.key_of_part(keyed, REVOCATIONS, word.bytes()))
+    }
+
+    /// The place key of a word: its key of part 6, which never leaves the client.
+    pub fn place_key(&self, keyed: &K, word: &Word) -> PlaceKey
+        ensures { result ≡ part_key (keyed_fn K.prf K.pad) self.now 6 (word_bytes word.now) }
+    {
+        PlaceKey::new(self.key_of_part(keyed, PLACES, word.bytes()))
+    }
+
+    /// The 16-byte key mark, by which a client knows again whether it was given the same key.
+    pub fn mark(&self, keyed: &K) -> [u8; 16]
+        ensures { result ≡ mark_of (keyed_fn K.prf K.pad) self.now }
+    {
+        front_of(&self.key_of_part(keyed, MARK, &[]))
+    }
+
+    /// The keys under which a client hashes its words and identifiers.
+    pub fn hash_keys(&self, keyed: &K) -> HashKeys
+        ensures { hash_numbers result ≡ numbers_of_key (plain_key (keyed_fn K.prf K.pad) self.now 13) }
+    {
+        numbers_of(&self.key_of_part(keyed, HASHING, &[]))
+    }
+
+    /// The key of a part for a word of at most 64 bytes, or for no word.
+    fn key_of_part(&self, keyed: &K, part: u8, word: &[u8]) -> [u8; 32]
+        requires { length word.now ≤ 64 }
+        ensures { result ≡ K.prf self.now (part ∷ word.now) }
+    {
+        let mut input = [0u8; 65];
+        let end = word.len() + 1;
+        input[0] = part;
+        input[1..end].copy_from_slice(word);
+        self.key.prf(keyed, &input[..end])
+    }
+}
+
+/// The first two numbers of a key.
+fn numbers_of(key: &[u8; 32]) -> HashKeys
+    ensures { hash_numbers result ≡ numbers_of_key key.now }
+{
+    let mut first = [0u8; 8];
+    let mut second = [0u8; 8];
+    first.copy_from_slice(&key[..8]);
+    second.copy_from_slice(&key[8..16]);
+    HashKeys::new(u64::from_be_bytes(first), u64::from_be_bytes(second))
+}
