@@ -1,2 +1,5 @@
 pub mod PartsLemmas
+pub mod NumbersLemmas
+pub mod LeadingLemmas
+pub mod Written
 pub mod Rows

@@ -1,12 +1,13 @@
 -- The laws of parts and blocks.
-use Rattle.std.proofs.Common.{◌≡◌, ℕ, zero, suc, ◌+◌, ◌-◌, ◌*◌, ◌<◌, ◌≤◌, List, [], ◌∷◌, ◌++◌, length, take, drop, map, replicate, refl, sym, ap, ◌∙◌, arith, length-append, length-drop, length-take, All}
+use Rattle.std.proofs.Common.{◌≡◌, ℕ, zero, suc, ◌+◌, ◌-◌, ◌*◌, ◌<◌, ◌≤◌, List, [], ◌∷◌, ◌++◌, length, take, drop, map, replicate, get_or, refl, sym, ap, ◌∙◌, arith, length-append, length-drop, length-take, All, inl, inr}
 use Rattle.std.specs.Prelude.{flat_map}
 use Rattle.std.specs.Int.{div_ceil}
 use Rattle.std.specs.Simd.{first_chunks}
 use Rattle.std.proofs.Math.Nat.{lt_of_mul-lt-mul_right, le_of_mul-le-mul_left}
 use Rattle.std.proofs.Math.Seq.{take-append_seam, drop-append_seam}
-use Rattle.std.proofs.lemmas.List.{length-map, length-replicate, take-append-drop}
+use Rattle.std.proofs.lemmas.List.{get_or_past, length-map, length-replicate, take-append-drop, get_or-map, drop-drop}
 use Rattle.std.proofs.lemmas.List.Elements.{All-nil, All-cons, All-take, All-drop, All-append, All-replicate, All-map, All-weaker}
+use Rattle.std.proofs.lemmas.Bool.{cases_lt}
 use Rattle.std.proofs.lemmas.Grind.{div_ceil_times}
 use Rattle.list_packing.specs.Parts.{parts, filled, blocks}
 
@@ -57,6 +58,29 @@ div_ceil-mul m width some =
 
 -- ---- what stands in the parts
 
+first_chunks-at : {X : Type 0} (width count i : ℕ) (xs : List X) → i < count
+    → get_or (first_chunks width count xs) i [] ≡ take width (drop (i * width) xs)
+first_chunks-at width zero i xs within = absurd (omega arith)
+first_chunks-at width (suc n) zero xs within =
+    let start : 0 ≡ 0 * width = omega arith in
+    ap (λ k. take width (drop k xs)) start
+first_chunks-at width (suc n) (suc i) xs within =
+    let next : width + i * width ≡ suc i * width = omega arith in
+    first_chunks-at width n i (drop width xs) (omega arith)
+    ∙ ap (take width) (drop-drop (i * width) width xs ∙ ap (λ k. drop k xs) next)
+
+-- part i begins behind the i parts before it
+pub parts-at : {X : Type 0} (width : ℕ) (xs : List X) (i : ℕ) → i < div_ceil (length xs) width
+    → get_or (parts width xs) i [] ≡ take width (drop (i * width) xs)
+parts-at width xs i within = first_chunks-at width (div_ceil (length xs) width) i xs within
+
+-- block i is part i, filled up
+pub blocks-part : (width : ℕ) (numbers : List ℕ) (i : ℕ) (part : List ℕ) → i < div_ceil (length numbers) width
+    → part ≡ get_or (parts width numbers) i [] → get_or (blocks width numbers) i [] ≡ filled width part
+blocks-part width numbers i part within is =
+    get_or-map (filled width) (parts width numbers) i [] [] (omega (arith, length-parts width numbers, within))
+    ∙ ap (filled width) (sym is)
+
 first_chunks-within : {X : Type 0} (width count : ℕ) (xs : List X) → All (λ part. length part ≤ width) (first_chunks width count xs)
 first_chunks-within width zero xs = All-nil (λ part. length part ≤ width)
 first_chunks-within {X} width (suc n) xs =
@@ -66,6 +90,16 @@ first_chunks-within {X} width (suc n) xs =
 -- no part is longer than the width
 pub parts-within : {X : Type 0} (width : ℕ) (xs : List X) → All (λ part. length part ≤ width) (parts width xs)
 parts-within width xs = first_chunks-within width (div_ceil (length xs) width) xs
+
+pub part-within : {X : Type 0} (width : ℕ) (xs : List X) (i : ℕ) (part : List X) → part ≡ get_or (parts width xs) i [] → length part ≤ width
+part-within {X} width xs i part is = rw is (one (parts width xs) i (parts-within width xs))
+  where
+    one : (ps : List (List X)) (k : ℕ) → All (λ p. length p ≤ width) ps → length (get_or ps k []) ≤ width
+    one ps k each =
+        elim (cases_lt k (length ps)) [
+          | inl lt ↦ each k [] lt
+          | inr ge ↦ rw (get_or_past ps k [] ge) (omega arith)
+        ]
 
 All-first_chunks : {X : Type 0} (P : X → Type 0) (width count : ℕ) (xs : List X) → All P xs → All (All P) (first_chunks width count xs)
 All-first_chunks P width zero xs form = All-nil (All P)

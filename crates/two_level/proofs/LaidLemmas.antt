@@ -16,7 +16,7 @@ pub length-pointers : (ranks : List ℕ) → length (pointers ranks) ≡ length 
 length-pointers ranks = length-map ranks (λ rank. rank + 1)
 
 -- the plan, by the answers of its three tests
-abbrev plan_by : Shape → ℕ → Bool → Bool → Bool → Option Plan
+abbrev pub plan_by : Shape → ℕ → Bool → Bool → Bool → Option Plan
 plan_by s n cell one two =
     if cell then Some (record { kind = Identifiers; pointer_blocks = 0; data_blocks = 0 })
     else if one then Some (record { kind = DataPointers; pointer_blocks = 0; data_blocks = div_ceil n s.big })

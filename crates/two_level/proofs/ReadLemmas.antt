@@ -1,18 +1,16 @@
 -- What a reader makes of numbers, bytes and blocks.
-use Rattle.std.proofs.Common.{◌≡◌, ℕ, zero, suc, ◌+◌, ◌-◌, ◌*◌, ◌^◌, ◌<◌, true, false, List, [], ◌∷◌, ◌++◌, length, get_or, map, replicate, length-append, refl, sym, ap, subst, lit<, ◌∙◌, arith, add-zero, All, slice_index}
-use Rattle.std.specs.Prelude.{Option, Some, option_map, option_and_then, flat_map, ◌==◌}
-use Rattle.std.specs.List.{list_all}
-use Rattle.std.specs.Int.{w64, to_be_bytes, from_be_bytes, div_ceil}
-use Rattle.std.proofs.lemmas.Bool.{ne_eqb}
+use Rattle.std.proofs.Common.{◌≡◌, ℕ, suc, ◌+◌, ◌*◌, ◌<◌, List, [], ◌∷◌, ◌++◌, length, get_or, map, length-append, refl, sym, ap, subst, ◌∙◌, arith, add-zero, All, slice_index}
+use Rattle.std.specs.Prelude.{Option, Some, option_and_then, flat_map}
+use Rattle.std.specs.Int.{div_ceil}
 use Rattle.std.proofs.lemmas.List.{get_or_append_left, get_or-append-add}
-use Rattle.std.proofs.lemmas.List.Elements.{All-head, All-tail}
-use Rattle.std.proofs.lemmas.Nat.{from_be_bytes-to_be_bytes_8}
+pub use Rattle.list_packing.proofs.LeadingLemmas.{leading-filled}
+pub use Rattle.list_packing.proofs.NumbersLemmas.{length-number_bytes, numbers_of-number_bytes}
 use Rattle.list_packing.specs.Parts.{parts, filled, blocks}
-use Rattle.list_packing.proofs.PartsLemmas.{joined-parts, length-parts, parts-flat_map}
+use Rattle.list_packing.proofs.PartsLemmas.{joined-parts, length-parts}
 use Rattle.two_level.specs.Plan.{CellKind, Identifiers, DataPointers, BlockPointers}
 use Rattle.two_level.specs.Planned.{kind_byte}
-use Rattle.two_level.specs.Laid.{Laid, number_bytes, cell_bytes}
-use Rattle.two_level.specs.Opened.{numbers_of, kind_of, leading, joined, followed}
+use Rattle.two_level.specs.Laid.{Laid, cell_bytes}
+use Rattle.two_level.specs.Opened.{kind_of, leading, joined, followed}
 
 -- ---- bytes
 
@@ -22,23 +20,8 @@ kind_of-kind_byte Identifiers = refl
 kind_of-kind_byte DataPointers = refl
 kind_of-kind_byte BlockPointers = refl
 
-pub length-number_bytes : (numbers : List ℕ) → length (number_bytes numbers) ≡ 8 * length numbers
-length-number_bytes [] = refl
-length-number_bytes (n ∷ ns) = omega (arith, length-append (to_be_bytes w64 n) (number_bytes ns), length-number_bytes ns)
-
 pub length-cell_bytes : (l : Laid) → length (cell_bytes l) ≡ 1 + 8 * length l.numbers
 length-cell_bytes l = omega (arith, length-number_bytes l.numbers)
-
-read_back : (numbers : List ℕ) → All (λ n. n < 2 ^ 64) numbers → map (from_be_bytes w64) (map (to_be_bytes w64) numbers) ≡ numbers
-read_back [] form = refl
-read_back (n ∷ ns) form =
-    rw (from_be_bytes-to_be_bytes_8 n (All-head (λ m. m < 2 ^ 64) n ns form))
-    (ap (λ later. n ∷ later) (read_back ns (All-tail (λ m. m < 2 ^ 64) n ns form)))
-
--- numbers written as bytes are read back
-pub numbers_of-number_bytes : (numbers : List ℕ) → All (λ n. n < 2 ^ 64) numbers → numbers_of (number_bytes numbers) ≡ numbers
-numbers_of-number_bytes numbers form =
-    ap (map (from_be_bytes w64)) (parts-flat_map (to_be_bytes w64) 8 numbers (lit< tt) (λ n. refl)) ∙ read_back numbers form
 
 -- ---- numbers and blocks
 
@@ -49,23 +32,6 @@ All_front xs ys form k d within =
 All_back : (xs ys : List ℕ) → All (λ m. 0 < m) (xs ++ ys) → All (λ m. 0 < m) ys
 All_back xs ys form k d within =
     subst (λ (m : ℕ). 0 < m) (get_or-append-add xs ys k d) (form (length xs + k) d (omega (arith, length-append xs ys)))
-
--- zeros alone have no number before the first of them
-only_zeros : (k : ℕ) → list_all (λ m. m == 0) (replicate k 0) ≡ true
-only_zeros zero = refl
-only_zeros (suc k) = only_zeros k
-
-leading_before_zeros : (ns : List ℕ) (k : ℕ) → All (λ m. 0 < m) ns → leading (ns ++ replicate k 0) ≡ Some ns
-leading_before_zeros [] zero form = refl
-leading_before_zeros [] (suc k) form = rw (only_zeros k) refl
-leading_before_zeros (n ∷ ns) k form =
-    let above : 0 < n = All-head (λ m. 0 < m) n ns form in
-    let test : (n == 0) ≡ false = ne_eqb n 0 (λ e. omega (arith, e)) in
-    rw test (ap (option_map (λ later. n ∷ later)) (leading_before_zeros ns k (All-tail (λ m. 0 < m) n ns form)))
-
--- what is filled up has the numbers that it was filled from
-pub leading-filled : (width : ℕ) (ns : List ℕ) → All (λ m. 0 < m) ns → leading (filled width ns) ≡ Some ns
-leading-filled width ns form = leading_before_zeros ns (width - length ns) form
 
 -- blocks filled from these pieces, read one after another, give the pieces joined
 followed-pieces : (block : ℕ → ℕ → Option (List ℕ)) (first width : ℕ) (ps : List ℕ) (pieces : List (List ℕ))

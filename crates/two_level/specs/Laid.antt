@@ -1,7 +1,7 @@
-use Rattle.std.specs.Prelude.{ℕ, ◌+◌, List, [], ◌∷◌, ◌++◌, length, map, take, drop, flat_map, Option, option_map}
-use Rattle.std.specs.Int.{w64, to_be_bytes}
+use Rattle.std.specs.Prelude.{ℕ, ◌+◌, List, [], ◌∷◌, ◌++◌, length, map, take, drop, slice_index_or, Option, option_map}
 use Rattle.list_packing.specs.Parts as packing
 use Rattle.list_packing.specs.Parts.{filled}
+pub use Rattle.list_packing.specs.Numbers.{number_bytes}
 use Rattle.two_level.specs.Shape.{Shape}
 use Rattle.two_level.specs.Plan.{CellKind, Identifiers, DataPointers, BlockPointers, plan}
 use Rattle.two_level.specs.Planned.{kind_byte}
@@ -33,10 +33,10 @@ laid_as s BlockPointers p ps ids =
 abbrev pub laid : Shape → List ℕ → List ℕ → Option Laid
 laid s ranks ids = option_map (λ p. laid_as s p.kind p.pointer_blocks (pointers ranks) ids) (plan s (length ids))
 
--- numbers as bytes: eight each, high byte first
-abbrev pub number_bytes : List ℕ → List ℕ
-number_bytes numbers = flat_map (to_be_bytes w64) numbers
-
 -- the bytes of a cell: its kind, then its numbers
 abbrev pub cell_bytes : Laid → List ℕ
 cell_bytes l = kind_byte l.kind ∷ number_bytes l.numbers
+
+-- the bytes of block number i of a list: its numbers
+abbrev pub block_bytes : ℕ → Laid → List ℕ
+block_bytes i l = number_bytes (slice_index_or l.blocks i [])

@@ -3,3 +3,4 @@ pub mod Plan
 pub mod Planned
 pub mod Laid
 pub mod Opened
+pub mod Read

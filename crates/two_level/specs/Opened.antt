@@ -1,12 +1,7 @@
-use Rattle.std.specs.Prelude.{ℕ, zero, suc, ◌+◌, ◌==◌, List, [], ◌∷◌, ◌++◌, length, map, Option, Some, None, option_map, option_and_then, slice_get, if◌then◌else◌}
-use Rattle.std.specs.List.{list_all}
-use Rattle.std.specs.Int.{w64, from_be_bytes}
-use Rattle.list_packing.specs.Parts.{parts}
+use Rattle.std.specs.Prelude.{ℕ, zero, suc, ◌≡◌, ◌+◌, ◌<◌, ◌==◌, List, [], ◌∷◌, ◌++◌, length, Option, Some, None, option_map, option_and_then, slice_get, if◌then◌else◌}
+pub use Rattle.list_packing.specs.Numbers.{numbers_of}
+pub use Rattle.list_packing.specs.Leading.{leading}
 use Rattle.two_level.specs.Plan.{CellKind, Identifiers, DataPointers, BlockPointers}
-
--- the numbers of bytes: eight bytes each, high byte first
-abbrev pub numbers_of : List ℕ → List ℕ
-numbers_of bytes = map (from_be_bytes w64) (parts 8 bytes)
 
 -- the kind of cell that a byte stands for
 abbrev pub kind_of : ℕ → Option CellKind
@@ -15,13 +10,6 @@ kind_of byte =
     else if byte == 1 then Some DataPointers
     else if byte == 2 then Some BlockPointers
     else None
-
--- the numbers before the first zero; none where another number follows a zero
-abbrev pub leading : List ℕ → Option (List ℕ)
-leading [] = Some []
-leading (n ∷ ns) =
-    if n == 0 then (if list_all (λ m. m == 0) ns then Some [] else None)
-    else option_map (λ later. n ∷ later) (leading ns)
 
 -- one list behind another, where both are there
 abbrev pub joined : Option (List ℕ) → Option (List ℕ) → Option (List ℕ)
@@ -40,7 +28,16 @@ opened block DataPointers numbers = option_and_then (followed block 0) (leading 
 opened block BlockPointers numbers =
     option_and_then (λ tops. option_and_then (followed block (length tops)) (followed block 0 tops)) (leading numbers)
 
+-- the list behind a cell in the clear: a byte that says what its numbers are, and the numbers
+abbrev pub listed : (ℕ → ℕ → Option (List ℕ)) → List ℕ → Option (List ℕ)
+listed block [] = None
+listed block (kind ∷ numbers) = option_and_then (λ k. opened block k (numbers_of numbers)) (kind_of kind)
+
 -- the block at a pointer into an array in the clear, whatever its number
 abbrev pub in_array : List (List ℕ) → ℕ → ℕ → Option (List ℕ)
 in_array array number zero = None
 in_array array number (suc place) = slice_get array place
+
+-- a reader finds no block at a pointer above this count
+pub record EndsAfter (blocks : ℕ) (block : ℕ → ℕ → Option (List ℕ)) : Type 0 where
+  pub past : (number pointer : ℕ) → blocks < pointer → block number pointer ≡ None
