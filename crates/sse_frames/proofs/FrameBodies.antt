@@ -1,17 +1,11 @@
 -- The bodies whose fields stand are those of the frames that are read from them.
-use Rattle.std.proofs.Common.{◌≡◌, ℕ, ◌+◌, ◌*◌, ◌≤◌, true, List, [], ◌∷◌, ◌++◌, length, get_or, drop, sym, ap, ◌∙◌, arith}
+use Rattle.std.proofs.Common.{◌≡◌, ℕ, ◌≤◌, true, List, [], ◌∷◌, ◌++◌, length, get_or, drop, ap, ◌∙◌, arith}
 use Rattle.std.specs.Int.{w16, w32}
-use Rattle.std.specs.Prelude.{◌/◌, ◌%◌, ◌&&◌, ◌==◌, nat_le, map}
-use Rattle.std.specs.List.{flat_map}
-use Rattle.std.specs.Simd.{first_chunks}
-use Rattle.std.proofs.lemmas.List.{length-drop}
-use Rattle.std.proofs.Math.Nat.{mul-div_cancel}
+use Rattle.std.specs.Prelude.{◌/◌, ◌%◌, ◌&&◌, ◌==◌, nat_le}
 use Rattle.std.proofs.lemmas.Bool.{leb-true, eqb-true, and_parts}
-use Rattle.sse_frames.specs.Frames.{Entry, entry_bytes, be16, be32, IsCellWidth, SetupBegin, SetupDict, SetupEnd, SearchFrame, body_of}
-use Rattle.sse_frames.specs.Fields.{bytes_at, number_at, is_cell_width}
-use Rattle.sse_frames.specs.Seen.{entry_in, entries_in}
+use Rattle.sse_frames.specs.Frames.{be16, be32, IsCellWidth, IsBlockWidth, SetupBegin, SetupEnd, SearchFrame, body_of}
+use Rattle.sse_frames.specs.Fields.{bytes_at, number_at, is_cell_width, is_block_width}
 use Rattle.sse_frames.proofs.Cut.{AreBytes, then16, then32, then_kind, at_end, all_at}
-use Rattle.sse_frames.proofs.Entries.{entries_at}
 
 pub setup_end_body : (body : List ℕ) → AreBytes body → get_or body 0 0 ≡ 5 → length body ≡ 5 → body ≡ body_of (SetupEnd (number_at w32 1 body))
 setup_end_body body bytes kind end =
@@ -39,20 +33,31 @@ is_cell width is =
     let rest : width % 8 ≡ 1 = eqb-true _ _ b.1 in
     (width / 8, (omega arith), (omega arith), (omega arith))
 
--- the entries that are seen in the rest of a body of so many
-pub entries_are : (width count : ℕ) (body : List ℕ) → length body ≡ 9 + count * (16 + width) → entries_in width (drop 9 body) ≡ entries_at width count 9 body
-entries_are width count body end =
-    let len : length (drop 9 body) ≡ count * (16 + width) = omega (arith, length-drop 9 body) in
-    let n : length (drop 9 body) / (16 + width) ≡ count = ap (λ (l : ℕ). l / (16 + width)) len ∙ mul-div_cancel count (omega arith) in
-    ap (λ (k : ℕ). map entry_in (first_chunks (16 + width) k (drop 9 body))) n
+pub is_block : (width : ℕ) → is_block_width width ≡ true → IsBlockWidth width
+is_block width is =
+    let a = and_parts (nat_le 8 width) (nat_le width 2048 && ((width % 8) == 0)) is in
+    let b = and_parts (nat_le width 2048) ((width % 8) == 0) a.1 in
+    let low : 8 ≤ width = leb-true _ _ a.0 in
+    let high : width ≤ 2048 = leb-true _ _ b.0 in
+    let rest : width % 8 ≡ 0 = eqb-true _ _ b.1 in
+    (width / 8, (omega arith), (omega arith), (omega arith))
 
-pub setup_dict_body : (body : List ℕ) → AreBytes body → get_or body 0 0 ≡ 3 → (width count : ℕ) → number_at w16 5 body ≡ width → number_at w16 7 body ≡ count
-    → length body ≡ 9 + count * (16 + width) → (entries : List Entry) → length entries ≡ count → drop 9 body ≡ flat_map entry_bytes entries
-    → body ≡ body_of (SetupDict (number_at w32 1 body) width entries)
-setup_dict_body body bytes kind width count w n end entries len joined =
-    then_kind 3 body _ kind (omega (arith, end))
-    (then32 1 body _ bytes (omega (arith, end))
-    (then16 5 body _ bytes (omega (arith, end))
-    (then16 7 body _ bytes (omega (arith, end)) joined)))
-    ∙ ap (λ (v : ℕ). 3 ∷ be32 (number_at w32 1 body) ++ be16 v ++ be16 (number_at w16 7 body) ++ flat_map entry_bytes entries) w
-    ∙ ap (λ (k : ℕ). 3 ∷ be32 (number_at w32 1 body) ++ be16 width ++ be16 k ++ flat_map entry_bytes entries) (n ∙ sym len)
+-- a body with a number, two numbers of two bytes, and a rest
+pub two_counts_body : (kind : ℕ) (body : List ℕ) → AreBytes body → get_or body 0 0 ≡ kind → 9 ≤ length body → (m n : ℕ) → number_at w16 5 body ≡ m → number_at w16 7 body ≡ n
+    → (rest : List ℕ) → drop 9 body ≡ rest → body ≡ kind ∷ be32 (number_at w32 1 body) ++ be16 m ++ be16 n ++ rest
+two_counts_body kind body bytes is inside m n m_is n_is rest after =
+    then_kind kind body _ is (omega arith)
+    (then32 1 body _ bytes (omega arith)
+    (then16 5 body _ bytes (omega arith)
+    (then16 7 body rest bytes inside after)))
+    ∙ ap (λ (v : ℕ). kind ∷ be32 (number_at w32 1 body) ++ be16 v ++ be16 (number_at w16 7 body) ++ rest) m_is
+    ∙ ap (λ (v : ℕ). kind ∷ be32 (number_at w32 1 body) ++ be16 m ++ be16 v ++ rest) n_is
+
+-- a body with a number, a number of two bytes, and a rest
+pub one_count_body : (kind : ℕ) (body : List ℕ) → AreBytes body → get_or body 0 0 ≡ kind → 7 ≤ length body → (n : ℕ) → number_at w16 5 body ≡ n
+    → (rest : List ℕ) → drop 7 body ≡ rest → body ≡ kind ∷ be32 (number_at w32 1 body) ++ be16 n ++ rest
+one_count_body kind body bytes is inside n n_is rest after =
+    then_kind kind body _ is (omega arith)
+    (then32 1 body _ bytes (omega arith)
+    (then16 5 body rest bytes inside after))
+    ∙ ap (λ (v : ℕ). kind ∷ be32 (number_at w32 1 body) ++ be16 v ++ rest) n_is

@@ -1,9 +1,10 @@
 pub mod Faults
-pub mod EntryFields
+pub mod ListFields
 pub mod Cut
 pub mod FrameBodies
-pub mod Entries
+pub mod Rising
 pub mod Chunks
+mod Puts
 pub mod Numbers
 pub mod Ids
 pub mod ReplyBodies
@@ -11,6 +12,7 @@ pub mod Pages
 mod Rows
 pub mod Joined
 pub mod Spelling
+pub mod Heads
 pub mod ReplySpelling
 pub mod Stands
 pub mod InFront

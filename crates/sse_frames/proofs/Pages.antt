@@ -1,9 +1,9 @@
 -- A page that is written: its head, then its identifiers.
-use Rattle.std.proofs.Common.{◌≡◌, ℕ, zero, suc, ◌+◌, ◌*◌, ◌/◌, Bool, List, [], ◌∷◌, ◌++◌, map, length, take, drop, refl, sym, ap, ◌∙◌, length-append, arith}
+use Rattle.std.proofs.Common.{◌≡◌, ℕ, zero, suc, ◌+◌, ◌*◌, ◌/◌, Bool, List, [], ◌∷◌, ◌++◌, map, length, drop, refl, sym, ap, ◌∙◌, length-append, arith}
 use Rattle.std.specs.Prelude.{if◌then◌else◌}
 use Rattle.std.specs.Int.{w64, from_be_bytes}
 use Rattle.std.specs.List.{flat_map}
-use Rattle.std.proofs.lemmas.List.{drop-drop, length-drop, nil_from_length}
+use Rattle.std.proofs.lemmas.List.{length-drop, nil_from_length}
 use Rattle.std.proofs.Math.Nat.{mul-div_cancel}
 use Rattle.sse_frames.specs.Frames.{be16, be32, be64}
 use Rattle.sse_frames.specs.Replies.{Page, reply_bytes, page_head}
@@ -22,15 +22,6 @@ pub page_spelled : (last : Bool) (ids : List ℕ) → reply_bytes (Page last ids
 page_spelled last ids =
     let len : suc (suc (suc (suc (length (flat_map be64 ids))))) ≡ 4 + length ids * 8 = omega (arith, length-be64s ids) in
     ap (λ (n : ℕ). be32 n ++ (0x85 ∷ (if last then 1 else 0) ∷ be16 (length ids) ++ flat_map be64 ids)) len
-
--- a list that is written behind a head of 8 bytes
-pub behind_head : (last : Bool) (count n : ℕ) (list out middle new : List ℕ) → middle ≡ page_head last count ++ drop 8 out
-    → new ≡ take 8 middle ++ list ++ drop (8 + n) middle → new ≡ page_head last count ++ list ++ drop (8 + n) out
-behind_head last count n list out middle new e f =
-    let front : take 8 middle ≡ page_head last count = ap (take 8) e in
-    let eight : drop 8 middle ≡ drop 8 out = ap (drop 8) e in
-    let back : drop (8 + n) middle ≡ drop (8 + n) out = sym (drop-drop n 8 middle) ∙ ap (drop n) eight ∙ drop-drop n 8 out in
-    f ∙ ap (λ (x : List ℕ). x ++ list ++ drop (8 + n) middle) front ∙ ap (λ (x : List ℕ). page_head last count ++ list ++ x) back
 
 -- identifiers that are read are written again
 pub ids_again : (count place : ℕ) (body : List ℕ) → AreBytes body → length body ≡ place + count * 8 → flat_map be64 (ids_at count place body) ≡ drop place body

@@ -90,7 +90,7 @@ search_row = refl
 next_row : reply_bytes (Next 0) ≡ hex (codes "00000005 81 00000000")
 next_row = refl
 
-took_row : reply_bytes (Took 2) ≡ hex (codes "00000005 82 00000002")
+took_row : map (λ q. reply_bytes (Took q)) (0 ∷ 1 ∷ 2 ∷ []) ≡ hex (codes "00000005 82 00000000") ∷ hex (codes "00000005 82 00000001") ∷ hex (codes "00000005 82 00000002") ∷ []
 took_row = refl
 
 page_row : map reply_bytes (pages (1 ∷ [])) ≡ hex (codes "0000000c 85 01 0001 0000000000000001") ∷ []
@@ -130,3 +130,7 @@ number_row = refl
 cut_row : frame_outcome (hex (codes "00000004 05 000000")) ≡ Err (BadBody 1)
 unfolding number_at
 cut_row = refl
+
+equal_numbers_row : frame_outcome (hex (codes "00000027 07 00000004 0002 eff1f3f5f7f9fbfdff01030507090b0d eff1f3f5f7f9fbfdff01030507090b0d")) ≡ Err (BadBody 23)
+unfolding number_at
+equal_numbers_row = refl

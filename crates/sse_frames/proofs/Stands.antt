@@ -8,9 +8,9 @@ use Rattle.std.proofs.lemmas.Bool.{and_from, le-leb, eq-eqb}
 use Rattle.std.proofs.lemmas.List.{take_at, drop_at, drop-drop, length-drop}
 use Rattle.std.proofs.lemmas.Nat.{from_be_bytes-to_be_bytes_8}
 use Rattle.sse_frames.proofs.Faults.{first_fault-append}
-use Rattle.sse_frames.specs.Frames.{Entry, entry_bytes, be64, IsEntry, Rises, labels_of}
+use Rattle.sse_frames.specs.Frames.{Entry, entry_bytes, joined, be64, IsBytes, IsEntry, Rises, labels_of}
 use Rattle.sse_frames.specs.Replies.{IsIdentifier}
-use Rattle.sse_frames.specs.Fields.{Field, bytes_at, number_at, is_above, bytes_field, byte_field, range_field, label_field, entry_fields, id_fields, end_field, first_fault}
+use Rattle.sse_frames.specs.Fields.{Field, bytes_at, number_at, is_above, bytes_field, byte_field, range_field, rising_field, entry_fields, block_fields, number_fields, id_fields, end_field, first_fault}
 
 -- one more field that stands
 pub stands_then : (field : Field) (fields : List Field) (body : List ℕ) → field.stands body ≡ true → first_fault fields body ≡ None → first_fault (field ∷ fields) body ≡ None
@@ -68,9 +68,30 @@ entries_no_fault first width (entry ∷ entries) place body rest e all rises beh
     ap (take 16) (e ∙ append_assoc (entry_bytes entry) (flat_map entry_bytes entries) rest ∙ append_assoc entry.label entry.text more) ∙ take_at entry.label (entry.text ++ more) 16 all.0.label.size_is in
     let back : place + (16 + width) - (16 + width) ≡ place = omega arith in
     let above : first ≡ false → is_above place (16 + width) body ≡ true = λ f. rw label (ap is_lt (behind f).0.0) in
-    stands_then (label_field first (16 + width) place) (bytes_field width (place + 16) ∷ others) body (and_from _ _ (le-leb _ _ (omega (arith, h.inside))) (above_or_first first (is_above place (16 + width) body) above))
+    stands_then (rising_field first (16 + width) place) (bytes_field width (place + 16) ∷ others) body (and_from _ _ (le-leb _ _ (omega (arith, h.inside))) (above_or_first first (is_above place (16 + width) body) above))
     (stands_then (bytes_field width (place + 16)) others body (le-leb _ _ (omega (arith, h.inside)))
     (entries_no_fault false width entries (place + (16 + width)) body rest h.after all.1 rises.1 (λ f. subst (λ (p : ℕ). Rises (bytes_at p 16 body ∷ labels_of entries)) (sym back) (subst (λ (l : List ℕ). Rises (l ∷ labels_of entries)) (sym label) rises))))
+
+-- blocks of one size
+pub blocks_no_fault : (width : ℕ) (blocks : List (List ℕ)) (place : ℕ) (body rest : List ℕ) → 0 < width → drop place body ≡ joined blocks ++ rest → AllByRecursion (IsBytes width) blocks
+    → first_fault (block_fields width (length blocks) place) body ≡ None
+blocks_no_fault width [] place body rest wide e all = refl
+blocks_no_fault width (block ∷ blocks) place body rest wide e all =
+    let h = holds place width block body (joined blocks ++ rest) wide all.0.size_is (e ∙ append_assoc block (joined blocks) rest) in
+    stands_then (bytes_field width place) (block_fields width (length blocks) (place + width)) body (le-leb _ _ h.inside) (blocks_no_fault width blocks (place + width) body rest wide h.after all.1)
+
+-- revocation numbers that rise
+pub numbers_no_fault : (first : Bool) (numbers : List (List ℕ)) (place : ℕ) (body rest : List ℕ) → drop place body ≡ joined numbers ++ rest
+    → AllByRecursion (IsBytes 16) numbers → Rises numbers → (first ≡ false → Rises (bytes_at (place - 16) 16 body ∷ numbers))
+    → first_fault (number_fields first (length numbers) place) body ≡ None
+unfolding IsStrictlySortedBy
+numbers_no_fault first [] place body rest e all rises behind = refl
+numbers_no_fault first (number ∷ numbers) place body rest e all rises behind =
+    let h = holds place 16 number body (joined numbers ++ rest) (omega arith) all.0.size_is (e ∙ append_assoc number (joined numbers) rest) in
+    let back : place + 16 - 16 ≡ place = omega arith in
+    let above : first ≡ false → is_above place 16 body ≡ true = λ f. rw h.here (ap is_lt (behind f).0.0) in
+    stands_then (rising_field first 16 place) (number_fields false (length numbers) (place + 16)) body (and_from _ _ (le-leb _ _ h.inside) (above_or_first first (is_above place 16 body) above))
+    (numbers_no_fault false numbers (place + 16) body rest h.after all.1 rises.1 (λ f. subst (λ (p : ℕ). Rises (bytes_at p 16 body ∷ numbers)) (sym back) (subst (λ (n : List ℕ). Rises (n ∷ numbers)) (sym h.here) rises)))
 
 -- identifiers, none of them 0
 pub ids_no_fault : (ids : List ℕ) (place : ℕ) (body rest : List ℕ) → drop place body ≡ flat_map be64 ids ++ rest → AllByRecursion IsIdentifier ids

@@ -45,22 +45,39 @@ is_cell_width width = nat_le 9 width && (nat_le width 513 && ((width % 8) == 1))
 abbrev pub cell_width_field : ℕ → Field
 cell_width_field place = record { place = place; stands = λ body. is_whole place 2 body && is_cell_width (number_at w16 place body) }
 
--- a label of 16 bytes, above the one that begins so many bytes before it, unless it is the first
+-- the width of a block: 8B for a B from 1 to 256
+abbrev pub is_block_width : ℕ → Bool
+is_block_width width = nat_le 8 width && (nat_le width 2048 && ((width % 8) == 0))
+
+abbrev pub block_width_field : ℕ → Field
+block_width_field place = record { place = place; stands = λ body. is_whole place 2 body && is_block_width (number_at w16 place body) }
+
+-- a label or a revocation number: 16 bytes, above those that begin so many bytes before them, unless it is the first
 abbrev pub is_above : ℕ → ℕ → List ℕ → Bool
 is_above place back body = is_below (bytes_at (place - back) 16 body) (bytes_at place 16 body)
 
-abbrev pub label_field : (first : Bool) (back place : ℕ) → Field
-label_field first back place = record { place = place; stands = λ body. is_whole place 16 body && (first || is_above place back body) }
+abbrev pub rising_field : (first : Bool) (back place : ℕ) → Field
+rising_field first back place = record { place = place; stands = λ body. is_whole place 16 body && (first || is_above place back body) }
 
 -- the body ends here
 abbrev pub end_field : ℕ → Field
 end_field place = record { place = place; stands = λ body. length body == place }
 
--- so many entries from a place on, each a label and a cell of the width
+-- so many entries from a place on, each a label and so many bytes under it
 abbrev pub entry_fields : (first : Bool) (width count place : ℕ) → List Field
 entry_fields first width zero place = []
 entry_fields first width (suc count) place =
-    label_field first (16 + width) place ∷ bytes_field width (place + 16) ∷ entry_fields false width count (place + (16 + width))
+    rising_field first (16 + width) place ∷ bytes_field width (place + 16) ∷ entry_fields false width count (place + (16 + width))
+
+-- so many blocks of the width from a place on
+abbrev pub block_fields : (width count place : ℕ) → List Field
+block_fields width zero place = []
+block_fields width (suc count) place = bytes_field width place ∷ block_fields width count (place + width)
+
+-- so many revocation numbers from a place on
+abbrev pub number_fields : (first : Bool) (count place : ℕ) → List Field
+number_fields first zero place = []
+number_fields first (suc count) place = rising_field first 16 place ∷ number_fields false count (place + 16)
 
 -- so many identifiers from a place on, none of them 0
 abbrev pub id_fields : (count place : ℕ) → List Field

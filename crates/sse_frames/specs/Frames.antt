@@ -1,5 +1,5 @@
 -- Frames as values: the bytes that each has, and which frames there are.
-use Rattle.std.specs.Prelude.{◌≡◌, ℕ, ◌+◌, ◌*◌, ◌^◌, ◌<◌, ◌≤◌, List, [], ◌∷◌, ◌++◌, length, map, slice_index}
+use Rattle.std.specs.Prelude.{◌≡◌, ℕ, ◌+◌, ◌*◌, ◌^◌, ◌<◌, ◌≤◌, List, [], ◌∷◌, ◌++◌, length, map, Option, Some, None, slice_index}
 use Rattle.std.specs.Int.{w16, w32, w64, to_be_bytes}
 use Rattle.std.specs.List.{flat_map, AllByRecursion}
 use Rattle.std.specs.List.Sorted.{IsStrictlySortedBy}
@@ -55,7 +55,18 @@ body_of (SearchFrame token) = 0x08 ∷ token
 abbrev pub frame_bytes : FrameText → List ℕ
 frame_bytes frame = be32 (length (body_of frame)) ++ body_of frame
 
--- the number of an update frame: 0 to 2^32 - 2
+-- the number of an update frame; none for Hello and Search
+abbrev pub update_number : FrameText → Option ℕ
+update_number Hello = None
+update_number (SetupBegin q b big m a) = Some q
+update_number (SetupDict q width entries) = Some q
+update_number (SetupArray q width blocks) = Some q
+update_number (SetupEnd q) = Some q
+update_number (AddFrame q entries numbers) = Some q
+update_number (DeleteFrame q numbers) = Some q
+update_number (SearchFrame token) = None
+
+-- which it is: 0 to 2^32 - 2
 abbrev pub IsNumber : ℕ → Type 0
 IsNumber q = q < 0xffffffff
 
@@ -130,3 +141,9 @@ InGrammar (SetupEnd q) = IsNumber q
 InGrammar (AddFrame q entries numbers) = IsAdd q entries numbers
 InGrammar (DeleteFrame q numbers) = IsDelete q numbers
 InGrammar (SearchFrame token) = IsBytes 160 token
+
+-- these bytes are a frame of the grammar
+pub record IsFrame (bytes : List ℕ) : Type 0 where
+  pub frame : FrameText
+  pub grammar : InGrammar frame
+  pub spelled : bytes ≡ frame_bytes frame

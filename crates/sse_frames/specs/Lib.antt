@@ -2,6 +2,7 @@ pub mod Frames
 pub mod Replies
 pub mod Seen
 pub mod Sizes
+pub mod Heads
 pub mod Fields
 pub mod Tables
 pub mod Reading

@@ -6,8 +6,8 @@ use Rattle.sse_frames.specs.declared.fault.FrameFault.{FrameFault}
 use Rattle.sse_frames.specs.declared.fault.FrameFault.TheVariants.{BadLength, BadKind}
 use Rattle.sse_frames.specs.declared.frame.Frame.{Frame}
 use Rattle.sse_frames.specs.declared.reply.Reply.{Reply}
-use Rattle.sse_frames.specs.Replies.{InReplies, reply_body, reply_bytes}
-use Rattle.sse_frames.specs.Frames.{FrameText, SetupArray, AddFrame, DeleteFrame, be32, InGrammar, body_of, frame_bytes}
+use Rattle.sse_frames.specs.Replies.{ReplyText, InReplies, reply_body, reply_bytes}
+use Rattle.sse_frames.specs.Frames.{be32, InGrammar, body_of, frame_bytes}
 use Rattle.sse_frames.specs.Seen.{seen, seen_reply}
 use Rattle.sse_frames.specs.Sizes.{HasSizes, HasReplySizes}
 use Rattle.sse_frames.specs.Fields.{Field, number_at, first_fault}
@@ -83,13 +83,6 @@ IsRead (Ok (Some found)) P = P found.0 found.1
 IsRead (Ok None) P = ⊥
 IsRead (Err fault) P = ⊥
 
--- the frames that are read so far
-abbrev pub IsBuilt : FrameText → Type 0
-IsBuilt (SetupArray q width blocks) = ⊥
-IsBuilt (AddFrame q entries numbers) = ⊥
-IsBuilt (DeleteFrame q numbers) = ⊥
-IsBuilt _ = ⊤
-
 -- the frame of a body
 pub record IsFrameOf (frame : Frame) (body : List ℕ) : Type 0 where
   pub grammar : InGrammar (seen frame)
@@ -117,3 +110,8 @@ pub record IsReplyFront (reply : Reply) (n : ℕ) (bytes : List ℕ) : Type 0 wh
   pub sizes : HasReplySizes reply
   pub some : 5 ≤ n
   pub inside : n ≤ length bytes
+
+-- all of these bytes are this reply of the grammar
+pub record IsReply (text : ReplyText) (bytes : List ℕ) : Type 0 where
+  pub grammar : InReplies text
+  pub spelled : bytes ≡ reply_bytes text

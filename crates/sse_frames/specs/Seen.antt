@@ -6,7 +6,7 @@ use Rattle.sse_frames.specs.declared.frame.Frame.{Frame}
 use Rattle.sse_frames.specs.declared.frame.Frame.TheVariants as frames
 use Rattle.sse_frames.specs.declared.reply.Reply.{Reply}
 use Rattle.sse_frames.specs.declared.reply.Reply.TheVariants as replies
-use Rattle.sse_frames.specs.Frames.{Entry, FrameText, Hello, SetupBegin, SetupDict, SetupEnd, SearchFrame}
+use Rattle.sse_frames.specs.Frames.{Entry, FrameText, Hello, SetupBegin, SetupDict, SetupArray, SetupEnd, AddFrame, DeleteFrame, SearchFrame}
 use Rattle.sse_frames.specs.Replies.{ReplyText, Next, Took, Number, Clash, Page, BadList, NoMemory, StoreFault, BadFrame, OutOfPlace}
 
 -- the bytes cut into items of one size, as many as are whole
@@ -17,7 +17,7 @@ items_in size bytes = first_chunks size (length bytes / size) bytes
 abbrev pub entry_in : List ℕ → Entry
 entry_in bytes = record { label = take 16 bytes; text = drop 16 bytes }
 
--- the entries that joined bytes hold, their cells of one width
+-- the entries that joined bytes hold, so many bytes under each label
 abbrev pub entries_in : ℕ → List ℕ → List Entry
 entries_in width bytes = map entry_in (items_in (16 + width) bytes)
 
@@ -30,7 +30,10 @@ abbrev pub seen : Frame → FrameText
 seen frames.Hello = Hello
 seen (frames.SetupBegin q b big m a) = SetupBegin q b big m a
 seen (frames.SetupDict q width entries) = SetupDict q width (entries_in width entries.now)
+seen (frames.SetupArray q width blocks) = SetupArray q width (items_in width blocks.now)
 seen (frames.SetupEnd q) = SetupEnd q
+seen (frames.Add q entries numbers) = AddFrame q (entries_in 8 entries.now) (items_in 16 numbers.now)
+seen (frames.Delete q numbers) = DeleteFrame q (items_in 16 numbers.now)
 seen (frames.Search token) = SearchFrame token.now
 
 -- a reply of the code as a value

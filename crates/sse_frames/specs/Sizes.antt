@@ -1,26 +1,30 @@
--- What callers of the readers know of a frame's or a reply's joined bytes.
+-- That the joined bytes of a frame or a reply are whole items, so that nothing stands behind the last one.
 use Rattle.std.specs.Prelude.{◌≡◌, ℕ, ◌+◌, ◌*◌, ◌≤◌, Bool, false, List, length}
 use Rattle.sse_frames.specs.declared.frame.Frame.{Frame}
 use Rattle.sse_frames.specs.declared.frame.Frame.TheVariants as frames
 use Rattle.sse_frames.specs.declared.reply.Reply.{Reply}
 use Rattle.sse_frames.specs.declared.reply.Reply.TheVariants as replies
-use Rattle.sse_frames.specs.Frames.{IsCellWidth}
 
--- so many whole entries, each a label of 16 bytes and a cell of the width
-pub record AreEntries (width : ℕ) (entries : List ℕ) : Type 0 where
-  pub cell : IsCellWidth width
+-- so many items of one size
+pub record AreItems (size : ℕ) (bytes : List ℕ) : Type 0 where
   pub count : ℕ
-  pub some : 1 ≤ count
-  pub most : count ≤ 1024
-  pub whole : length entries ≡ count * (16 + width)
+  pub whole : length bytes ≡ count * size
+
+-- both lists of an addition
+pub record AreAdded (entries numbers : List ℕ) : Type 0 where
+  pub whole_entries : AreItems 24 entries
+  pub whole_numbers : AreItems 16 numbers
 
 -- a frame's joined bytes are whole items
 abbrev pub HasSizes : Frame → Type 0
 HasSizes frames.Hello = Unit {0}
 HasSizes (frames.SetupBegin q b big m a) = Unit {0}
-HasSizes (frames.SetupDict q width entries) = AreEntries width entries.now
+HasSizes (frames.SetupDict q width entries) = AreItems (16 + width) entries.now
+HasSizes (frames.SetupArray q width blocks) = AreItems width blocks.now
 HasSizes (frames.SetupEnd q) = Unit {0}
-HasSizes (frames.Search token) = length token.now ≡ 160
+HasSizes (frames.Add q entries numbers) = AreAdded entries.now numbers.now
+HasSizes (frames.Delete q numbers) = AreItems 16 numbers.now
+HasSizes (frames.Search token) = Unit {0}
 
 -- so many whole identifiers, 8,192 where the page isn't the last
 pub record AreIds (last : Bool) (ids : List ℕ) : Type 0 where

@@ -1,7 +1,7 @@
 -- The fields of each kind of body, from left to right, after the kind byte.
-use Rattle.std.specs.Prelude.{ℕ, ◌+◌, ◌*◌, true, List, [], ◌∷◌, ◌++◌, Option, Some, None, ◌==◌, if◌then◌else◌, slice_index}
+use Rattle.std.specs.Prelude.{ℕ, ◌+◌, ◌*◌, ◌-◌, true, List, [], ◌∷◌, ◌++◌, Option, Some, None, ◌==◌, if◌then◌else◌, slice_index}
 use Rattle.std.specs.Int.{w16, w32}
-use Rattle.sse_frames.specs.Fields.{Field, number_at, bytes_field, byte_field, range_field, cell_width_field, entry_fields, id_fields, end_field}
+use Rattle.sse_frames.specs.Fields.{Field, number_at, bytes_field, byte_field, range_field, cell_width_field, block_width_field, entry_fields, block_fields, number_fields, id_fields, end_field}
 
 -- the number of an update frame
 abbrev pub number_field : Field
@@ -19,9 +19,24 @@ setup_begin_fields = number_field ∷ range_field w16 1 64 5 ∷ range_field w16
 abbrev pub setup_dict_fields : (width count : ℕ) → List Field
 setup_dict_fields width count = number_field ∷ cell_width_field 5 ∷ range_field w16 1 1024 7 ∷ entry_fields true width count 9 ++ end_field (9 + count * (16 + width)) ∷ []
 
+-- SetupArray: its number, the width of a block, the count, and so many blocks
+abbrev pub setup_array_fields : (width count : ℕ) → List Field
+setup_array_fields width count = number_field ∷ block_width_field 5 ∷ range_field w16 1 256 7 ∷ block_fields width count 9 ++ end_field (9 + count * width) ∷ []
+
 -- SetupEnd: its number
 abbrev pub setup_end_fields : List Field
 setup_end_fields = number_field ∷ end_field 5 ∷ []
+
+-- Add: its number, the count of entries, the count of revocation numbers, which are 4,096 at most with the entries, then
+-- the entries, with 8 bytes under each label, and the numbers
+abbrev pub add_fields : (e r : ℕ) → List Field
+add_fields e r =
+    number_field ∷ range_field w16 0 4096 5 ∷ range_field w16 0 (4096 - e) 7
+    ∷ entry_fields true 8 e 9 ++ (number_fields true r (9 + e * 24) ++ end_field (9 + e * 24 + r * 16) ∷ [])
+
+-- Delete: its number, the count, and so many revocation numbers
+abbrev pub delete_fields : (r : ℕ) → List Field
+delete_fields r = number_field ∷ range_field w16 0 4096 5 ∷ number_fields true r 7 ++ end_field (7 + r * 16) ∷ []
 
 -- Search: the token
 abbrev pub search_fields : List Field
@@ -33,7 +48,10 @@ frame_fields body =
     if slice_index body 0 == 0x01 then Some hello_fields
     else if slice_index body 0 == 0x02 then Some setup_begin_fields
     else if slice_index body 0 == 0x03 then Some (setup_dict_fields (number_at w16 5 body) (number_at w16 7 body))
+    else if slice_index body 0 == 0x04 then Some (setup_array_fields (number_at w16 5 body) (number_at w16 7 body))
     else if slice_index body 0 == 0x05 then Some setup_end_fields
+    else if slice_index body 0 == 0x06 then Some (add_fields (number_at w16 5 body) (number_at w16 7 body))
+    else if slice_index body 0 == 0x07 then Some (delete_fields (number_at w16 5 body))
     else if slice_index body 0 == 0x08 then Some search_fields
     else None
 

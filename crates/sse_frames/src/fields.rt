@@ -2,7 +2,7 @@ ghost use Rattle.std.specs.Prelude.{◌≡◌, ◌+◌, ◌*◌, ◌≤◌, fals
 ghost use Rattle.std.specs.Result.{result_err};
 ghost use Rattle.std.specs.Int.{w16, w32, w64};
 ghost use Rattle.sse_frames.specs.Fields as fields;
-ghost use Rattle.sse_frames.specs.Fields.{number_at, bytes_at, range_field, byte_field, bytes_field, cell_width_field, label_field, entry_fields, id_fields, end_field, ReadsField, first_fault};
+ghost use Rattle.sse_frames.specs.Fields.{number_at, bytes_at, range_field, byte_field, bytes_field, cell_width_field, block_width_field, rising_field, entry_fields, block_fields, number_fields, id_fields, end_field, ReadsField, first_fault};
 
 use crate::fault::FrameFault;
 use crate::limits::LABEL_LEN;
@@ -73,7 +73,19 @@ pub(crate) fn read_cell_width(body: &[u8], place: usize) -> Result<u16, FrameFau
     Ok(width)
 }
 
-/// Whether the label at `place` of the body is above the one `back` bytes before it.
+/// The width of a block at `place` of the body: 8B for a B from 1 to 256.
+pub(crate) fn read_block_width(body: &[u8], place: usize) -> Result<u16, FrameFault>
+    requires { place ≤ length body.now }
+    ensures { ReadsField (block_width_field place) body.now result (λ width. width ≡ number_at w16 place body.now) }
+{
+    let width = read_u16(body, place, 8, 2048)?;
+    if width % 8 != 0 {
+        return Err(FrameFault::BadBody(place as u64));
+    }
+    Ok(width)
+}
+
+/// Whether the 16 bytes at `place` of the body are above the one `back` bytes before it.
 fn is_above(body: &[u8], place: usize, back: usize) -> bool
     requires whole { place + 16 ≤ length body.now }
     requires behind { back ≤ place }
@@ -86,24 +98,29 @@ fn is_above(body: &[u8], place: usize, back: usize) -> bool
     before.cmp(&label).is_lt()
 }
 
-/// The label at `place` of the body, above the one `back` bytes before it unless it is the first.
-fn read_label(body: &[u8], place: usize, back: usize, is_first: bool) -> Result<&[u8], FrameFault>
+/// The label or revocation number at `place` of the body, above the one `back` bytes before it unless it is the first.
+fn read_rising(body: &[u8], place: usize, back: usize, is_first: bool) -> Result<&[u8], FrameFault>
     requires here { place ≤ length body.now }
     requires behind { is_first ≡ false → back ≤ place }
-    ensures { ReadsField (label_field is_first back place) body.now result (λ label. label.now ≡ bytes_at place 16 body.now) }
+    ensures { ReadsField (rising_field is_first back place) body.now result (λ bytes. bytes.now ≡ bytes_at place 16 body.now) }
 {
-    let label = read_bytes(body, place, LABEL_LEN)?;
+    let bytes = read_bytes(body, place, LABEL_LEN)?;
     if is_first {
-        return Ok(label);
+        return Ok(bytes);
     }
     if is_above(body, place, back) {
-        return Ok(label);
+        return Ok(bytes);
     }
     Err(FrameFault::BadBody(place as u64))
 }
 
 /// The place behind `count` entries that begin at `place` of the body, each a label and `width` bytes.
-fn pass_entries(body: &[u8], place: usize, count: u16, width: u16) -> Result<usize, FrameFault>
+pub(crate) fn pass_entries(
+    body: &[u8],
+    place: usize,
+    count: u16,
+    width: u16,
+) -> Result<usize, FrameFault>
     requires { place ≤ length body.now }
     ensures fault { result_err result ≡ first_fault (entry_fields true width count place) body.now }
     ensures end { IfOk result (λ end. end ≡ place + count * (16 + width)) }
@@ -112,7 +129,7 @@ fn pass_entries(body: &[u8], place: usize, count: u16, width: u16) -> Result<usi
     let width = width as usize;
     let mut at = place;
     for i in 0..count {
-        read_label(body, at, LABEL_LEN + width, i == 0)?;
+        read_rising(body, at, LABEL_LEN + width, i == 0)?;
         read_bytes(body, at + LABEL_LEN, width)?;
         at += LABEL_LEN + width;
     }
@@ -137,6 +154,70 @@ pub(crate) fn read_entries(
     read_end(body, end)?;
     let (_, entries) = body.split_at(place);
     Ok(entries)
+}
+
+/// The place behind `count` blocks of `width` bytes that begin at `place` of the body.
+fn pass_blocks(body: &[u8], place: usize, count: u16, width: u16) -> Result<usize, FrameFault>
+    requires { place ≤ length body.now }
+    ensures fault { result_err result ≡ first_fault (block_fields width count place) body.now }
+    ensures end { IfOk result (λ end. end ≡ place + count * width) }
+    ensures inside { IfOk result (λ end. end ≤ length body.now) }
+{
+    let mut at = place;
+    for _ in 0..count {
+        read_bytes(body, at, width as usize)?;
+        at += width as usize;
+    }
+    Ok(at)
+}
+
+/// The `count` blocks of `width` bytes that are the body from `place` on.
+#[tactic(auto, using(crate::proofs::Faults::appended))]
+pub(crate) fn read_blocks(
+    body: &[u8],
+    place: usize,
+    count: u16,
+    width: u16,
+) -> Result<&[u8], FrameFault>
+    requires { place ≤ length body.now }
+    ensures fault { result_err result ≡ first_fault (block_fields width count place ++ end_field (place + count * width) ∷ []) body.now }
+    ensures whole { IfOk result (λ _. length body.now ≡ place + count * width) }
+    ensures list { IfOk result (λ list. list.now ≡ drop place body.now) }
+{
+    let end = pass_blocks(body, place, count, width)?;
+    read_end(body, end)?;
+    let (_, blocks) = body.split_at(place);
+    Ok(blocks)
+}
+
+/// The place behind `count` revocation numbers that begin at `place` of the body.
+fn pass_numbers(body: &[u8], place: usize, count: u16) -> Result<usize, FrameFault>
+    requires { place ≤ length body.now }
+    ensures fault { result_err result ≡ first_fault (number_fields true count place) body.now }
+    ensures end { IfOk result (λ end. end ≡ place + count * 16) }
+    ensures inside { IfOk result (λ end. end ≤ length body.now) }
+{
+    let mut at = place;
+    for i in 0..count {
+        read_rising(body, at, LABEL_LEN, i == 0)?;
+        at += LABEL_LEN;
+    }
+    Ok(at)
+}
+
+/// The `count` revocation numbers that are the body from `place` on.
+#[tactic(auto, using(crate::proofs::Faults::appended))]
+pub(crate) fn read_numbers(body: &[u8], place: usize, count: u16) -> Result<&[u8], FrameFault>
+    requires { place ≤ length body.now }
+    ensures fault { result_err result ≡ first_fault (number_fields true count place ++ end_field (place + count * 16) ∷ []) body.now }
+    ensures whole { IfOk result (λ _. length body.now ≡ place + count * 16) }
+    ensures numbers { IfOk result (λ numbers. numbers.now ≡ drop place body.now) }
+    ensures stand { IfOk result (λ _. first_fault (number_fields true count place) body.now ≡ None) }
+{
+    let end = pass_numbers(body, place, count)?;
+    read_end(body, end)?;
+    let (_, numbers) = body.split_at(place);
+    Ok(numbers)
 }
 
 /// The identifier at `place` of the body, which isn't 0.

@@ -1,3 +1,7 @@
+ghost use Rattle.std.specs.Prelude.{◌≡◌};
+ghost use Rattle.sse_frames.specs.Frames as frames;
+ghost use Rattle.sse_frames.specs.Seen.{seen};
+
 /// What a client sends. A list is the joined bytes of its items, so its count is its length divided by
 /// the size of one item.
 #[derive(Clone, Copy, Debug, PartialEq, Eq)]
@@ -18,12 +22,47 @@ pub enum Frame<'a> {
         width: u16,
         entries: &'a [u8],
     },
+    /// The next blocks of the array, each of `width` bytes.
+    SetupArray {
+        q: u32,
+        width: u16,
+        blocks: &'a [u8],
+    },
     /// Ends the index.
     SetupEnd {
         q: u32,
+    },
+    /// Adds entries, each a label of 16 bytes and an encrypted identifier of 8, and takes revocation numbers of
+    /// 16 bytes out of those that are revoked.
+    Add {
+        q: u32,
+        entries: &'a [u8],
+        numbers: &'a [u8],
+    },
+    /// Revokes numbers of 16 bytes each.
+    Delete {
+        q: u32,
+        numbers: &'a [u8],
     },
     /// A search token of 160 bytes.
     Search {
         token: &'a [u8],
     },
+}
+
+impl Frame<'_> {
+    /// The number of an update frame, which all are but Hello and Search.
+    pub fn update_number(&self) -> Option<u32>
+        ensures { result ≡ frames.update_number (seen self.now) }
+    {
+        match *self {
+            Frame::SetupBegin { q, .. }
+            | Frame::SetupDict { q, .. }
+            | Frame::SetupArray { q, .. }
+            | Frame::SetupEnd { q }
+            | Frame::Add { q, .. }
+            | Frame::Delete { q, .. } => Some(q),
+            Frame::Hello | Frame::Search { .. } => None,
+        }
+    }
 }

@@ -1,79 +1,175 @@
-ghost use Rattle.std.specs.Prelude.{◌≡◌, ◌+◌, ◌<◌, ◌^◌, ◌++◌, length, OnOk, OnErr};
-ghost use Rattle.sse_frames.specs.Frames.{SetupBegin, SetupDict, SetupEnd, frame_bytes};
-ghost use Rattle.sse_frames.specs.Seen.{seen, entries_in};
-ghost use Rattle.sse_frames.specs.Sizes.{HasSizes, AreEntries};
+ghost use Rattle.std.specs.Prelude.{◌≡◌, ◌+◌, ◌*◌, ◌<◌, ◌≤◌, ◌^◌, ◌∷◌, ◌++◌, length, drop, OnOk, OnErr};
+ghost use Rattle.sse_frames.specs.Frames.{InGrammar, SearchFrame, be16, be32, frame_bytes};
+ghost use Rattle.sse_frames.specs.Seen.{seen, items_in};
+ghost use Rattle.sse_frames.specs.Sizes.{HasSizes};
+ghost use Rattle.sse_frames.specs.Heads as heads;
+ghost use Rattle.sse_frames.specs.Heads.{lists_in};
 
 use crate::frame::Frame;
-use crate::kinds::{HELLO, SEARCH, SETUP_BEGIN, SETUP_DICT, SETUP_END};
-use crate::limits::LABEL_LEN;
+use crate::head::Head;
+use crate::kinds::{ADD, DELETE, HELLO, SEARCH, SETUP_ARRAY, SETUP_BEGIN, SETUP_DICT, SETUP_END};
+use crate::limits::{ADDED_LEN, LABEL_LEN, TOKEN_LEN};
+use crate::put::put;
 use std::alloc::AllocError;
 
-/// Appends the head and then the list, or nothing where memory runs out.
-fn append(out: &mut Vec<u8>, head: &[u8], list: &[u8]) -> Result<(), AllocError>
-    requires { length head.now + length list.now < 2 ^ 63 }
-    ensures ok { OnOk result (out.new.items ≡ out.old.items ++ (head.now ++ list.now)) }
-    ensures err { OnErr result (out.new.items ≡ out.old.items) }
+/// How many whole items of one size the joined bytes hold.
+fn count_in(size: usize, bytes: &[u8]) -> usize
+    requires { 0 < size }
+    ensures { result ≡ length (items_in size bytes.now) }
 {
-    out.reserve(head.len() + list.len())?;
-    out.extend_from_slice(head)?;
-    out.extend_from_slice(list)
+    bytes.len() / size
 }
 
-fn append_begin(
-    q: u32,
-    b: u16,
-    big: u16,
-    m: u32,
-    a: u32,
-    out: &mut Vec<u8>,
-) -> Result<(), AllocError>
-    ensures ok { OnOk result (out.new.items ≡ out.old.items ++ frame_bytes (SetupBegin q b big m a)) }
-    ensures err { OnErr result (out.new.items ≡ out.old.items) }
+/// The head of a frame whose list has items of one size, which goes with the width that the frame names.
+fn setup_head(kind: u8, q: u32, width: u16, size: usize, items: &[u8]) -> Head
+    requires some { 0 < size }
+    requires small { size ≤ 2048 }
+    requires few { length (items_in size items.now) ≤ 1024 }
+    ensures { let count = length (items_in size items.now) in
+        result ≡ be32 (9 + count * size) ++ kind ∷ be32 q ++ be16 width ++ be16 count }
 {
-    let [q0, q1, q2, q3] = q.to_be_bytes();
-    let [b0, b1] = b.to_be_bytes();
-    let [big0, big1] = big.to_be_bytes();
-    let [m0, m1, m2, m3] = m.to_be_bytes();
-    let [a0, a1, a2, a3] = a.to_be_bytes();
-    let shape = [b0, b1, big0, big1, m0, m1, m2, m3, a0, a1, a2, a3];
-    append(out, &[0, 0, 0, 17, SETUP_BEGIN, q0, q1, q2, q3], &shape)
+    let count = count_in(size, items);
+    let body = 9 + count * size;
+    Head::new(body as u32, kind)
+        .then_u32(q)
+        .then_u16(width)
+        .then_u16(count as u16)
 }
 
-fn append_dict(q: u32, width: u16, entries: &[u8], out: &mut Vec<u8>) -> Result<(), AllocError>
-    requires { AreEntries width entries.now }
-    ensures ok { OnOk result (out.new.items ≡ out.old.items ++ frame_bytes (SetupDict q width (entries_in width entries.now))) }
-    ensures err { OnErr result (out.new.items ≡ out.old.items) }
+/// The head of an addition.
+fn add_head(q: u32, entries: &[u8], numbers: &[u8]) -> Head
+    requires { length (items_in 24 entries.now) + length (items_in 16 numbers.now) ≤ 4096 }
+    ensures { let e = length (items_in 24 entries.now) in let r = length (items_in 16 numbers.now) in
+        result ≡ be32 (9 + e * 24 + r * 16) ++ 6 ∷ be32 q ++ be16 e ++ be16 r }
 {
-    let count = entries.len() / (LABEL_LEN + width as usize);
-    let [n0, n1, n2, n3] = (9 + entries.len() as u32).to_be_bytes();
-    let [q0, q1, q2, q3] = q.to_be_bytes();
-    let [w0, w1] = width.to_be_bytes();
-    let [c0, c1] = (count as u16).to_be_bytes();
-    let head = [n0, n1, n2, n3, SETUP_DICT, q0, q1, q2, q3, w0, w1, c0, c1];
-    append(out, &head, entries)
+    let e = count_in(LABEL_LEN + ADDED_LEN, entries);
+    let r = count_in(LABEL_LEN, numbers);
+    let body = 9 + e * (LABEL_LEN + ADDED_LEN) + r * LABEL_LEN;
+    Head::new(body as u32, ADD)
+        .then_u32(q)
+        .then_u16(e as u16)
+        .then_u16(r as u16)
 }
 
-fn append_end(q: u32, out: &mut Vec<u8>) -> Result<(), AllocError>
-    ensures ok { OnOk result (out.new.items ≡ out.old.items ++ frame_bytes (SetupEnd q)) }
-    ensures err { OnErr result (out.new.items ≡ out.old.items) }
+/// The head of a deletion.
+fn delete_head(q: u32, numbers: &[u8]) -> Head
+    requires { length (items_in 16 numbers.now) ≤ 4096 }
+    ensures { let r = length (items_in 16 numbers.now) in result ≡ be32 (7 + r * 16) ++ 7 ∷ be32 q ++ be16 r }
 {
-    let [q0, q1, q2, q3] = q.to_be_bytes();
-    append(out, &[0, 0, 0, 5, SETUP_END, q0, q1, q2, q3], &[])
+    let r = count_in(LABEL_LEN, numbers);
+    let body = 7 + r * LABEL_LEN;
+    Head::new(body as u32, DELETE)
+        .then_u32(q)
+        .then_u16(r as u16)
+}
+
+/// What stands before the lists of a frame.
+fn head_of(frame: &Frame<'_>) -> Head
+    requires { InGrammar (seen frame.now) }
+    ensures { result ≡ heads.head_of (seen frame.now) }
+{
+    match *frame {
+        Frame::Hello => Head::new(1, HELLO),
+        Frame::SetupBegin { q, b, big, m, a } => Head::new(17, SETUP_BEGIN)
+            .then_u32(q)
+            .then_u16(b)
+            .then_u16(big)
+            .then_u32(m)
+            .then_u32(a),
+        Frame::SetupDict { q, width, entries } => {
+            setup_head(SETUP_DICT, q, width, LABEL_LEN + width as usize, entries)
+        }
+        Frame::SetupArray { q, width, blocks } => {
+            setup_head(SETUP_ARRAY, q, width, width as usize, blocks)
+        }
+        Frame::SetupEnd { q } => Head::new(5, SETUP_END).then_u32(q),
+        Frame::Add {
+            q,
+            entries,
+            numbers,
+        } => add_head(q, entries, numbers),
+        Frame::Delete { q, numbers } => delete_head(q, numbers),
+        Frame::Search { .. } => Head::new(161, SEARCH),
+    }
+}
+
+/// The joined bytes of a frame's lists, at most two.
+fn lists_of<'a>(frame: &Frame<'a>) -> (&'a [u8], &'a [u8])
+    ensures { result.0.now ++ result.1.now ≡ lists_in frame.now }
+{
+    match *frame {
+        Frame::Hello | Frame::SetupBegin { .. } | Frame::SetupEnd { .. } => (&[], &[]),
+        Frame::SetupDict { entries, .. } => (entries, &[]),
+        Frame::SetupArray { blocks, .. } => (blocks, &[]),
+        Frame::Add {
+            entries,
+            numbers,
+            ..
+        } => (entries, numbers),
+        Frame::Delete { numbers, .. } => (numbers, &[]),
+        Frame::Search { token } => (token, &[]),
+    }
 }
 
 /// Appends the frame to the bytes. Without memory they are as before.
 ///
-/// Its list has whole items, of a size and in a number that the grammar has; it may break the grammar otherwise.
+/// The frame is one of the grammar, and its lists have no bytes behind their last whole item.
 pub fn write_frame(frame: &Frame<'_>, out: &mut Vec<u8>) -> Result<(), AllocError>
-    requires { HasSizes frame.now }
+    requires grammar { InGrammar (seen frame.now) }
+    requires sizes { HasSizes frame.now }
     ensures ok { OnOk result (out.new.items ≡ out.old.items ++ frame_bytes (seen frame.now)) }
     ensures err { OnErr result (out.new.items ≡ out.old.items) }
 {
-    match *frame {
-        Frame::Hello => append(out, &[0, 0, 0, 1, HELLO], &[]),
-        Frame::SetupBegin { q, b, big, m, a } => append_begin(q, b, big, m, a, out),
-        Frame::SetupDict { q, width, entries } => append_dict(q, width, entries, out),
-        Frame::SetupEnd { q } => append_end(q, out),
-        Frame::Search { token } => append(out, &[0, 0, 0, 161, SEARCH], token),
-    }
+    let head = head_of(frame);
+    let (first, second) = lists_of(frame);
+    append(out, head.as_slice(), first, second)
+}
+
+/// Appends these three, or nothing where memory runs out.
+fn append(out: &mut Vec<u8>, head: &[u8], first: &[u8], second: &[u8]) -> Result<(), AllocError>
+    requires { length head.now + length first.now + length second.now < 2 ^ 63 }
+    ensures ok { OnOk result (out.new.items ≡ out.old.items ++ (head.now ++ (first.now ++ second.now))) }
+    ensures err { OnErr result (out.new.items ≡ out.old.items) }
+{
+    out.reserve(head.len() + first.len() + second.len())?;
+    out.extend_from_slice(head)?;
+    out.extend_from_slice(first)?;
+    out.extend_from_slice(second)
+}
+
+/// Writes the frame at the front of `out`, and says how many bytes it has. It takes no memory.
+///
+/// The frame is one that `write_frame` takes, and `out` has room for it: no frame has more than 541,709 bytes.
+pub fn write_frame_into(frame: &Frame<'_>, out: &mut [u8]) -> usize
+    requires grammar { InGrammar (seen frame.now) }
+    requires sizes { HasSizes frame.now }
+    requires room { length (frame_bytes (seen frame.now)) ≤ length out.old }
+    ensures len { result ≡ length (frame_bytes (seen frame.now)) }
+    ensures bytes { out.new ≡ frame_bytes (seen frame.now) ++ drop result out.old }
+    ensures least { 5 ≤ result }
+    ensures most { result ≤ 541709 }
+{
+    let head = head_of(frame);
+    let (first, second) = lists_of(frame);
+    put_all(out, head.as_slice(), first, second)
+}
+
+/// Writes these three at the front, and says how many bytes they are.
+fn put_all(out: &mut [u8], head: &[u8], first: &[u8], second: &[u8]) -> usize
+    requires { length (head.now ++ (first.now ++ second.now)) ≤ length out.old }
+    ensures len { result ≡ length (head.now ++ (first.now ++ second.now)) }
+    ensures bytes { out.new ≡ head.now ++ (first.now ++ second.now) ++ drop result out.old }
+{
+    let place = put(out, 0, head);
+    let place = put(out, place, first);
+    put(out, place, second)
+}
+
+/// The Search frame of a token: four length bytes, the kind byte 08 and the token. It takes no memory.
+pub fn search_frame(token: &[u8; TOKEN_LEN]) -> [u8; 165]
+    ensures { result ≡ frame_bytes (SearchFrame token.now) }
+{
+    let mut bytes = [0; 165];
+    write_frame_into(&Frame::Search { token }, &mut bytes);
+    bytes
 }

@@ -3,8 +3,8 @@ ghost use Rattle.sse_frames.specs.Reading.{front, seen_front, IsBehind};
 
 use crate::fault::FrameFault;
 
-#[tactic(auto, unfolding(crate::specs::Fields::number_at))]
 /// The body in front of the bytes, by the four bytes of its length; `None` where it isn't whole yet.
+#[tactic(auto, unfolding(crate::specs::Fields::number_at))]
 pub(crate) fn front_body(bytes: &[u8], limit: u32) -> Result<Option<&[u8]>, FrameFault>
     ensures front { seen_front result ≡ front limit bytes.now }
     ensures behind { IfOk result (λ found. IfSome found (λ body. IsBehind bytes.now body.now)) }

@@ -6,7 +6,13 @@ pub(crate) const SETUP_BEGIN: u8 = 0x02;
 
 pub(crate) const SETUP_DICT: u8 = 0x03;
 
+pub(crate) const SETUP_ARRAY: u8 = 0x04;
+
 pub(crate) const SETUP_END: u8 = 0x05;
+
+pub(crate) const ADD: u8 = 0x06;
+
+pub(crate) const DELETE: u8 = 0x07;
 
 pub(crate) const SEARCH: u8 = 0x08;
 

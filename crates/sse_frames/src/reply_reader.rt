@@ -1,4 +1,4 @@
-ghost use Rattle.std.specs.Prelude.{◌≡◌, ℕ, ◌<◌, List, ◌++◌, length, slice_index, IfOk};
+ghost use Rattle.std.specs.Prelude.{◌≡◌, ℕ, ◌<◌, List, ◌++◌, length, slice_index, IfOk, IfSome, IsSomeAnd};
 ghost use Rattle.std.specs.Result.{result_err};
 ghost use Rattle.std.specs.Int.{w16};
 ghost use Rattle.sse_frames.specs.Replies.{ReplyText, InReplies, reply_bytes};
@@ -6,7 +6,8 @@ ghost use Rattle.sse_frames.specs.Seen.{seen_reply};
 ghost use Rattle.sse_frames.specs.Fields.{number_at, first_fault};
 ghost use Rattle.sse_frames.specs.Tables as tables;
 ghost use Rattle.sse_frames.specs.Tables.{next_fields, took_fields, clash_fields, page_fields, bad_frame_fields, bare_fields, reply_fields};
-ghost use Rattle.sse_frames.specs.Reading.{IsReplyOf, IsReplyFront, IfRead, IsRead, fault_in, reply_outcome, answered};
+ghost use Rattle.sse_frames.specs.Reading.{IsReplyOf, IsReplyFront, IfRead, IsRead, fault_in, reply_outcome, answered, IsReply};
+ghost use Rattle.sse_frames.specs.Sizes.{HasReplySizes};
 
 use crate::fault::FrameFault;
 use crate::fields::{read_end, read_ids, read_u8, read_u16, read_u32};
@@ -17,6 +18,7 @@ use crate::kinds::{
 use crate::limits::{MAX_NUMBER, MAX_REPLY_BODY, PAGE_LEN};
 use crate::reply::Reply;
 
+/// The Next reply of a body of that kind.
 fn next(body: &[u8]) -> Result<Reply<'_>, FrameFault>
     requires kind { slice_index body.now 0 ≡ 0x81 }
     requires some { 0 < length body.now }
@@ -28,6 +30,7 @@ fn next(body: &[u8]) -> Result<Reply<'_>, FrameFault>
     Ok(Reply::Next(q))
 }
 
+/// The Took reply of a body of that kind.
 fn took(body: &[u8]) -> Result<Reply<'_>, FrameFault>
     requires kind { slice_index body.now 0 ≡ 0x82 }
     requires some { 0 < length body.now }
@@ -39,6 +42,7 @@ fn took(body: &[u8]) -> Result<Reply<'_>, FrameFault>
     Ok(Reply::Took(q))
 }
 
+/// The Number reply of a body of that kind.
 fn number(body: &[u8]) -> Result<Reply<'_>, FrameFault>
     requires kind { slice_index body.now 0 ≡ 0x83 }
     requires some { 0 < length body.now }
@@ -50,6 +54,7 @@ fn number(body: &[u8]) -> Result<Reply<'_>, FrameFault>
     Ok(Reply::Number(q))
 }
 
+/// The Clash reply of a body of that kind.
 fn clash(body: &[u8]) -> Result<Reply<'_>, FrameFault>
     requires kind { slice_index body.now 0 ≡ 0x84 }
     requires some { 0 < length body.now }
@@ -69,6 +74,7 @@ fn least_ids(last: u8) -> u16
     if last == 0 { PAGE_LEN } else { 0 }
 }
 
+/// The Page reply of a body of that kind.
 fn page(body: &[u8]) -> Result<Reply<'_>, FrameFault>
     requires kind { slice_index body.now 0 ≡ 0x85 }
     requires some { 0 < length body.now }
@@ -84,6 +90,7 @@ fn page(body: &[u8]) -> Result<Reply<'_>, FrameFault>
     })
 }
 
+/// The BadFrame reply of a body of that kind.
 fn bad_frame(body: &[u8]) -> Result<Reply<'_>, FrameFault>
     requires kind { slice_index body.now 0 ≡ 0x89 }
     requires some { 0 < length body.now }
@@ -156,4 +163,25 @@ pub fn read_reply(bytes: &[u8]) -> Result<Option<(Reply<'_>, usize)>, FrameFault
     ensures outcome { answered result ≡ reply_outcome bytes.now }
 {
     front_reply(bytes)
+}
+
+/// The reply that all of these bytes are, if any.
+pub fn read_whole_reply(bytes: &[u8]) -> Option<Reply<'_>>
+    ensures found { IfSome result (λ reply. IsReply (seen_reply reply) bytes.now) }
+    ensures sizes { IfSome result (λ reply. HasReplySizes reply) }
+    ensures only { (text : ReplyText) → IsReply text bytes.now → IsSomeAnd result (λ reply. seen_reply reply ≡ text) }
+{
+    match read_reply(bytes) {
+        Ok(found) => match found {
+            Some((reply, size)) => {
+                if size == bytes.len() {
+                    Some(reply)
+                } else {
+                    None
+                }
+            }
+            None => None,
+        },
+        Err(_) => None,
+    }
 }

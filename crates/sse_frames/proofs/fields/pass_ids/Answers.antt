@@ -1,5 +1,5 @@
 use Rattle.std.proofs.Common.{arith}
-use Rattle.sse_frames.proofs.EntryFields.{ids_go_on}
+use Rattle.sse_frames.proofs.ListFields.{ids_go_on}
 use Rattle.sse_frames.proofs.Numbers.{stands64}
 use Rattle.sse_frames.proofs.fields.pass_ids.Goals as goal
 

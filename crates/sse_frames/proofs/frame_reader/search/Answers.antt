@@ -1,4 +1,4 @@
-use Rattle.std.proofs.Common.{length, ap, sym, ◌∙◌, arith}
+use Rattle.std.proofs.Common.{ap, sym, ◌∙◌, arith}
 use Rattle.std.proofs.lemmas.Bool.{eqb-true}
 use Rattle.sse_frames.specs.Frames.{SearchFrame, body_of}
 use Rattle.sse_frames.proofs.Cut.{AreBytes, AreBytes-at, length-bytes_at}
@@ -15,5 +15,5 @@ returns-clause-found c =
     record {
       grammar = rw token (record { size_is = whole; each = AreBytes-at 1 160 body bytes });
       spelled = search_body body c.requires.kind end ∙ ap (λ t. body_of (SearchFrame t)) (sym token);
-      sizes = ap length token ∙ whole;
+      sizes = tt;
     }
