@@ -1,5 +1,5 @@
 -- Values that differ: the words by first appearance, those of a document, and lists without a clash.
-use Rattle.std.proofs.Common.{◌≡◌, ℕ, ◌<◌, Bool, true, false, cond, not, ◌||◌, List, [], ◌∷◌, ◌++◌, length, filter, get_or, Option, None, Some, is_some, nat_lt, position, refl, sym, ap, ◌∙◌, subst, arith}
+use Rattle.std.proofs.Common.{◌≡◌, ℕ, zero, suc, ◌<◌, Bool, true, false, cond, not, ◌||◌, List, [], ◌∷◌, ◌++◌, length, filter, get_or, Option, None, Some, is_some, nat_lt, position, refl, sym, ap, ◌∙◌, subst, arith}
 use Rattle.std.specs.Prelude.{option_map}
 use Rattle.std.specs.List.{list_any, position_or_len, IsDistinct, AllByRecursion}
 use Rattle.std.specs.Option.{option_or}
@@ -11,7 +11,7 @@ use Rattle.std.proofs.lemmas.List.Sums.{passes_at_first}
 use Rattle.std.specs.Cmp.Lexicographic.{same_text}
 use Rattle.client_registry.proofs.FirstClashLaws.{first_clash-push}
 use Rattle.client_registry.proofs.FromEnd.{from_end}
-use Rattle.client_registry.proofs.Positions.{is_some-position}
+use Rattle.client_registry.proofs.Positions.{is_some-position, position-cons}
 use Rattle.client_registry.proofs.PushLaws.{IsDistinct-push}
 use Rattle.client_registry.proofs.WordsLaws.{accepted_words}
 use Rattle.client_registry.specs.DocumentRule.{doc_refusal}
@@ -161,3 +161,21 @@ first_clash-places xs i j = from_end (λ ys. first_clash ys ≡ Some (i, j) → 
               within = omega (arith, length_push ys y, before.within);
               same = get_or_append_left ys (y ∷ []) [] i (omega (arith, before.order, before.within)) ∙ before.same ∙ sym (get_or_append_left ys (y ∷ []) [] j before.within);
             }
+
+-- among words that differ each stands first at its own place
+pub position-at : (ws : List (List ℕ)) → IsDistinct bytes_eq ws → (n : ℕ) → n < length ws → position (bytes_eq (get_or ws n [])) ws ≡ Some n
+unfolding IsDistinct
+position-at [] apart n within = absurd (omega (arith, within))
+position-at (w ∷ ws) apart zero within =
+    position-cons (bytes_eq w) w ws ∙ ap (λ b. cond b (Some 0) (option_map (λ n. suc n) (position (bytes_eq w) ws))) (nat_list_eq_equiv.refl w)
+position-at (w ∷ ws) apart (suc n) within =
+    let lt : n < length ws = omega (arith, within) in
+    let v = get_or ws n [] in
+    position-cons (bytes_eq v) w ws
+    ∙ ap (λ b. cond b (Some 0) (option_map (λ k. suc k) (position (bytes_eq v) ws))) (nat_list_eq_equiv.symm v w ∙ AllByRecursion-at ws n lt apart.0)
+    ∙ ap (option_map (λ k. suc k)) (position-at ws apart.1 n lt)
+  where
+    AllByRecursion-at : (vs : List (List ℕ)) (k : ℕ) → k < length vs → AllByRecursion (λ y. bytes_eq w y ≡ false) vs → bytes_eq w (get_or vs k []) ≡ false
+    AllByRecursion-at [] k lt all = absurd (omega (arith, lt))
+    AllByRecursion-at (v ∷ vs) zero lt all = all.0
+    AllByRecursion-at (v ∷ vs) (suc k) lt all = AllByRecursion-at vs k (omega (arith, lt)) all.1

@@ -4,8 +4,10 @@ pub mod SeenWords
 pub mod DocumentLaws
 pub mod TallyLaws
 pub mod WordsLaws
+pub mod NumberLaws
 pub mod IndexedLaws
 pub mod PushLaws
+pub mod KeptLaws
 pub mod AcceptanceLaws
 pub mod FromEnd
 pub mod DistinctLaws
@@ -14,5 +16,6 @@ pub mod LiveLaws
 pub mod OrderLaws
 pub mod ShownLaws
 pub mod SizedLaws
+pub mod HistoryLaws
 pub mod WordLaws
 pub mod Rows

@@ -1,5 +1,6 @@
-use Rattle.std.proofs.Common.{◌≡◌, ℕ, suc, ◌+◌, Bool, true, false, not, cond, ◌||◌, inl, inr, List, [], ◌∷◌, length, None, Some, is_some, nat_lt, position, map, ap, refl, sym, ◌∙◌, arith}
+use Rattle.std.proofs.Common.{◌≡◌, ℕ, suc, ◌+◌, Bool, true, false, not, cond, ◌||◌, inl, inr, List, [], ◌∷◌, length, Option, None, Some, is_some, nat_lt, position, map, ap, refl, sym, ◌∙◌, arith}
 use Rattle.std.specs.List.{list_any, position_or_len, prefix_len}
+use Rattle.std.specs.Option.{option_map}
 use Rattle.std.proofs.lemmas.List.{length-map}
 use Rattle.std.proofs.lemmas.Bool.{lt-ltb, le-ltb, cases_lt}
 
@@ -34,3 +35,24 @@ prefix_len-map p f (x ∷ xs) = ap (λ n. cond (p (f x)) (1 + n) 0) (prefix_len-
 pub position-map : {X Y : Type 0} (p : Y → Bool) (f : X → Y) (xs : List X) → position p (map f xs) ≡ position (λ x. p (f x)) xs
 position-map p f xs =
     λ i. cond (nat_lt (prefix_len-map (λ y. not (p y)) f xs i) (length-map xs f i)) (Some (prefix_len-map (λ y. not (p y)) f xs i)) None
+
+-- the first place that passes: the first element's, or one further than among the others
+pub position-cons : {X : Type 0} (p : X → Bool) (y : X) (ys : List X) → position p (y ∷ ys) ≡ cond (p y) (Some 0) (option_map (λ n. suc n) (position p ys))
+position-cons p y ys = by (p y)
+  where
+    n : ℕ
+    n = position_or_len p ys
+
+    at : Bool → ℕ → Option ℕ
+    at b k = cond b (Some k) None
+
+    next : 1 + n ≡ suc n
+    next = omega arith
+
+    by : (b : Bool) → cond (nat_lt (cond (not b) (1 + n) 0) (suc (length ys))) (Some (cond (not b) (1 + n) 0)) None ≡ cond b (Some 0) (option_map (λ k. suc k) (position p ys))
+    by true = ap (λ b. at b 0) (lt-ltb 0 (suc (length ys)) (omega arith))
+    by false =
+        elim (cases_lt n (length ys)) [
+          | inl lt ↦ ap (λ b. at b (1 + n)) (lt-ltb (1 + n) (suc (length ys)) (omega arith)) ∙ ap (λ k. at true k) next ∙ sym (ap (λ b. option_map (λ k. suc k) (at b n)) (lt-ltb n (length ys) lt))
+          | inr ge ↦ ap (λ b. at b (1 + n)) (le-ltb (1 + n) (suc (length ys)) (omega arith)) ∙ sym (ap (λ b. option_map (λ k. suc k) (at b n)) (le-ltb n (length ys) ge))
+        ]

@@ -1,7 +1,7 @@
 -- What one more document does to the words, the identifiers and the limits.
 use Rattle.std.proofs.Common.{◌≡◌, ℕ, ◌+◌, ◌<◌, ◌≤◌, ◌^◌, Bool, true, false, cond, ◌||◌, List, [], ◌∷◌, ◌++◌, length, map, get_or, refl, sym, ap, ◌∙◌, subst, arith}
 use Rattle.std.specs.Prelude.{All, nat_eq, ◌==◌}
-use Rattle.std.specs.List.{list_any, IsDistinct, AllByRecursion, AllZip}
+use Rattle.std.specs.List.{list_any, IsDistinct, AllByRecursion}
 use Rattle.std.proofs.lemmas.Bool.{true≢false}
 use Rattle.std.proofs.lemmas.Cmp.{nat_eq_equiv}
 use Rattle.std.proofs.lemmas.List.{append-nil, length-append, length_push, map-append}
@@ -74,10 +74,3 @@ tally-room ws more room =
     λ k d lt.
     let le : (get_or (tally ws) k d).1 ≤ length ws = tally-below ws k d lt in
     omega (arith, le, room)
-
--- copies have the same bytes
-pub map-clones : {W : Type 0} (bytes : W → List ℕ) (xs ys : List W) → AllZip (λ word copy. bytes copy ≡ bytes word) xs ys → map bytes ys ≡ map bytes xs
-map-clones bytes [] [] all = refl
-map-clones bytes [] (y ∷ ys) all = absurd all
-map-clones bytes (x ∷ xs) [] all = absurd all
-map-clones bytes (x ∷ xs) (y ∷ ys) all = λ i. all.0 i ∷ map-clones bytes xs ys all.1 i

@@ -52,7 +52,7 @@ list_any-congr v w [] same = refl
 list_any-congr v w (k ∷ ks) same = λ i. sym (nat_list_eq_equiv.congr w v k same) i || list_any-congr v w ks same i
 
 -- the words that stand in none of these
-abbrev new_to : List (List ℕ) → List (List ℕ) → List (List ℕ)
+abbrev pub new_to : List (List ℕ) → List (List ℕ) → List (List ℕ)
 new_to ks ws = filter (λ v. not (list_any (bytes_eq v) ks)) ws
 
 -- of the words behind one that is known, those that differ from it and are new are those that are new
@@ -90,7 +90,7 @@ new_to-new ks w ws absent =
         ∙ ap (λ b. not b && not (list_any (bytes_eq v) ks)) (nat_list_eq_equiv.symm v w)
 
 -- the words counted behind others are those that are new to these, by first appearance
-keys-fold : (ws : List (List ℕ)) (es : List (List ℕ × ℕ)) → keys_of (fold counted_up es ws) ≡ keys_of es ++ new_to (keys_of es) (first_seen ws)
+pub keys-fold : (ws : List (List ℕ)) (es : List (List ℕ × ℕ)) → keys_of (fold counted_up es ws) ≡ keys_of es ++ new_to (keys_of es) (first_seen ws)
 keys-fold [] es = sym (append-nil (keys_of es))
 keys-fold (w ∷ ws) es = by (list_any (bytes_eq w) (keys_of es)) refl (keys-fold ws (counted_up es w)) (keys-counted_up es w)
   where

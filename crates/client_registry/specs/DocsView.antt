@@ -1,17 +1,26 @@
-use Rattle.std.specs.Prelude.{◌≡◌, ℕ, List, nat_eq}
-use Rattle.std.specs.HashSet.{contains}
+use Rattle.std.specs.Prelude.{◌≡◌, ◌<◌, ℕ, List, All, Some, length, map}
 use Rattle.client_registry.specs.Document.{Document}
-use Rattle.client_registry.specs.Documents.{all_words, is_live, pairs_of, IsCollected}
+use Rattle.client_registry.specs.Documents.{all_words, pairs_of, IsCollected}
+use Rattle.client_registry.specs.IdNumber.{id_number}
+use Rattle.client_registry.specs.Numbered.{words_by_number}
 use Rattle.client_registry.specs.Tally.{tally, counts_of}
+use Rattle.client_registry.specs.WordTable.{table_words}
 use Rattle.client_registry.specs.declared.collected.Docs.TheInside.{Inside}
+use Rattle.client_registry.specs.declared.doc_id.DocId.{DocId}
+use Rattle.client_registry.specs.declared.listed.Listed.{Listed}
+
+-- a document that is kept under its identifier
+abbrev pub kept_document : List (List ℕ) → DocId × Listed → Document
+kept_document words e = record { id = id_number e.0; words = words_by_number words e.1.numbers.items }
 
 -- what contracts see of the collected documents
 abbrev pub documents_of : Inside → List Document
-documents_of docs = docs.documents.items
+documents_of docs = map (kept_document (table_words docs.words.entries)) docs.documents.entries
 
--- the set and the counts beside the documents are theirs
+-- the numbers lie in the table, all of them live, and the table and its counts are the documents' own
 pub record IsIndexed (docs : Inside) : Type 0 where
-  pub live : (id : ℕ) → contains nat_eq docs.live id ≡ is_live docs.documents.items id
-  pub counts : counts_of docs.counts.entries ≡ tally (all_words docs.documents.items)
-  pub pairs : docs.pairs ≡ pairs_of docs.documents.items
-  pub collected : IsCollected docs.documents.items
+  pub numbered : All (λ e. All (λ n. n < length docs.words.entries) e.1.numbers.items) docs.documents.entries
+  pub whole : All (λ e. e.1.live ≡ Some (length e.1.numbers.items)) docs.documents.entries
+  pub counts : counts_of docs.words.entries ≡ tally (all_words (documents_of docs))
+  pub pairs : docs.pairs ≡ pairs_of (documents_of docs)
+  pub collected : IsCollected (documents_of docs)

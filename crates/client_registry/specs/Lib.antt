@@ -1,3 +1,4 @@
+pub mod HashNumbers
 pub mod WordRule
 pub mod WordBytes
 pub mod IdNumber
@@ -7,6 +8,8 @@ pub mod DocumentRule
 pub mod DocView
 pub mod Documents
 pub mod Tally
+pub mod Numbered
+pub mod WordTable
 pub mod DocsView
 pub mod Setup
 pub mod Acceptance
@@ -15,3 +18,4 @@ pub mod Command
 pub mod Run
 pub mod Live
 pub mod Sized
+pub mod Histories

@@ -3,4 +3,4 @@ use Rattle.client_registry.specs.declared.word.Word.{Word}
 
 -- the bytes of a word
 abbrev pub word_bytes : Word → List ℕ
-word_bytes word = word.bytes.items
+word_bytes word = word.text.bytes

@@ -1,22 +1,26 @@
-ghost use Rattle.std.specs.Prelude.{◌≡◌, ◌+◌, ◌<◌, ◌≤◌, [], ◌∷◌, ◌++◌, None, Some, length, slice_get, position, bytes_eq, ◌==◌, IfSome, OnOk, OnErr, IsOkUnless};
+ghost use Rattle.std.specs.Prelude.{◌≡◌, ◌+◌, ◌<◌, ◌≤◌, [], ◌∷◌, ◌++◌, None, Some, All, length, slice_get, ◌==◌, IfSome, OnOk, OnErr, IsOkUnless};
 
 use crate::doc_id::DocId;
 use crate::document::Doc;
 use crate::faults::DocsFault;
+use crate::hash_keys::HashKeys;
 use crate::limits::{MAX_DOCUMENTS, MAX_PAIRS};
-use crate::tally::count_all;
+use crate::listed::Listed;
+use crate::numbered::Numbered;
+use crate::numbering::{Words, count_all};
 use crate::word::Word;
 use indexmap::IndexMap;
 use std::alloc::Global;
-use std::collections::HashSet;
 use std::marker::Model;
 
 /// The documents collected for a setup, in their order, with their words numbered from 0 by first appearance.
+///
+/// A document is kept as its identifier and the numbers of its words; the bytes of a word stand once, in the table
+/// of words. Both tables hash under the keys that [`Docs::new`] is given.
 #[derive(Drop)]
 pub struct Docs {
-    documents: Vec<Doc>,
-    live: HashSet<u64>,
-    counts: IndexMap<Word, u32>,
+    documents: IndexMap<DocId, Listed, HashKeys>,
+    words: Words,
     pairs: usize,
 }
 
@@ -37,16 +41,16 @@ impl Docs {
     ghost use Rattle.client_registry.specs.Documents.{docs_refusal, is_live, list_lengths, words_of, IsCollected};
     ghost use Rattle.client_registry.specs.DocumentRule.{IsDocument};
     ghost use Rattle.client_registry.specs.IdNumber.{id_number};
+    ghost use Rattle.client_registry.specs.Numbered.{document_by};
     ghost use Rattle.client_registry.specs.WordBytes.{word_bytes};
 
-    /// No document.
-    pub fn new(alloc: Global) -> Docs
+    /// No document. Words and identifiers are to be hashed under these keys.
+    pub fn new(alloc: Global, keys: HashKeys) -> Docs
         ensures { result ≡ [] }
     {
         Docs {
-            documents: Vec::new(alloc),
-            live: HashSet::new(alloc),
-            counts: IndexMap::new(alloc),
+            documents: IndexMap::with_hasher(alloc, keys),
+            words: IndexMap::with_hasher(alloc, keys),
             pairs: 0,
         }
     }
@@ -63,26 +67,26 @@ impl Docs {
         ensures refused { IfSome (docs_refusal self.old doc) (λ fault. result ≡ Err fault) }
         ensures accepted { docs_refusal self.old doc ≡ None → IsOkUnless result DocsFault.NoMemory }
     {
-        let id = doc.id().get();
-        if self.live.contains(&id) {
-            return Err(DocsFault::AlreadyLive(id));
+        let id = doc.id();
+        if self.is_live(id) {
+            return Err(DocsFault::AlreadyLive(id.get()));
         }
-        let documents = self.documents.len() + 1;
+        let documents = self.len() + 1;
         if documents > MAX_DOCUMENTS {
             return Err(DocsFault::TooManyDocuments(documents as u64));
         }
-        let words = doc.words();
+        let words = doc.into_words();
         let pairs = self.pairs + words.len();
         if pairs > MAX_PAIRS {
             return Err(DocsFault::TooManyPairs(pairs as u64));
         }
         // All memory is taken first, so that nothing fails once something has changed.
-        let copies = words.to_vec(*self.documents.allocator())?;
-        self.counts.reserve(copies.len())?;
+        let mut numbers = Vec::with_capacity(*self.words.allocator(), words.len())?;
+        self.words.reserve(words.len())?;
         self.documents.reserve(1)?;
-        self.live.insert(id)?;
-        count_all(&mut self.counts, copies);
-        self.documents.push_reserved(doc);
+        count_all(&mut self.words, words, &mut numbers);
+        let live = Some(numbers.len() as u32);
+        self.documents.insert(id, Listed { numbers, live }).unwrap();
         self.pairs = pairs;
         Ok(())
     }
@@ -108,16 +112,21 @@ impl Docs {
         ensures within { result ≤ MAX_PAIRS }
         ensures valid { IsCollected self.now }
     {
-        self.counts.len()
+        self.words.len()
     }
 
-    /// The document at place `i`, from 0.
-    pub fn get(&self, i: usize) -> &Doc
+    /// The document at place `i`, from 0: its numbers are those of [`Docs::word`].
+    pub fn get(&self, i: usize) -> Numbered<'_>
         requires { i < length self.now }
-        ensures document { slice_get self.now i ≡ Some result.now }
-        ensures valid { IsDocument result.now }
+        ensures document { slice_get self.now i ≡ Some (document_by (words_of self.now) result) }
+        ensures numbered { All (λ n. n < length (words_of self.now)) result.numbers.now }
+        ensures valid { IsDocument (document_by (words_of self.now) result) }
     {
-        &self.documents[i]
+        let (id, listed) = self.documents.get_index(i).unwrap();
+        Numbered {
+            id: *id,
+            numbers: &listed.numbers,
+        }
     }
 
     /// The word of this number, from 0.
@@ -125,7 +134,7 @@ impl Docs {
         requires { w < length (words_of self.now) }
         ensures { slice_get (words_of self.now) w ≡ Some (word_bytes result.now) }
     {
-        self.counts.get_index(w).unwrap().0
+        self.words.get_index(w).unwrap().0
     }
 
     /// How many documents hold the word of this number: at least 1.
@@ -135,23 +144,13 @@ impl Docs {
         ensures some { 1 ≤ result }
         ensures within { result ≤ length self.now }
     {
-        *self.counts.get_index(w).unwrap().1
-    }
-
-    /// The number of a word, where a document holds it.
-    pub fn number_of(&self, word: &Word) -> Option<u32>
-        ensures { result ≡ position (bytes_eq (word_bytes word.now)) (words_of self.now) }
-    {
-        match self.counts.get_index_of(word) {
-            Some(number) => Some(number as u32),
-            None => None,
-        }
+        *self.words.get_index(w).unwrap().1
     }
 
     /// Whether a document has this identifier.
     pub fn is_live(&self, id: DocId) -> bool
         ensures { result ≡ is_live self.now (id_number id) }
     {
-        self.live.contains(&id.get())
+        self.documents.contains_key(&id)
     }
 }

@@ -5,7 +5,7 @@ use crate::faults::DocFault;
 use crate::limits::MAX_WORDS;
 use crate::word::Word;
 use std::alloc::{AllocError, Global};
-use std::collections::HashSet;
+use std::collections::BTreeSet;
 use std::marker::Model;
 
 /// A document: an identifier, and at most 4,096 different words in the order in which they were given.
@@ -68,17 +68,27 @@ impl Doc {
     {
         self.words.as_slice()
     }
+
+    /// The words alone, in the order in which they were given.
+    pub(crate) fn into_words(self) -> Vec<Word>
+        ensures words { map word_bytes result.items ≡ self.words }
+        ensures few { vec_len result ≤ MAX_WORDS }
+        ensures valid { IsDocument self }
+    {
+        let Doc { words, .. } = self;
+        words
+    }
 }
 
 ghost use Rattle.client_registry.specs.DocumentRule.{first_repeat as least_repeat};
 ghost use Rattle.client_registry.specs.WordBytes.{word_bytes as bytes_of};
 
-// The least position whose word stands earlier, by the set of the words before it.
+/// The least position whose word stands earlier, by the set of the words before it.
 fn first_repeat(alloc: Global, words: &[Word]) -> Result<Option<u32>, AllocError>
     requires { length words.now ≤ MAX_WORDS }
     ensures { IfOk result (λ position. position ≡ least_repeat (map bytes_of words.now)) }
 {
-    let mut seen: HashSet<&[u8]> = HashSet::new(alloc);
+    let mut seen: BTreeSet<&[u8]> = BTreeSet::new(alloc);
     for (position, word) in words.iter().enumerate() {
         if !seen.insert(word.bytes())? {
             return Ok(Some(position as u32));

@@ -12,8 +12,6 @@ pub enum WordFault {
     /// The place, from 0, of the first byte of 00 to 20 or 7f, or of the first ill-formed UTF-8 sequence,
     /// whichever is the lesser.
     BadByte(u64),
-    /// There is no memory for the word.
-    NoMemory,
 }
 
 /// Why words aren't those of a document.
@@ -49,16 +47,6 @@ pub enum SizeFault {
     ListTooLong { word: u32, n: u64 },
     /// The index would have so many bytes, more than 2^28.
     TooManyBytes(u64),
-}
-
-impl From<AllocError> for WordFault {
-    ghost use Rattle.client_registry.specs.declared.faults.WordFault.TheVariants.{NoMemory};
-
-    ghost from_gives = { λ _ e. e ≡ NoMemory };
-
-    fn from(_e: AllocError) -> WordFault {
-        WordFault::NoMemory
-    }
 }
 
 impl From<AllocError> for DocFault {

@@ -1,5 +1,6 @@
 use crate::{
-    Doc, DocFault, DocId, Docs, DocsFault, Size, SizeFault, Word, WordFault, Zero, size_of,
+    Doc, DocFault, DocId, Docs, DocsFault, HashKeys, Size, SizeFault, Word, WordFault, Zero,
+    size_of,
 };
 use std::alloc::Global;
 use std::test::Fail;
@@ -11,7 +12,7 @@ fn doc(alloc: Global, id: u64, texts: &[&[u8]]) -> Result<Doc, Fail> {
 
 /// Documents 1 to n that hold the word `a` alone.
 fn with_a(alloc: Global, n: u64) -> Result<Docs, Fail> {
-    let mut docs = Docs::new(alloc);
+    let mut docs = Docs::new(alloc, HashKeys::new(3, 5));
     for id in 1..=n {
         docs.push(doc(alloc, id, &[b"a"])?)?;
     }
@@ -34,11 +35,10 @@ fn words_are_refused_at_the_first_bad_byte(rt: HostRuntime) -> Result<(), Fail> 
         (b"\x21\x1f\xff", Some(WordFault::BadByte(1))),
     ];
     for (bytes, fault) in rows {
-        match Word::read(rt.alloc(), bytes) {
+        match Word::read(bytes) {
             Ok(word) => {
                 assert_eq!(rt; fault, None, "{bytes:?}");
                 assert_eq!(rt; word.bytes(), bytes);
-                assert_eq!(rt; word.clone()?, word);
             }
             Err(why) => assert_eq!(rt; fault, Some(why), "{bytes:?}"),
         }
@@ -50,7 +50,7 @@ fn words_are_refused_at_the_first_bad_byte(rt: HostRuntime) -> Result<(), Fail> 
 fn words(alloc: Global, texts: &[&[u8]]) -> Result<Vec<Word>, Fail> {
     let mut words = Vec::new(alloc);
     for text in texts {
-        words.push(Word::read(alloc, text)?)?;
+        words.push(Word::read(text)?)?;
     }
     Ok(words)
 }
@@ -61,14 +61,14 @@ fn different_words(alloc: Global, count: u32) -> Result<Vec<Word>, Fail> {
     for i in 0..count {
         let letters = [i % 26, i / 26 % 26, i / 676 % 26];
         let text = letters.map(|letter| b'a' + (letter % 26) as u8);
-        words.push(Word::read(alloc, &text)?)?;
+        words.push(Word::read(&text)?)?;
     }
     Ok(words)
 }
 
 /// Document 3 of the words `b` and `a`, then document 9 of `a` and `c`.
 fn two_documents(alloc: Global) -> Result<Docs, Fail> {
-    let mut docs = Docs::new(alloc);
+    let mut docs = Docs::new(alloc, HashKeys::new(3, 5));
     docs.push(doc(alloc, 3, &[b"b", b"a"])?)?;
     docs.push(doc(alloc, 9, &[b"a", b"c"])?)?;
     Ok(docs)
@@ -108,7 +108,7 @@ fn a_live_identifier_is_refused(rt: HostRuntime) -> Result<(), Fail> {
     );
     assert_eq!(rt; docs.len(), 2);
     assert_eq!(rt; docs.words(), 3);
-    assert_eq!(rt; docs.get(1).id(), DocId::new(9)?);
+    assert_eq!(rt; docs.get(1).id, DocId::new(9)?);
     assert!(rt; docs.is_live(DocId::new(3)?));
     assert!(rt; !docs.is_live(DocId::new(4)?));
     Ok(())
@@ -116,17 +116,17 @@ fn a_live_identifier_is_refused(rt: HostRuntime) -> Result<(), Fail> {
 
 #[test]
 fn words_are_numbered_by_first_appearance(rt: HostRuntime) -> Result<(), Fail> {
-    let alloc = rt.alloc();
-    let docs = two_documents(alloc)?;
-    let rows: [(&[u8], u32, u32); 3] = [(b"b", 0, 1), (b"a", 1, 2), (b"c", 2, 1)];
-    for (text, number, count) in rows {
-        let word = Word::read(alloc, text)?;
-        assert_eq!(rt; docs.number_of(&word), Some(number));
-        assert!(rt; (number as usize) < docs.words());
-        assert_eq!(rt; docs.word(number as usize), &word);
-        assert_eq!(rt; docs.list_len(number as usize), count);
+    let docs = two_documents(rt.alloc())?;
+    let rows: [(&[u8], u32); 3] = [(b"b", 1), (b"a", 2), (b"c", 1)];
+    assert_eq!(rt; docs.words(), rows.len());
+    for (number, (text, count)) in rows.into_iter().enumerate() {
+        assert!(rt; number < docs.words());
+        assert_eq!(rt; docs.word(number).bytes(), text);
+        assert_eq!(rt; docs.list_len(number), count);
     }
-    assert_eq!(rt; docs.number_of(&Word::read(alloc, b"d")?), None);
+    assert_eq!(rt; docs.len(), 2);
+    assert_eq!(rt; docs.get(0).numbers, [0, 1].as_slice());
+    assert_eq!(rt; docs.get(1).numbers, [1, 2].as_slice());
     Ok(())
 }
 

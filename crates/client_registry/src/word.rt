@@ -1,30 +1,30 @@
-ghost use Rattle.std.specs.Prelude.{◌≡◌, ◌<◌, ◌≤◌, None, IfSome, length, position};
+ghost use Rattle.std.specs.Prelude.{◌≡◌, ◌<◌, ◌≤◌, None, IfOk, IfErr, IfSome, IsOk, OnOk, length, position};
 ghost use Rattle.client_registry.specs.WordRule.{word_refusal, clean_len, is_forbidden};
 
 use crate::faults::WordFault;
 use crate::limits::MAX_WORD_BYTES;
-use std::alloc::{AllocError, Global};
+use arrayvec::ArrayString;
 
-/// A word: 1 to 64 bytes of UTF-8 without the bytes 00 to 20 and 7f. Words are compared by their bytes.
-#[derive(Debug, PartialEq, Eq, Hash, Drop)]
+/// A word: 1 to 64 bytes of UTF-8 without the bytes 00 to 20 and 7f, which lie in the value itself. Words are
+/// compared by their bytes.
+#[derive(Clone, Copy, Debug, PartialEq, Eq, Hash)]
 pub struct Word {
-    bytes: Vec<u8>,
-    pub ghost is_word: { word_refusal bytes.items ≡ None },
+    text: ArrayString<MAX_WORD_BYTES>,
+    pub ghost is_word: { word_refusal text.bytes ≡ None },
 }
 
 impl Word {
-    ghost use Rattle.std.specs.Prelude.{IfOk, IsOkUnless};
     ghost use Rattle.client_registry.specs.WordBytes.{word_bytes};
 
-    /// Reads a word out of all the bytes.
+    /// Reads a word out of all the bytes. It takes no memory.
     ///
     /// Errors, the first that stands: `Empty` where there is no byte; `TooLong(n)` where there are n bytes,
     /// more than 64; `BadByte(place)` at the first forbidden byte (00 to 20 and 7f) or the first ill-formed
-    /// UTF-8 sequence, whichever is the lesser place. With none of these, `NoMemory` where there is no memory.
-    pub fn read(alloc: Global, bytes: &[u8]) -> Result<Word, WordFault>
+    /// UTF-8 sequence, whichever is the lesser place.
+    pub fn read(bytes: &[u8]) -> Result<Word, WordFault>
         ensures ok { IfOk result (λ word. word_bytes word ≡ bytes.now) }
         ensures refused { IfSome (word_refusal bytes.now) (λ fault. result ≡ Err fault) }
-        ensures accepted { word_refusal bytes.now ≡ None → IsOkUnless result WordFault.NoMemory }
+        ensures accepted { word_refusal bytes.now ≡ None → IsOk result }
     {
         if bytes.is_empty() {
             return Err(WordFault::Empty);
@@ -32,12 +32,20 @@ impl Word {
         if bytes.len() > MAX_WORD_BYTES {
             return Err(WordFault::TooLong(bytes.len() as u64));
         }
-        let clean = clean_len(bytes);
-        if clean < bytes.len() {
-            return Err(WordFault::BadByte(clean as u64));
+        match clean_text(bytes) {
+            Ok(text) => Ok(Word::of_text(text)),
+            Err(place) => Err(WordFault::BadByte(place as u64)),
         }
-        let bytes = Vec::from_slice(alloc, bytes)?;
-        Ok(Word { bytes })
+    }
+
+    /// The word of a text that is one.
+    fn of_text(text: &str) -> Word
+        requires { word_refusal text.now ≡ None }
+        ensures { word_bytes result ≡ text.now }
+    {
+        let mut copy = ArrayString::new();
+        copy.push_str(text);
+        Word { text: copy }
     }
 
     /// The bytes of the word.
@@ -47,29 +55,18 @@ impl Word {
         ensures within { length result.now ≤ MAX_WORD_BYTES }
         ensures is_word { word_refusal result.now ≡ None }
     {
-        self.bytes.as_slice()
+        self.text.as_str().as_bytes()
     }
 }
 
-impl Clone for Word {
-    ghost use Rattle.client_registry.specs.WordBytes.{word_bytes};
-
-    ghost is_clone = { λ word copy. word_bytes copy ≡ word_bytes word };
-
-    fn clone(&self) -> Result<Word, AllocError> {
-        let bytes = self.bytes.clone()?;
-        Ok(Word { bytes })
-    }
-}
-
-// Whether the byte stands in no word: a control byte, the blank, or 7f.
+/// Whether the byte stands in no word: a control byte, the blank, or 7f.
 fn is_forbidden(byte: u8) -> bool
     ensures { result ≡ is_forbidden byte }
 {
     byte <= 0x20 || byte == 0x7f
 }
 
-// The place of the first forbidden byte.
+/// The place of the first forbidden byte.
 fn first_forbidden(bytes: &[u8]) -> Option<usize>
     ensures first { result ≡ position is_forbidden bytes.now }
     ensures within { IfSome result (λ place. place < length bytes.now) }
@@ -77,13 +74,18 @@ fn first_forbidden(bytes: &[u8]) -> Option<usize>
     bytes.iter().position(|byte| is_forbidden(*byte))
 }
 
-// The place of the first forbidden byte or of the first ill-formed UTF-8 sequence, else the length.
-fn clean_len(bytes: &[u8]) -> usize
-    ensures { result ≡ clean_len bytes.now }
+/// The bytes as a text, where all are allowed; else the place of the first forbidden byte or of the first ill-formed
+/// UTF-8 sequence.
+fn clean_text(bytes: &[u8]) -> Result<&str, usize>
+    ensures text { IfOk result (λ text. text.now ≡ bytes.now) }
+    ensures clean { OnOk result (length bytes.now ≤ clean_len bytes.now) }
+    ensures place { IfErr result (λ place. place ≡ clean_len bytes.now) }
+    ensures within { IfErr result (λ place. place < length bytes.now) }
 {
     let allowed = first_forbidden(bytes).unwrap_or(bytes.len());
     match str::from_utf8(bytes) {
-        Ok(_) => allowed,
-        Err(fault) => allowed.min(fault.valid_up_to()),
+        Ok(text) if allowed == bytes.len() => Ok(text),
+        Ok(_) => Err(allowed),
+        Err(fault) => Err(allowed.min(fault.valid_up_to())),
     }
 }

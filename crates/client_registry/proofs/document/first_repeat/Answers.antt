@@ -1,12 +1,17 @@
-use Rattle.std.proofs.Common.{◌≡◌, ◌<◌, ◌+◌, Some, false, true, ap, ◌∙◌, arith, drop, length, map, sym, take}
+use Rattle.std.proofs.Common.{◌≡◌, ◌<◌, ◌+◌, ℕ, List, Some, false, true, cond, ap, ◌∙◌, arith, drop, length, map, sym, take}
+use Rattle.std.specs.BTreeSet.{contains_by}
+use Rattle.std.specs.Cmp.Lexicographic.{slice_cmp}
 use Rattle.std.specs.List.{list_any}
+use Rattle.std.specs.Ordering.{nat_cmp}
 use Rattle.std.specs.Str.{bytes_eq}
 use Rattle.std.proofs.lemmas.Bool.{not-true, not-false}
+use Rattle.std.proofs.lemmas.Map.Text.{is_eq-slice_cmp}
 use Rattle.client_registry.specs.DocumentRule.{first_repeat as least_repeat}
 use Rattle.client_registry.specs.WordBytes.{word_bytes as bytes_of}
 use Rattle.client_registry.proofs.FirstClashLaws.{first_repeat-new, first_repeat-old}
 use Rattle.client_registry.proofs.SeenWords.{front_and_rest, front_more, length_front, list_any-push}
 use Rattle.client_registry.proofs.document.first_repeat.Goals as goal
+use denote.Bor.{Bor}
 
 pub returns-then-not-branch : goal.returns-then-not-branch
 returns-then-not-branch c =
@@ -33,5 +38,9 @@ loop-position-preserved c =
     let more = front_more bytes_of words i word bytes within c.index-words-position.is c.bytes.ensures.bytes in
     record {
       clear = ap least_repeat more ∙ first_repeat-new front bytes c.loop-position.invariant.clear absent;
-      seen = λ q. c.in_ok-insert.ensures.updates.0 q ∙ list_any-push q.now bytes front _ (c.loop-position.invariant.seen q) ∙ ap (list_any (bytes_eq q.now)) (sym more);
+      seen = λ q.
+          let had = contains_by (λ (k : Bor (List ℕ)). slice_cmp nat_cmp q.now k.now) c.loop-position.seen in
+          c.in_ok-insert.ensures.updates.0 q
+          ∙ ap (λ b. cond b true had) (is_eq-slice_cmp bytes q.now)
+          ∙ list_any-push q.now bytes front had (c.loop-position.invariant.seen q) ∙ ap (list_any (bytes_eq q.now)) (sym more);
     }

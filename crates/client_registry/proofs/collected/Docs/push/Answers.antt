@@ -1,50 +1,79 @@
-use Rattle.std.proofs.Common.{◌≡◌, ◌+◌, ◌<◌, ◌≤◌, ◌^◌, ◌++◌, ◌∷◌, [], cond, true, false, map, length, vec_len, sym, ap, subst, ◌∙◌, arith}
+use Rattle.std.proofs.Common.{◌≡◌, ◌+◌, ◌<◌, ◌≤◌, ◌^◌, ◌++◌, ◌∷◌, [], false, map, length, vec_len, sym, ap, subst, ◌∙◌, arith, Some}
 use Rattle.std.specs.Prelude.{All, fold, nat_eq}
-use Rattle.std.specs.HashSet.{contains}
 use Rattle.std.proofs.lemmas.List.{length-map}
+use Rattle.indexmap.specs.IndexMap.{insert_entry}
 use Rattle.client_registry.specs.Documents.{all_words, is_live, pairs_of, IsCollected}
-use Rattle.client_registry.specs.Tally.{tally, counts_of, counted_up}
+use Rattle.client_registry.specs.DocsView.{documents_of, kept_document}
+use Rattle.client_registry.specs.IdNumber.{id_number}
+use Rattle.client_registry.specs.Numbered.{words_by_number}
+use Rattle.client_registry.specs.Tally.{counts_of, counted_up}
 use Rattle.client_registry.specs.WordBytes.{word_bytes}
-use Rattle.client_registry.proofs.TallyLaws.{tally-append}
-use Rattle.client_registry.proofs.PushLaws.{all_words-push, pairs_of-push, is_live-push, IsCollected-push, tally-room, map-clones}
+use Rattle.client_registry.specs.WordTable.{table_words}
+use Rattle.client_registry.specs.declared.listed.Listed.{Listed}
+use Rattle.client_registry.proofs.IndexedLaws.{words_within}
+use Rattle.client_registry.proofs.KeptLaws.{counts_pushed, documents_pushed, numbered_pushed, whole_pushed}
+use Rattle.client_registry.proofs.PushLaws.{pairs_of-push, IsCollected-push, tally-room}
 use Rattle.client_registry.proofs.collected.Docs.push.Goals as goal
+
+pub count_all-requires-clause-few : goal.count_all-requires-clause-few
+count_all-requires-clause-few c =
+    omega (arith, ap length c.in_ok-reserve.ensures.entries, words_within c.self.inside c.self.invariant, c.into_words-words.ensures.few)
 
 pub count_all-requires-clause-small : goal.count_all-requires-clause-small
 count_all-requires-clause-small c =
-    let docs = c.self.inside.documents.items in
-    let n = vec_len c.in_ok-copies.copies in
-    let room : pairs_of docs + n ≤ 2 ^ 20 = omega (arith, c.self.invariant.pairs, c.in_ok-copies.ensures.len) in
+    let docs = documents_of c.self.inside in
+    let n = vec_len c.into_words-words.result in
+    let room : pairs_of docs + n ≤ 2 ^ 20 = omega (arith, c.self.invariant.pairs, c.len.ensures) in
     subst (All (λ e. e.1 + n < 2 ^ 32)) (sym (ap counts_of c.in_ok-reserve.ensures.entries ∙ c.self.invariant.counts)) (tally-room (all_words docs) n room)
+
+-- what is kept of the document
+abbrev kept : goal.After-self-1 → Listed
+kept c = record { numbers = c.count_all.new.numbers; live = Some c.len-4.result }
+
+new_id : (c : goal.After-self-1) → is_live (documents_of c.self.inside) c.args.doc.id ≡ false
+new_id c =
+    ap (λ docs. is_live docs c.args.doc.id) c.self.view_is
+    ∙ ap (is_live c.args.self.now) (sym c.id-id.ensures)
+    ∙ sym c.is_live.ensures
+    ∙ c.if-is_live.false
+
+inserted : (c : goal.After-self-1) → c.insert.new.self.entries ≡ insert_entry (λ a b. nat_eq (id_number a) (id_number b)) c.self.inside.documents.entries c.id-id.result (kept c)
+inserted c =
+    let entries = rw c.unwrap.ensures at c.insert.ensures.entries in
+    entries ∙ ap (λ es. insert_entry (λ a b. nat_eq (id_number a) (id_number b)) es c.id-id.result (kept c)) c.in_ok-reserve-2.ensures.entries
+
+counted : (c : goal.After-self-1) → counts_of c.count_all.new.words.entries ≡ fold counted_up (counts_of c.self.inside.words.entries) c.args.doc.words
+counted c =
+    c.count_all.ensures.counted
+    ∙ ap (λ es. fold counted_up (counts_of es) (map word_bytes c.into_words-words.result.items)) c.in_ok-reserve.ensures.entries
+    ∙ ap (fold counted_up (counts_of c.self.inside.words.entries)) c.into_words-words.ensures.words
+
+numbers : (c : goal.After-self-1) → words_by_number (table_words c.count_all.new.words.entries) c.count_all.new.numbers.items ≡ c.args.doc.words
+numbers c = c.count_all.ensures.numbers ∙ c.into_words-words.ensures.words
+
+documents : (c : goal.After-self-1) → map (kept_document (table_words c.count_all.new.words.entries)) c.insert.new.self.entries ≡ documents_of c.self.inside ++ c.args.doc ∷ []
+documents c = documents_pushed c.self.inside c.self.invariant c.args.doc c.id-id.result (kept c) c.insert.new.self.entries c.count_all.new.words.entries c.id-id.ensures (new_id c) (inserted c) (counted c) (numbers c)
 
 pub invariant_of-self-2 : goal.invariant_of-self-2
 invariant_of-self-2 c =
-    let docs = c.self.inside.documents.items in
+    let docs = documents_of c.self.inside in
     let doc = c.args.doc in
     let had = c.self.invariant in
-    let id : c.get-id.result ≡ doc.id = c.get-id.ensures.number ∙ c.id.ensures in
-    let items : c.push_reserved.new.self.items ≡ docs ++ doc ∷ [] = c.push_reserved.ensures.items ∙ ap (λ ds. ds ++ doc ∷ []) c.in_ok-reserve-2.ensures.items in
-    let words : map word_bytes c.in_ok-copies.copies.items ≡ doc.words = map-clones word_bytes c.words-words.result.now c.in_ok-copies.copies.items c.in_ok-copies.ensures.ok ∙ c.words-words.ensures.words in
-    let count : length c.words-words.result.now ≡ length doc.words = sym (length-map c.words-words.result.now word_bytes) ∙ ap length c.words-words.ensures.words in
-    let new : is_live docs doc.id ≡ false = ap (is_live docs) (sym id) ∙ sym (had.live c.get-id.result) ∙ sym c.contains.ensures ∙ c.if-contains.false in
+    let fs = c.count_all.new.words.entries in
+    let es = c.insert.new.self.entries in
+    let id = c.id-id.result in
+    let count : c.len.result ≡ length doc.words = c.len.ensures ∙ c.into_words-words.result.ok.0 ∙ sym (length-map c.into_words-words.result.items word_bytes) ∙ ap length c.into_words-words.ensures.words in
     record {
-      live = λ q.
-          c.in_ok-insert.ensures.updates.0 q
-          ∙ ap (λ i. cond (nat_eq i q) true (contains nat_eq c.self.inside.live q)) id
-          ∙ ap (λ b. cond (nat_eq doc.id q) true b) (had.live q)
-          ∙ is_live-push docs doc q
-          ∙ ap (λ ds. is_live ds q) (sym items);
-      counts =
-          c.count_all.ensures
-          ∙ ap (λ es. fold counted_up (counts_of es) (map word_bytes c.in_ok-copies.copies.items)) c.in_ok-reserve.ensures.entries
-          ∙ ap (λ es. fold counted_up es (map word_bytes c.in_ok-copies.copies.items)) had.counts
-          ∙ ap (fold counted_up (tally (all_words docs))) words
-          ∙ sym (tally-append [] (all_words docs) doc.words)
-          ∙ ap tally (sym (all_words-push docs doc))
-          ∙ ap (λ ds. tally (all_words ds)) (sym items);
-      pairs =
-          ap (λ n. n + length c.words-words.result.now) had.pairs
-          ∙ ap (λ n. pairs_of docs + n) count
-          ∙ sym (pairs_of-push docs doc)
-          ∙ ap pairs_of (sym items);
-      collected = subst IsCollected (sym items) (IsCollected-push docs doc had.collected c.words-words.ensures.valid new (omega arith) (omega (arith, had.pairs, count)));
+      numbered = numbered_pushed c.self.inside had doc id (kept c) es fs c.id-id.ensures (new_id c) (inserted c) (counted c) (numbers c) c.count_all.ensures.within;
+      whole = whole_pushed c.self.inside had doc id (kept c) es fs c.id-id.ensures (new_id c) (inserted c) (counted c) (numbers c) (ap (λ n. Some n) (c.len-4.ensures ∙ c.count_all.new.numbers.ok.0));
+      counts = counts_pushed c.self.inside had doc id (kept c) es fs c.id-id.ensures (new_id c) (inserted c) (counted c) (numbers c);
+      pairs = ap (λ n. n + c.len.result) had.pairs ∙ ap (λ n. pairs_of docs + n) count ∙ sym (pairs_of-push docs doc) ∙ ap pairs_of (sym (documents c));
+      collected =
+          subst IsCollected (sym (documents c))
+          (IsCollected-push docs doc had.collected c.into_words-words.ensures.valid (new_id c)
+          (omega (arith, c.len-documents.ensures.len, ap length c.self.view_is))
+          (omega (arith, had.pairs, count)));
     }
+
+pub returns-clause-ok : goal.returns-clause-ok
+returns-clause-ok c = documents c ∙ ap (λ docs. docs ++ c.args.doc ∷ []) c.self.view_is
