@@ -1,0 +1,4 @@
+mod BucketLemmas
+mod Places
+mod SlotLemmas
+mod TableLemmas
