@@ -10,11 +10,11 @@ use Rattle.std.proofs.lemmas.Bool.{eqb-true, ne_eqb}
 use Rattle.std.proofs.lemmas.Cmp.{nat_list_cmp_total, tied_itself}
 use Rattle.std.proofs.lemmas.List.Elements.{All-head, All-tail}
 use Rattle.keyed_fn.specs.KeyedFn.{KeyedFn}
-use Rattle.sse_frames.specs.Frames.{Entry, FrameText, Hello, SetupBegin, SetupDict, SetupArray, SetupEnd, AddFrame, DeleteFrame, SearchFrame, Rises, labels_of}
+use Rattle.sse_frames.specs.Frames.{Entry, FrameText, Hello, SetupBegin, SetupDict, SetupArray, SetupEnd, AddFrame, DeleteFrame, SearchFrame, update_number, Rises, labels_of}
 use Rattle.sse_frames.specs.Replies.{ReplyText, Number}
 use Rattle.server_core.specs.Dictionary.{CellMap}
 use Rattle.server_core.specs.State.{ServerState}
-use Rattle.server_core.specs.Refusal.{update_number, first_known, refusal}
+use Rattle.server_core.specs.Refusal.{first_known, refusal}
 use Rattle.server_core.specs.Step.{with_entries, taken, step, steps}
 use Rattle.server_core.proofs.EntryLemmas.{none_known_behind}
 

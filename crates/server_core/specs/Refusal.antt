@@ -4,21 +4,10 @@ use Rattle.std.specs.Option.{option_map, option_map_or}
 use Rattle.std.specs.List.{position_from}
 use Rattle.std.specs.FinMap as map
 use Rattle.std.specs.FinSet as set
-use Rattle.sse_frames.specs.Frames.{Entry, FrameText, Hello, SetupBegin, SetupDict, SetupArray, SetupEnd, AddFrame, DeleteFrame, SearchFrame}
+use Rattle.sse_frames.specs.Frames.{Entry, FrameText, Hello, SetupBegin, SetupDict, SetupArray, SetupEnd, AddFrame, DeleteFrame, SearchFrame, update_number}
 use Rattle.sse_frames.specs.Replies.{ReplyText, Number, Clash, OutOfPlace}
 use Rattle.server_core.specs.Dictionary.{CellMap}
 use Rattle.server_core.specs.State.{ServerState, is_empty, is_filling, is_ready}
-
--- the number of an update frame
-abbrev pub update_number : FrameText → Option ℕ
-update_number Hello = None
-update_number (SetupBegin q b big m a) = Some q
-update_number (SetupDict q width entries) = Some q
-update_number (SetupArray q width blocks) = Some q
-update_number (SetupEnd q) = Some q
-update_number (AddFrame q entries numbers) = Some q
-update_number (DeleteFrame q numbers) = Some q
-update_number (SearchFrame token) = None
 
 -- the frames that this server takes: it has no blocks, additions or deletions
 abbrev pub is_built : FrameText → Bool

@@ -9,7 +9,6 @@
 mod answer;
 mod cell;
 mod entries;
-mod numbers;
 mod refuse;
 mod search;
 mod search_fault;

@@ -1,17 +1,16 @@
 ghost use Rattle.std.specs.Prelude.{◌≡◌, ◌≢◌, ℕ, List, ◌∷◌, true, ◌↔◌, [], All, Some, false, ◌==◌, ◌&&◌, nat_le, ◌+◌, ◌*◌, ◌/◌, ◌-◌, ◌<◌, ◌≤◌, length, IsSome, IfSome, IsErrAnd, IsOkUnless, OnOk, OnErr, Err, None};
 ghost use Rattle.std.specs.FinMap as map;
 ghost use Rattle.std.specs.Option.{option_map};
-ghost use Rattle.sse_frames.specs.Frames.{InGrammar, SearchFrame};
+ghost use Rattle.sse_frames.specs.Frames.{InGrammar, SearchFrame, update_number};
 ghost use Rattle.sse_frames.specs.Seen.{seen, entries_in};
 ghost use Rattle.keyed_fn.specs.KeyedFn.{keyed_fn};
 ghost use Rattle.server_core.specs.Search.{found};
 ghost use Rattle.server_core.specs.State.{at_first, is_ready};
-ghost use Rattle.server_core.specs.Refusal.{update_number, in_place, clash, refusal};
+ghost use Rattle.server_core.specs.Refusal.{in_place, clash, refusal};
 ghost use Rattle.server_core.specs.Step.{taken, answers, step};
 ghost use Rattle.server_core.specs.Views.{refuse_reply, answer_replies, HasRange, HasRoom, TakesMemory};
 
 use crate::entries::entry_count;
-use crate::numbers::number_of;
 use crate::search::open_list;
 use crate::tables::Dictionary;
 use crate::{Answer, Refuse, SearchFault, Stage};
@@ -131,6 +130,8 @@ impl Server {
                 self.stage = Stage::Ready;
                 self.next += 1;
             }
+            // None of these is in place, or an update frame.
+            Frame::SetupArray { .. } | Frame::Add { .. } | Frame::Delete { .. } => {}
             Frame::Hello | Frame::Search { .. } => {}
         }
     }
@@ -180,7 +181,10 @@ impl Server {
             Frame::Hello => Answer::Next(self.next),
             Frame::SetupBegin { .. } => self.answer_update(frame),
             Frame::SetupDict { .. } => self.answer_update(frame),
+            Frame::SetupArray { .. } => self.answer_update(frame),
             Frame::SetupEnd { .. } => self.answer_update(frame),
+            Frame::Add { .. } => self.answer_update(frame),
+            Frame::Delete { .. } => self.answer_update(frame),
             Frame::Search { token } => self.answer_search(keyed, token, out),
         }
     }
@@ -229,7 +233,7 @@ impl Server {
         ensures cause { option_map refuse_reply result ≡ refusal self.now.state (seen frame.now) }
         ensures no_memory { result ≢ Some Refuse.NoMemory }
     {
-        if let Some(q) = number_of(frame)
+        if let Some(q) = frame.update_number()
             && q != self.next
         {
             return Some(Refuse::Number(self.next));
@@ -250,9 +254,11 @@ impl Server {
             Frame::SetupDict { width, entries, .. } => self.stage.is_filling()
                 && self.has_place(width, entries),
             Frame::SetupEnd { .. } => self.stage.is_filling() && self.is_whole(),
+            Frame::SetupArray { .. } | Frame::Add { .. } | Frame::Delete { .. } => false,
             Frame::Search { .. } => self.stage.is_ready(),
         }
     }
+
     // Whether the entries are cells of this setup, and no more than it still lacks.
     fn has_place(&self, width: u16, entries: &[u8]) -> bool
         ensures { result ≡ ((width == 1 + 8 * self.now.state.shape.b) && nat_le (map.len self.now.state.dictionary + length (entries_in width entries.now)) self.now.state.words) }
@@ -272,9 +278,10 @@ impl Server {
         self.dictionary.len() == self.words as usize && self.blocks == 0
     }
 
-    // The first collision of the frame with what the server holds.
+    // The first collision of a frame that is in place with what the server holds.
     fn clash(&self, frame: &Frame<'_>) -> Option<Refuse>
-        requires { InGrammar (seen frame.now) }
+        requires grammar { InGrammar (seen frame.now) }
+        requires placed { in_place self.now.state (seen frame.now) ≡ true }
         ensures cause { option_map refuse_reply result ≡ clash self.now.state (seen frame.now) }
         ensures no_memory { result ≢ Some Refuse.NoMemory }
     {

@@ -18,22 +18,46 @@ const END: &[u8] = b"\x00\x00\x00\x05\x05\x00\x00\x00\x02";
 const SEARCH: &[u8] =
     b"\x00\x00\x00\xa1\x08\xc3\xc4\xc5\xc6\xc7\xc8\xc9\xca\xcb\xcc\xcd\xce\xcf\xd0\xd1\xd2\xd3\xd4\xd5\xd6\xd7\xd8\xd9\xda\xdb\xdc\xdd\xde\xdf\xe0\xe1\xe2\xc4\xc5\xc6\xc7\xc8\xc9\xca\xcb\xcc\xcd\xce\xcf\xd0\xd1\xd2\xd3\xd4\xd5\xd6\xd7\xd8\xd9\xda\xdb\xdc\xdd\xde\xdf\xe0\xe1\xe2\xe3\xc5\xc6\xc7\xc8\xc9\xca\xcb\xcc\xcd\xce\xcf\xd0\xd1\xd2\xd3\xd4\xd5\xd6\xd7\xd8\xd9\xda\xdb\xdc\xdd\xde\xdf\xe0\xe1\xe2\xe3\xe4\xc6\xc7\xc8\xc9\xca\xcb\xcc\xcd\xce\xcf\xd0\xd1\xd2\xd3\xd4\xd5\xd6\xd7\xd8\xd9\xda\xdb\xdc\xdd\xde\xdf\xe0\xe1\xe2\xe3\xe4\xe5\xc7\xc8\xc9\xca\xcb\xcc\xcd\xce\xcf\xd0\xd1\xd2\xd3\xd4\xd5\xd6\xd7\xd8\xd9\xda\xdb\xdc\xdd\xde\xdf\xe0\xe1\xe2\xe3\xe4\xe5\xe6";
 
+// The same entry with its cell's kind byte changed to 3, which is no kind.
+const BAD_DICT: &[u8] =
+    b"\x00\x00\x00\x22\x03\x00\x00\x00\x01\x00\x09\x00\x01\xc3\xc5\xc7\xc9\xcb\xcd\xcf\xd1\xd3\xd5\xd7\xd9\xdb\xdd\xdf\xe1\xc7\xc5\xc6\xc7\xc8\xc9\xca\xcb\xcd";
+
+// A block, an addition and a deletion.
+const ARRAY: &[u8] =
+    b"\x00\x00\x00\x11\x04\x00\x00\x00\x01\x00\x08\x00\x01\xc5\xc6\xc7\xc8\xc9\xca\xcb\xcd";
+
+const ADD: &[u8] =
+    b"\x00\x00\x00\x21\x06\x00\x00\x00\x03\x00\x01\x00\x00\xc5\xc7\xc9\xcb\xcd\xcf\xd1\xd3\xd5\xd7\xd9\xdb\xdd\xdf\xe1\xe3\xc6\xc7\xc8\xc9\xca\xcb\xcc\xc8";
+
+const DELETE: &[u8] =
+    b"\x00\x00\x00\x17\x07\x00\x00\x00\x04\x00\x01\xef\xf1\xf3\xf5\xf7\xf9\xfb\xfd\xff\x01\x03\x05\x07\x09\x0b\x0d";
+
 // What a new server answers to frames in a row.
-const ANSWERS: [(&[u8], Answer); 7] = [
+const SETUP: [(&[u8], Answer); 10] = [
     (SEARCH, Answer::OutOfPlace),
     (HELLO, Answer::Next(0)),
     (BEGIN, Answer::Took(0)),
+    (ARRAY, Answer::OutOfPlace),
     (DICT, Answer::Took(1)),
     (END, Answer::Took(2)),
     (BEGIN, Answer::Number(3)),
+    (ADD, Answer::OutOfPlace),
+    (DELETE, Answer::Number(3)),
     (SEARCH, Answer::Found),
+];
+
+const BAD_CELL: [(&[u8], Answer); 4] = [
+    (BEGIN, Answer::Took(0)),
+    (BAD_DICT, Answer::Took(1)),
+    (END, Answer::Took(2)),
+    (SEARCH, Answer::BadList),
 ];
 
 #[test]
 fn answers_a_setup_and_a_search(rt: HostRuntime) {
     let mut server = Server::new(rt.alloc());
     let mut found = Vec::new(rt.alloc());
-    for (bytes, want) in ANSWERS {
+    for (bytes, want) in SETUP {
         let Ok(Some((frame, _))) = read_frame(bytes) else {
             panic!(rt; "no frame")
         };
@@ -41,6 +65,19 @@ fn answers_a_setup_and_a_search(rt: HostRuntime) {
     }
     assert_eq!(rt; server.next(), 3);
     assert_eq!(rt; found.as_slice(), [1].as_slice());
+}
+
+#[test]
+fn answers_a_search_of_a_bad_cell(rt: HostRuntime) {
+    let mut server = Server::new(rt.alloc());
+    let mut found = Vec::new(rt.alloc());
+    for (bytes, want) in BAD_CELL {
+        let Ok(Some((frame, _))) = read_frame(bytes) else {
+            panic!(rt; "no frame")
+        };
+        assert_eq!(rt; server.handle(&Toy, &frame, &mut found), want);
+    }
+    assert_eq!(rt; found.is_empty(), true);
 }
 
 #[test]

@@ -6,9 +6,9 @@ use Rattle.std.specs.List.{list_any, range_with_len}
 use Rattle.std.specs.FinMap as finmap
 use Rattle.std.proofs.lemmas.Simd.{map-map}
 use Rattle.std.proofs.lemmas.Bool.{true≢false}
-use Rattle.std.proofs.lemmas.List.Concat.{flat_map-append, flat_map_single}
+use Rattle.std.proofs.lemmas.List.Concat.{flat_map-append}
 use Rattle.std.proofs.lemmas.List.Elements.{Contains-append_left, Contains-append_right}
-use Rattle.std.proofs.lemmas.List.Folds.{flat_map-map, list_any-append}
+use Rattle.std.proofs.lemmas.List.Folds.{list_any-append}
 use Rattle.keyed_fn.specs.KeyedFn.{KeyedFn, IsKeyedFn}
 use Rattle.client_registry.proofs.DistinctLaws.{IsDistinct-first_seen}
 use Rattle.client_registry.specs.Acceptance.{frames_needed}

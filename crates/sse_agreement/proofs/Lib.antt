@@ -6,3 +6,5 @@ pub mod SearchAnswered
 pub mod SetupSearched
 pub mod Agreement
 mod Rows
+pub mod NoCollision
+pub mod Histories

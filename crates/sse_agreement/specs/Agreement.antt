@@ -1,12 +1,12 @@
 -- What the server that is sent a run's frames replies, and what it answers to a search.
-use Rattle.std.specs.Prelude.{◌≡◌, ℕ, ◌+◌, ◌^◌, ◌<◌, false, List, [], ◌∷◌, ◌++◌, map, flat_map}
+use Rattle.std.specs.Prelude.{◌≡◌, ℕ, ◌+◌, false, List, [], ◌∷◌, ◌++◌, map, flat_map, None, Some}
 use Rattle.std.specs.List.{list_any}
 use Rattle.keyed_fn.specs.KeyedFn.{KeyedFn, IsKeyedFn}
 use Rattle.client_registry.specs.Acceptance.{blocks_of, frames_needed}
 use Rattle.client_registry.specs.Command.{Search, is_update}
 use Rattle.client_registry.specs.Live.{shown, found, in_order}
 use Rattle.client_registry.specs.Over.{over}
-use Rattle.client_registry.specs.Run.{Run, Offsets}
+use Rattle.client_registry.specs.Run.{Run, Offsets, History}
 use Rattle.client_registry.specs.Sized.{IsHistory, update_frames}
 use Rattle.sse_frames.specs.Frames.{FrameText, SearchFrame}
 use Rattle.sse_frames.specs.Replies.{ReplyText}
@@ -55,6 +55,11 @@ pub record Agrees (f : KeyedFn) (t : Table) (o : Offsets) (run : Run) : Type 0 w
 pub record IsSupported (run : Run) : Type 0 where
   pub blocks : blocks_of run.setup ≡ 0
   pub searches : list_any is_update run.later ≡ false
+
+-- the same of a history
+abbrev pub Supports : History → Type 0
+Supports None = Unit {0}
+Supports (Some run) = IsSupported run
 
 -- server and client agree: on each run that is a history, under every key, where no compared values collide
 abbrev pub ServerAgrees : Type 0

@@ -1,5 +1,5 @@
 -- How many entries, blocks and frames there are, and how the update frames are numbered.
-use Rattle.std.proofs.Common.{◌≡◌, ℕ, zero, suc, ◌+◌, ◌*◌, List, [], ◌∷◌, ◌++◌, length, map, filter, Option, None, Some, refl, sym, ap, ◌∙◌, arith, zero-add}
+use Rattle.std.proofs.Common.{◌≡◌, ℕ, zero, suc, ◌+◌, ◌*◌, List, [], ◌∷◌, ◌++◌, length, map, filter, Some, refl, sym, ap, ◌∙◌, arith, zero-add}
 use Rattle.std.specs.Prelude.{flat_map, sum_by}
 use Rattle.std.specs.List.{range_with_len, filter_map, AllByRecursion, cons_option}
 use Rattle.std.specs.Int.{div_ceil}
@@ -23,7 +23,7 @@ use Rattle.client_registry.specs.Run.{Run, Offsets}
 use Rattle.client_registry.specs.Setup.{Setup, setup_words}
 use Rattle.client_registry.specs.Sized.{update_frames}
 use Rattle.sse_frames.proofs.Sorted.{length-by_bytes}
-use Rattle.sse_frames.specs.Frames.{Entry, FrameText, Hello, SetupBegin, SetupDict, SetupArray, SetupEnd, AddFrame, DeleteFrame, SearchFrame}
+use Rattle.sse_frames.specs.Frames.{Entry, FrameText, SetupBegin, SetupDict, SetupArray, SetupEnd, update_number}
 use Rattle.sse_frames.specs.Order.{by_bytes}
 use Rattle.sse_frames.specs.Sending.{numbered, dict_frames, array_frames, setup_frames}
 use Rattle.sse_model.specs.Names.{Table}
@@ -88,17 +88,6 @@ length-frames_of_setup t o s =
     let a : length blocks ≡ acceptance.blocks_of s = length-map (block_positions o.epoch s) (sealed t ranks) ∙ length-block_positions o.epoch s in
     length-setup_frames o.frame s.shape entries blocks
     ∙ (λ i. 2 + div_ceil (m i) 1024 + div_ceil (a i) 256)
-
--- the number of an update frame, none of another
-abbrev pub update_number : FrameText → Option ℕ
-update_number Hello = None
-update_number (SetupBegin q b big m a) = Some q
-update_number (SetupDict q width entries) = Some q
-update_number (SetupArray q width blocks) = Some q
-update_number (SetupEnd q) = Some q
-update_number (AddFrame q entries numbers) = Some q
-update_number (DeleteFrame q numbers) = Some q
-update_number (SearchFrame token) = None
 
 -- numbers one after another, and others behind them
 range_with_len-add : (a m n : ℕ) → range_with_len a (m + n) ≡ range_with_len a m ++ range_with_len (a + m) n

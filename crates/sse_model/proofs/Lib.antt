@@ -21,3 +21,5 @@ pub mod SealedEntries
 pub mod SetupGrammar
 pub mod UpdateGrammar
 pub mod Grammar
+pub mod HistoryLaws
+pub mod Exchanging

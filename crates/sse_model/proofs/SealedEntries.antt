@@ -88,7 +88,7 @@ differs value word (w ∷ ws) apart one = (
 )
 
 -- where equal values are of one word, those of different words differ
-AllDiffer-words : (value : List ℕ → List ℕ) (words : List (List ℕ)) → IsDistinct bytes_eq words
+pub AllDiffer-words : (value : List ℕ → List ℕ) (words : List (List ℕ)) → IsDistinct bytes_eq words
     → ((v w : List ℕ) → Contains words v → Contains words w → value v ≡ value w → v ≡ w) → AllDiffer (map value words)
 unfolding IsDistinct
 AllDiffer-words value [] apart one = tt

@@ -50,13 +50,13 @@ all_taken key P zero xs all = tt
 all_taken key P (suc n) [] all = tt
 all_taken key P (suc n) (x ∷ xs) all = (all.0, all_taken key P n xs all.1)
 
-Rises-take : {X : Type 0} (key : X → List ℕ) (n : ℕ) (xs : List X) → Rises (map key xs) → Rises (map key (take n xs))
+pub Rises-take : {X : Type 0} (key : X → List ℕ) (n : ℕ) (xs : List X) → Rises (map key xs) → Rises (map key (take n xs))
 unfolding IsStrictlySortedBy
 Rises-take key zero xs rises = tt
 Rises-take key (suc n) [] rises = tt
 Rises-take key (suc n) (x ∷ xs) rises = (all_taken key _ n xs rises.0, Rises-take key n xs rises.1)
 
-Rises-drop : {X : Type 0} (key : X → List ℕ) (n : ℕ) (xs : List X) → Rises (map key xs) → Rises (map key (drop n xs))
+pub Rises-drop : {X : Type 0} (key : X → List ℕ) (n : ℕ) (xs : List X) → Rises (map key xs) → Rises (map key (drop n xs))
 unfolding IsStrictlySortedBy
 Rises-drop key zero xs rises = rises
 Rises-drop key (suc n) [] rises = tt

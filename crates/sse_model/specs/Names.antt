@@ -1,5 +1,5 @@
 -- Names for the values of which the wire is made, and the table of their values under a key.
-use Rattle.std.specs.Prelude.{◌≡◌, ℕ, zero, suc, ◌+◌, ◌*◌, Bool, true, false, ◌&&◌, ◌==◌, List, length, All, bytes_eq}
+use Rattle.std.specs.Prelude.{ℕ, zero, suc, ◌+◌, ◌*◌, Bool, true, false, ◌&&◌, ◌==◌, List, bytes_eq}
 use Rattle.two_level.specs.Shape.{Shape}
 use Rattle.keyed_fn.specs.KeyedFn.{KeyedFn}
 use Rattle.keyed_fn.specs.KeyFormulas.{part_key, list_label, cell_pad, block_pad, plus_label, plus_pad, revocation, place_tag, token_of}

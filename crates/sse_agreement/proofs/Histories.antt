@@ -1,0 +1,135 @@
+-- What a server that is sent a history's frames replies, and what the history's searches show.
+use Rattle.std.proofs.Common.{◌≡◌, ℕ, ◌≤◌, ◌^◌, false, not, ◌||◌, List, [], ◌∷◌, ◌++◌, length, map, Some, None, refl, sym, ap, ◌∙◌, subst, arith, append_assoc}
+use Rattle.std.specs.Prelude.{flat_map, filter}
+use Rattle.std.specs.List.{AllByRecursion, list_any}
+use Rattle.std.proofs.lemmas.Bool.{or_parts}
+use Rattle.std.proofs.lemmas.List.{length-map, map-append}
+use Rattle.std.proofs.lemmas.List.Filters.{length-filter_both}
+use Rattle.std.proofs.lemmas.List.Elements.{recursion_from_All}
+use Rattle.std.proofs.lemmas.List.Folds.{list_any-append}
+use Rattle.keyed_fn.specs.KeyedFn.{KeyedFn, IsKeyedFn}
+use Rattle.client_registry.proofs.HistoryLaws.{whole_run}
+use Rattle.client_registry.proofs.SizedLaws.{IsHistory-front}
+use Rattle.client_registry.specs.Acceptance.{blocks_of, frames_needed}
+use Rattle.client_registry.specs.Command.{Command, Add, Delete, Search, is_update}
+use Rattle.client_registry.specs.Documents.{has_word}
+use Rattle.client_registry.specs.Histories.{begun_by, longer, IsKept, IsFirstOf, shown_by, found_by, shown_in_turn, found_in_turn}
+use Rattle.client_registry.specs.Live.{shown, in_order}
+use Rattle.client_registry.specs.Over.{over}
+use Rattle.client_registry.specs.Run.{Run, History, at_first}
+use Rattle.client_registry.specs.Setup.{Setup, setup_list}
+use Rattle.client_registry.specs.Sized.{IsHistory}
+use Rattle.sse_frames.specs.Replies.{Next, IsIdentifier}
+use Rattle.sse_model.proofs.Exchanging.{replied-setup, replied-commands}
+use Rattle.sse_model.proofs.HistoryLaws.{frames_sent-run}
+use Rattle.sse_model.proofs.Prefixes.{frames_by}
+use Rattle.sse_model.specs.Exchange.{replied}
+use Rattle.sse_model.specs.Histories.{table_of, frames_sent, HasNoCollision}
+use Rattle.sse_model.specs.Names.{Table}
+use Rattle.sse_model.specs.Wire.{acknowledgements}
+use Rattle.server_core.specs.State as server
+use Rattle.server_core.specs.Step.{steps}
+use Rattle.sse_agreement.proofs.Agreement.{server_agrees}
+use Rattle.sse_agreement.proofs.Found.{shown_are_found}
+use Rattle.sse_agreement.proofs.SetupShown.{shown-searches, ids_with-above, ids_with-fit}
+use Rattle.sse_agreement.specs.Agreement.{replies_by_frame, IsSupported, Supports}
+
+-- Which histories a server takes.
+
+pub Supports-begun : (s : Setup) → blocks_of s ≡ 0 → Supports (begun_by s)
+Supports-begun s none = record { blocks = none; searches = refl }
+
+pub Supports-search : (h : History) (word : List ℕ) → Supports h → Supports (longer (Search word ∷ []) h)
+Supports-search None word supported = tt
+Supports-search (Some run) word supported = record {
+  blocks = supported.blocks;
+  searches = list_any-append is_update run.later (Search word ∷ []) ∙ ap (λ b. b || false) supported.searches;
+}
+
+pub Supports-first : (part whole : History) → IsFirstOf part whole → Supports whole → Supports part
+Supports-first None whole p supported = tt
+Supports-first (Some run) None p supported = absurd p
+Supports-first (Some run) (Some whole) p supported =
+    let same : IsSupported (record { setup = run.setup; later = run.later ++ p.1.0 }) = subst IsSupported (whole_run run whole p) supported in record {
+      blocks = same.blocks;
+      searches = (or_parts (list_any is_update run.later) (list_any is_update p.1.0) (sym (list_any-append is_update run.later p.1.0) ∙ same.searches)).0;
+    }
+
+-- What it replies.
+
+-- to Hello that it expects the first update, and to the others as the history says
+pub replied-run : (f : KeyedFn) (keys : ℕ → List ℕ) (run : Run) → replied (shown_in_turn (Some run)) (frames_sent f keys (Some run)) ≡ (Next 0 ∷ []) ∷ replies_by_frame at_first run
+replied-run f keys run =
+    let t : Table = table_of f keys run in
+    let answers = shown_in_turn (Some run) in
+    ap (replied answers) (frames_sent-run f keys run)
+    ∙ ap (λ rest. (Next 0 ∷ []) ∷ rest)
+    (replied-setup t at_first run.setup answers (flat_map (λ frames. frames) (over (frames_by t at_first run.setup) [] run.later))
+    ∙ ap (λ rest. map (λ reply. reply ∷ []) (acknowledgements 0 (frames_needed run.setup)) ++ rest) (replied-commands t at_first run.setup [] run.later))
+
+-- a server that has taken nothing, and is sent the frames of a history without collisions, replies to them with what the
+-- history's searches show
+pub replies_agree : (f : KeyedFn) (keys : ℕ → List ℕ) (h : History) → IsKeyedFn f → IsKept h → Supports h → HasNoCollision f keys h
+    → (steps f server.at_first (frames_sent f keys h)).1 ≡ replied (shown_in_turn h) (frames_sent f keys h)
+replies_agree f keys None laws kept supported free = refl
+replies_agree f keys (Some run) laws kept supported free =
+    ap (λ frames. (steps f server.at_first frames).1) (frames_sent-run f keys run)
+    ∙ ap (λ replies. (Next 0 ∷ []) ∷ replies) (server_agrees f keys at_first run laws kept.0 supported free).replies
+    ∙ sym (replied-run f keys run)
+
+-- What is shown.
+
+-- an answer that a server can give: identifiers, of at most 2^18 documents
+pub record IsAnswer (ids : List ℕ) : Type 0 where
+  pub each : AllByRecursion IsIdentifier ids
+  pub few : length ids ≤ 2 ^ 18
+
+module _ (s : Setup) where
+  abbrev run_with : List Command → Run
+  run_with later = record { setup = s; later = later }
+
+  IsAnswer-shown : (past : List Command) (word : List ℕ) → IsHistory (run_with past) → list_any is_update past ≡ false → IsAnswer (shown s past word)
+  IsAnswer-shown past word history searches = subst IsAnswer (sym (shown-searches s past word searches)) (record {
+    each = recursion_from_All IsIdentifier (setup_list s word)
+        (λ k d below. (ids_with-above s.documents word history.collected.are_documents k d below, ids_with-fit s.documents word history.collected.are_documents k d below));
+    few = omega (arith, length-map (filter (has_word word) s.documents) (λ d. d.id), length-filter_both (has_word word) (λ d. not (has_word word d)) (λ d. refl) s.documents, history.collected.documents);
+  })
+
+  answers_of : (past later : List Command) → IsHistory (run_with (past ++ later)) → list_any is_update (past ++ later) ≡ false
+      → AllByRecursion IsAnswer (flat_map (λ r. r) (over (shown_by s) past later))
+  answers_of past [] history searches = tt
+  answers_of past (c ∷ later) history searches =
+      let rest = answers_of (past ++ c ∷ []) later
+      (subst (λ all. IsHistory (run_with all)) (sym (append_assoc past (c ∷ []) later)) history)
+      (ap (list_any is_update) (append_assoc past (c ∷ []) later) ∙ searches) in
+      by c (IsHistory-front s past (c ∷ later) history)
+      ((or_parts (list_any is_update past) (list_any is_update (c ∷ later)) (sym (list_any-append is_update past (c ∷ later)) ∙ searches)).0) rest
+    where
+      by : (c : Command) → IsHistory (run_with past) → list_any is_update past ≡ false → AllByRecursion IsAnswer (flat_map (λ r. r) (over (shown_by s) (past ++ c ∷ []) later))
+          → AllByRecursion IsAnswer (flat_map (λ r. r) (over (shown_by s) past (c ∷ later)))
+      by (Add d) history none rest = rest
+      by (Delete id) history none rest = rest
+      by (Search word) history none rest = (IsAnswer-shown past word history none, rest)
+
+  shown_found : (past : List Command) (c : Command) → IsHistory (run_with past) → map in_order (shown_by s past c) ≡ found_by s past c
+  shown_found past (Add d) history = refl
+  shown_found past (Delete id) history = refl
+  shown_found past (Search word) history = ap (λ ids. ids ∷ []) (shown_are_found (run_with past) word history)
+
+  all_found : (past later : List Command) → IsHistory (run_with (past ++ later))
+      → map in_order (flat_map (λ r. r) (over (shown_by s) past later)) ≡ flat_map (λ r. r) (over (found_by s) past later)
+  all_found past [] history = refl
+  all_found past (c ∷ later) history =
+      map-append in_order (shown_by s past c) (flat_map (λ r. r) (over (shown_by s) (past ++ c ∷ []) later))
+      ∙ (λ i. shown_found past c (IsHistory-front s past (c ∷ later) history) i
+      ++ all_found (past ++ c ∷ []) later (subst (λ all. IsHistory (run_with all)) (sym (append_assoc past (c ∷ []) later)) history) i)
+
+-- what the searches of a history show can be answered
+pub shown_are_answers : (h : History) → IsKept h → Supports h → AllByRecursion IsAnswer (shown_in_turn h)
+shown_are_answers None kept supported = tt
+shown_are_answers (Some run) kept supported = answers_of run.setup [] run.later kept.0 supported.searches
+
+-- and is, each in order, what they find
+pub in_order-shown_in_turn : (h : History) → IsKept h → map in_order (shown_in_turn h) ≡ found_in_turn h
+in_order-shown_in_turn None kept = refl
+in_order-shown_in_turn (Some run) kept = all_found run.setup [] run.later kept.0

@@ -1,0 +1,58 @@
+-- What frames are to be replied, whatever the searches among them find, and what passes where they are.
+use Rattle.std.specs.Prelude.{ℕ, ◌+◌, List, [], ◌∷◌, ◌++◌, map, drop}
+use Rattle.sse_frames.specs.Frames.{FrameText, Hello, SetupBegin, SetupDict, SetupArray, SetupEnd, AddFrame, DeleteFrame, SearchFrame}
+use Rattle.sse_frames.specs.Replies.{ReplyText, Next, Took}
+use Rattle.sse_frames.specs.Sending.{pages}
+use Rattle.sse_model.specs.Transcript.{Passed, Sent, Received}
+
+-- what a frame asks of a server: the number of the update that it expects, to take the update of this number, or an answer
+pub data Asked : Type 0 where
+  ForNext : Asked
+  ForTook : (q : ℕ) → Asked
+  ForAnswer : Asked
+
+abbrev pub asked : FrameText → Asked
+asked Hello = ForNext
+asked (SetupBegin q b big m a) = ForTook q
+asked (SetupDict q width entries) = ForTook q
+asked (SetupArray q width blocks) = ForTook q
+asked (SetupEnd q) = ForTook q
+asked (AddFrame q entries numbers) = ForTook q
+asked (DeleteFrame q numbers) = ForTook q
+asked (SearchFrame token) = ForAnswer
+
+-- the replies that are to come: that a server has taken nothing, that it took an update, or the pages of an answer
+abbrev pub expected : List ℕ → Asked → List ReplyText
+expected ids ForNext = Next 0 ∷ []
+expected ids (ForTook q) = Took q ∷ []
+expected ids ForAnswer = pages ids
+
+-- the first of the answers that came, and none where none came
+abbrev pub first_answer : List (List ℕ) → List ℕ
+first_answer [] = []
+first_answer (ids ∷ answers) = ids
+
+-- the answers behind a frame: a search has taken the first
+abbrev pub answers_behind : Asked → List (List ℕ) → List (List ℕ)
+answers_behind ForAnswer answers = drop 1 answers
+answers_behind asks answers = answers
+
+-- the replies to each of these frames, where the searches among them have these answers
+abbrev pub replied : List (List ℕ) → List FrameText → List (List ReplyText)
+replied answers [] = []
+replied answers (frame ∷ frames) = expected (first_answer answers) (asked frame) ∷ replied (answers_behind (asked frame) answers) frames
+
+-- each of these frames with its replies
+abbrev pub exchange : List (List ℕ) → List FrameText → List Passed
+exchange answers [] = []
+exchange answers (frame ∷ frames) =
+    Sent frame ∷ map Received (expected (first_answer answers) (asked frame)) ++ exchange (answers_behind (asked frame) answers) frames
+
+-- how many answers a frame takes, and how many frames take
+abbrev pub answers_to : Asked → ℕ
+answers_to ForAnswer = 1
+answers_to asks = 0
+
+abbrev pub searches : List FrameText → ℕ
+searches [] = 0
+searches (frame ∷ frames) = answers_to (asked frame) + searches frames
