@@ -1,3 +1,5 @@
 pub mod Honest
 pub mod Pages
+mod Handled
+mod Kept
 mod Rows

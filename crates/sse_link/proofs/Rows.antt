@@ -1,13 +1,14 @@
--- Rows: a transcript that is honest, and one that isn't.
-use Rattle.std.proofs.Common.{◌≡◌, inl, inr, ℕ, List, [], ◌∷◌, slice_index, None, refl, sym, ap, ◌∙◌, arith, lit<, lit≤}
+-- Rows: a transcript that is honest, and two that aren't.
+use Rattle.std.proofs.Common.{◌≡◌, inl, ℕ, List, [], ◌∷◌, slice_index, refl, sym, ap, ◌∙◌, arith, lit<, lit≤}
 use Rattle.keyed_fn.specs.KeyedFn.{KeyedFn, keyed_fn}
 use Rattle.keyed_fn.specs.Toy.{toy_prf, toy_pad}
 use Rattle.sse_frames.specs.Frames.{Hello, SetupBegin, InGrammar}
-use Rattle.server_core.specs.State.{at_first}
+use Rattle.server_core.specs.State.{ServerState, at_first}
 use Rattle.server_core.specs.Step.{step}
 use Rattle.sse_link.specs.Events.{Sent, Received}
-use Rattle.sse_link.specs.Served.{Served, IsServed, at_start}
-use Rattle.sse_link.proofs.Honest.{Serves-step}
+use Rattle.sse_link.specs.Served.{Served, IsHonest}
+use Rattle.sse_link.specs.declared.mark.Mark.TheVariants.{Stepped, LackedMemory}
+use Rattle.sse_link.proofs.Honest.{Serves-step, Serves-frame}
 
 abbrev toy : KeyedFn
 toy = keyed_fn toy_prf toy_pad
@@ -26,11 +27,12 @@ begin = 0 ∷ 0 ∷ 0 ∷ 17 ∷ 2 ∷ 0 ∷ 0 ∷ 0 ∷ 0 ∷ 0 ∷ 1 ∷ 0 ∷
 abbrev took : List ℕ
 took = 0 ∷ 0 ∷ 0 ∷ 5 ∷ 0x82 ∷ 0 ∷ 0 ∷ 0 ∷ 0 ∷ []
 
-honest_row : IsServed toy at_start (Sent hello None ∷ Received next ∷ Sent begin None ∷ Received took ∷ []) (record { state = (step toy at_first (SetupBegin 0 1 1 1 0)).0; due = [] })
+-- the reply to the second Hello is lost
+honest_row : IsHonest toy at_first (Sent hello Stepped ∷ Received next ∷ Sent hello Stepped ∷ Sent begin Stepped ∷ Received took ∷ []) (step toy at_first (SetupBegin 0 1 1 1 0)).0
 honest_row =
     let first : Served = record { state = at_first; due = next ∷ [] } in
     let second : Served = record { state = (step toy at_first (SetupBegin 0 1 1 1 0)).0; due = took ∷ [] } in
-    (first, tt, Serves-step toy at_first Hello tt, ([], refl, (second, tt, Serves-step toy at_first (SetupBegin 0 1 1 1 0) begins, ([], refl, refl))))
+    (first, Serves-step toy at_first Hello tt, ([], refl, (first, Serves-step toy at_first Hello tt, (second, Serves-step toy at_first (SetupBegin 0 1 1 1 0) begins, ([], refl, (refl, inl refl))))))
   where
     begins : InGrammar (SetupBegin 0 1 1 1 0)
     begins = record {
@@ -47,11 +49,14 @@ kind_of [] = 0
 kind_of (reply ∷ later) = slice_index reply 4
 
 -- Took(0) is no reply to Hello
-other_row : (end : Served) → IsServed toy at_start (Sent hello None ∷ Received took ∷ []) end → ⊥
-other_row end served = elim (served.2 Hello tt tt refl) [
-  | inl stepped ↦ not_same (ap kind_of (sym served.3.1 ∙ stepped.1))
-  | inr lacked ↦ lacked.0
-]
+other_row : (after : ServerState) → IsHonest toy at_first (Sent hello Stepped ∷ Received took ∷ []) after → ⊥
+other_row after served =
+    let stepped = Serves-frame toy at_first Hello Stepped served.0 tt served.1 in
+    not_same (ap kind_of (sym served.2.1 ∙ stepped.replies_are))
   where
     not_same : ◌≡◌ {A = ℕ} 0x82 0x81 → ⊥
     not_same same = omega arith
+
+-- and Hello never lacks memory
+lacking_row : (after : ServerState) → IsHonest toy at_first (Sent hello LackedMemory ∷ []) after → ⊥
+lacking_row after served = (Serves-frame toy at_first Hello LackedMemory served.0 tt served.1).may

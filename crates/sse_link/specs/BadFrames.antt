@@ -1,9 +1,8 @@
 -- How bytes are answered that aren't one whole frame.
-use Rattle.std.specs.Prelude.{◌≢◌, ℕ, Bool, List, Result, Ok, Err}
-use Rattle.sse_frames.specs.Frames.{FrameText, InGrammar, frame_bytes}
-use Rattle.sse_frames.specs.Reading.{IsBuilt}
+use Rattle.std.specs.Prelude.{ℕ, Bool, List, Result, Ok, Err}
 use Rattle.sse_frames.specs.declared.fault.FrameFault.{FrameFault}
 use Rattle.sse_frames.specs.declared.fault.FrameFault.TheVariants.{BadLength, BadKind, BadBody}
+use Rattle.sse_frames.specs.Frames.{IsFrame}
 
 -- the reason of BadFrame: 1 for a length that is out of range or isn't that of the bytes, 2 for an unknown kind, 3 for
 -- another field
@@ -15,4 +14,4 @@ bad_reason (Err (BadBody place)) = 3
 
 -- the bytes aren't those of one frame
 abbrev pub IsNoFrame : List ℕ → Type 0
-IsNoFrame bytes = (frame : FrameText) → InGrammar frame → IsBuilt frame → bytes ≢ frame_bytes frame
+IsNoFrame bytes = IsFrame bytes → ⊥

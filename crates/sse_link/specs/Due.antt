@@ -1,14 +1,27 @@
 -- What a reply says of the replies to come.
-use Rattle.std.specs.Prelude.{ℕ, ◌<◌, ◌≤◌, Bool, ◌&&◌, ◌==◌, List, [], ◌∷◌, length, drop, slice_index, All}
+use Rattle.std.specs.Prelude.{ℕ, ◌<◌, ◌≤◌, Bool, false, not, List, [], ◌∷◌, length, drop, All}
 use Rattle.sse_frames.specs.Replies.{ReplyText, Page, StoreFault, InReplies}
+use Rattle.sse_frames.specs.Reading.{IsReply}
 use Rattle.sse_frames.specs.Seen.{seen_reply}
 use Rattle.sse_frames.specs.Sending.{pages}
 use Rattle.sse_link.specs.declared.due.Due.{Due}
 use Rattle.sse_link.specs.declared.due.Due.TheVariants as dues
 
--- whether these bytes are a page that isn't the last: its kind stands behind the length, its flag behind the kind
-abbrev pub is_open_page : List ℕ → Bool
-is_open_page reply = slice_index reply 4 == 0x85 && slice_index reply 5 == 0
+-- whether a reply is a page that isn't the last
+abbrev pub leaves_more : ReplyText → Bool
+leaves_more (Page last ids) = not last
+leaves_more _ = false
+
+-- these bytes are a page of the grammar that isn't the last; behind no others another reply is due
+pub record IsOpenPage (reply : List ℕ) : Type 0 where
+  pub ids : List ℕ
+  pub is : IsReply (Page false ids) reply
+
+-- these replies to one frame were received in a row: each but the last leaves another one due
+abbrev pub AreInTurn : List (List ℕ) → Type 0
+AreInTurn [] = Unit {0}
+AreInTurn (reply ∷ []) = Unit {0}
+AreInTurn (reply ∷ next ∷ later) = IsOpenPage reply × AreInTurn (next ∷ later)
 
 -- the replies that wait, where a search found these identifiers
 abbrev pub waiting : Due → List ℕ → List ReplyText

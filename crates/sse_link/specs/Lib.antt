@@ -1,8 +1,12 @@
 pub mod Events
 pub mod Due
+pub mod Marks
 pub mod Passed
+pub mod Recorded
+pub mod Served
 pub mod Told
+pub mod Counts
+pub mod Steady
+pub mod Failing
 pub mod Scripted
 pub mod BadFrames
-pub mod Served
-pub mod Steady

@@ -1,50 +1,70 @@
 -- What an honest link brings: for each frame the server's step, and its replies in order.
-use Rattle.std.specs.Prelude.{◌≡◌, ◌⊎◌, ℕ, List, [], ◌∷◌, ◌++◌, map, Option, None, Some}
-use Rattle.sse_frames.specs.Frames.{FrameText, Hello, InGrammar, frame_bytes}
+use Rattle.std.specs.Prelude.{◌≡◌, ◌⊎◌, ℕ, List, [], ◌∷◌, ◌++◌, map}
+use Rattle.sse_frames.specs.Frames.{FrameText, Hello, IsFrame}
 use Rattle.sse_frames.specs.Replies.{NoMemory, reply_bytes}
-use Rattle.sse_frames.specs.Reading.{IsBuilt}
 use Rattle.keyed_fn.specs.KeyedFn.{KeyedFn}
 use Rattle.server_core.specs.State.{ServerState, at_first}
 use Rattle.server_core.specs.Step.{step}
-use Rattle.sse_link.specs.Events.{Event, Sent, Received, Remote}
+use Rattle.sse_link.specs.Events.{Event, Sent, Received}
+use Rattle.sse_link.specs.declared.mark.Mark.{Mark}
+use Rattle.sse_link.specs.declared.mark.Mark.TheVariants.{Unknown, Stepped, LackedMemory}
 
 -- a server, and the bytes of each reply that waits
 pub record Served : Type 0 where
   pub state : ServerState
   pub due : List (List ℕ)
 
--- a server that has taken nothing, with no reply that waits
+-- a server of which no reply waits
+abbrev pub idle : ServerState → Served
+idle state = record { state = state; due = [] }
+
+-- a server that has taken nothing
 abbrev pub at_start : Served
-at_start = record { state = at_first; due = [] }
+at_start = idle at_first
 
 -- a server may be out of memory for every frame but Hello
 abbrev pub MayLackMemory : FrameText → Type 0
 MayLackMemory Hello = ⊥
 MayLackMemory _ = Unit {0}
 
--- what the bytes of a frame bring: the server's step, or out of memory and the server as before. Of bytes that are no
--- frame nothing is said
-abbrev pub Serves : KeyedFn → ServerState → List ℕ → ServerState → List (List ℕ) → Type 0
-Serves f before bytes after due = (frame : FrameText) → InGrammar frame → IsBuilt frame → bytes ≡ frame_bytes frame →
-    ((after ≡ (step f before frame).0) × (due ≡ map reply_bytes (step f before frame).1))
-    ⊎ (MayLackMemory frame × (after ≡ before) × (due ≡ reply_bytes NoMemory ∷ []))
+-- the frame made this state and had these replies, which are the server's step
+pub record IsStep (f : KeyedFn) (before : ServerState) (frame : FrameText) (after : ServerState) (replies : List (List ℕ)) : Type 0 where
+  pub state : after ≡ (step f before frame).0
+  pub replies_are : replies ≡ map reply_bytes (step f before frame).1
 
--- the link knows no other state behind the frame
-abbrev pub IsBehind : Option Remote → ServerState → Type 0
-IsBehind None state = Unit {0}
-IsBehind (Some remote) state = remote.state ≡ state
+-- in place of its step the server was out of memory: it said so, and stayed as it was
+pub record LacksMemory (before : ServerState) (frame : FrameText) (after : ServerState) (replies : List (List ℕ)) : Type 0 where
+  pub may : MayLackMemory frame
+  pub state : after ≡ before
+  pub replies_are : replies ≡ reply_bytes NoMemory ∷ []
+
+-- the frame was answered as its mark says
+abbrev pub Answers : KeyedFn → ServerState → FrameText → Mark → ServerState → List (List ℕ) → Type 0
+Answers f before frame Unknown after replies = IsStep f before frame after replies ⊎ LacksMemory before frame after replies
+Answers f before frame Stepped after replies = IsStep f before frame after replies
+Answers f before frame LackedMemory after replies = LacksMemory before frame after replies
+
+-- these bytes are a frame, which was answered as its mark says
+pub record Serves (f : KeyedFn) (before : ServerState) (bytes : List ℕ) (mark : Mark) (after : Served) : Type 0 where
+  pub sent : IsFrame bytes
+  pub answered : Answers f before sent.frame mark after.state after.due
+
+-- a call that fails drops the replies that wait, without an event
+abbrev pub AreKept : List (List ℕ) → List (List ℕ) → Type 0
+AreKept due left = (left ≡ due) ⊎ (left ≡ [])
 
 -- these events lead from one server with its waiting replies to another: a frame drops the replies that waited before
 -- it and brings its own, and what is received is the first of those that wait
 abbrev pub IsServed : KeyedFn → Served → List Event → Served → Type 0
-IsServed f start [] end = start ≡ end
-IsServed f start (Sent bytes behind ∷ later) end =
-    (now : Served) × IsBehind behind now.state × Serves f start.state bytes now.state now.due × IsServed f now later end
+IsServed f start [] end = (start.state ≡ end.state) × AreKept start.due end.due
+IsServed f start (Sent bytes mark ∷ later) end = (now : Served) × Serves f start.state bytes mark now × IsServed f now later end
 IsServed f start (Received bytes ∷ later) end =
     (rest : List (List ℕ)) × (start.due ≡ bytes ∷ rest) × IsServed f (record { state = start.state; due = rest }) later end
 
--- a frame was answered by these replies, and by those that wait still: the step's, or out of memory and the server as before
-abbrev pub IsAnswered : KeyedFn → ServerState → FrameText → List (List ℕ) → Served → Type 0
-IsAnswered f before frame replies after =
-    ((after.state ≡ (step f before frame).0) × (replies ++ after.due ≡ map reply_bytes (step f before frame).1))
-    ⊎ (MayLackMemory frame × (after.state ≡ before) × (replies ++ after.due ≡ reply_bytes NoMemory ∷ []))
+-- these events are an honest transcript from a server of which no reply waits, and leave it in this state
+abbrev pub IsHonest : KeyedFn → ServerState → List Event → ServerState → Type 0
+IsHonest f before events after = IsServed f (idle before) events (idle after)
+
+-- of the replies to a frame these were received, and the others wait
+abbrev pub IsAnswered : KeyedFn → ServerState → FrameText → Mark → List (List ℕ) → Served → Type 0
+IsAnswered f before frame mark replies after = Answers f before frame mark after.state (replies ++ after.due)

@@ -6,22 +6,27 @@
 //! and its replies in order. It says nothing of a real connection.
 #![tactic(auto)]
 
+mod answering;
+mod counts;
 mod due;
 mod fail;
-mod faults;
 mod link;
 mod link_fault;
 mod loopback;
+mod mark;
 mod passed;
-mod record;
 mod scripted;
 mod steady;
+mod transcript;
 mod whole;
 
+pub use answering::answer_bytes;
+pub use due::Due;
 pub use fail::Fail;
 pub use link::Link;
 pub use link_fault::LinkFault;
 pub use loopback::Loopback;
+pub use mark::Mark;
 pub use passed::Passed;
 pub use scripted::ScriptedLink;
 pub use std::alloc::AllocError as NoMemory;

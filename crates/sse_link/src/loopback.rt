@@ -1,21 +1,28 @@
-ghost use Rattle.std.specs.Prelude.{◌≡◌, ℕ, List, ◌^◌, ◌-◌, ◌+◌, ◌≤◌, min, [], map};
-ghost use Rattle.sse_outside.specs.Causes.{Rose};
-ghost use Rattle.server_core.specs.State.{at_first};
+ghost use Rattle.std.specs.Prelude.{◌≡◌, ◌≢◌, ◌↔◌, ◌≤◌, ◌∷◌, true, false, [], not, length, take, IsTrue, IsSome, IsSomeAnd, IfOk, OnOk, Some, None, Err};
+ghost use Rattle.sse_frames.specs.Replies.{StoreFault, reply_bytes};
+ghost use Rattle.server_core.specs.Refusal.{is_nil};
 ghost use Rattle.keyed_fn.specs.KeyedFn.{keyed_fn};
+ghost use Rattle.sse_link.specs.Due.{IsOpenPage};
+ghost use Rattle.sse_link.specs.Events.{AreKnown};
+ghost use Rattle.sse_link.specs.Failing.{listed_at, worked, failed, FailsSend};
 ghost use Rattle.sse_link.specs.Passed.{events_of};
-ghost use Rattle.sse_link.specs.Served.{IsServed, at_start};
+ghost use Rattle.sse_link.specs.Served.{IsServed, idle};
+ghost use Rattle.sse_frames.specs.Frames.{IsFrame};
+ghost use Rattle.sse_link.specs.Told.{told_first, served, dropped, IsSent, IsReceived};
 
-use crate::faults::one_more;
+use crate::counts::one_more;
 use crate::{Fail, Link, LinkFault, Passed, SteadyLoopback};
 use keyed_fn::Keyed;
+use server_core::Server;
 use std::alloc::Global;
 use std::marker::Model;
 
 /// A link to a server in this process, of which chosen calls fail.
 ///
-/// `fails` names the sends and receives that are cut, counted together from 0. A send that fails after its
-/// work has reached the server, and is among what was sent; one that fails before hasn't. A receive that
-/// fails loses the reply. The count of faults rises with each call that fails, and with no other.
+/// `fails` names the sends and receives that are cut, counted together from 0; where it names one twice, the first
+/// counts. A send that fails after its work has reached the server, and is among what was sent; one that fails before
+/// hasn't. A receive that fails loses the reply. The count of faults rises with each call that fails, and with no
+/// other. A call without memory isn't counted.
 #[derive(Drop)]
 pub struct Loopback<K: Keyed> {
     steady: SteadyLoopback<K>,
@@ -27,25 +34,27 @@ pub struct Loopback<K: Keyed> {
 
 impl<K: Keyed> Model for Loopback<K> {
     ghost use Rattle.std.specs.Prelude.{[], if◌then◌else◌};
-    ghost use Rattle.sse_link.specs.Told.{FailingTold, failing_code};
+    ghost use Rattle.sse_link.specs.Failing.{FailingTold, failing_code};
 
     ghost Value = { FailingTold };
 
     ghost coded = { failing_code };
 
     ghost view = { λ l. record {
-      told = record { events = l.steady.events; state = l.steady.state; due = (if l.cut then [] else l.steady.due) };
+      told = record l.steady { due = (if l.cut then [] else l.steady.due) };
+      fails = l.fails.items;
+      calls = l.calls;
       faults = l.faults;
     } };
 }
 
 impl<K: Keyed> Loopback<K> {
-    /// A link to a server that has taken nothing. Takes no memory.
-    pub fn new(alloc: Global, keyed: K, fails: Vec<Fail>) -> Loopback<K>
-        ensures { result ≡ record { told = record { events = []; state = at_first; due = [] }; faults = 0 } }
+    /// A link to this server, over which nothing has passed, with the calls that fail. Takes no memory.
+    pub fn new(alloc: Global, keyed: K, server: Server, fails: Vec<Fail>) -> Loopback<K>
+        ensures { result ≡ record { told = told_first server.state; fails = fails.items; calls = 0; faults = 0 } }
     {
         Loopback {
-            steady: SteadyLoopback::new(alloc, keyed),
+            steady: SteadyLoopback::new(alloc, keyed, server),
             fails,
             calls: 0,
             cut: false,
@@ -53,34 +62,30 @@ impl<K: Keyed> Loopback<K> {
         }
     }
 
-    /// All that passed, in order: each frame was answered by the server's step, and each reply that was
-    /// received was the next of its replies.
+    /// All that passed, in order: each frame was answered by the server's step, or out of memory where its mark says
+    /// so, and each reply that was received was the next of its replies.
     pub fn transcript(&self) -> &[Passed]
         ensures events { events_of result.now ≡ self.now.told.events }
-        ensures honest { (due : List (List ℕ)) × IsServed (keyed_fn K.prf K.pad) at_start self.now.told.events (record { state = self.now.told.state; due = due }) }
+        ensures known { AreKnown self.now.told.events }
+        ensures honest { IsServed (keyed_fn K.prf K.pad) (idle self.now.told.began) self.now.told.events (served self.now.told) }
     {
         self.steady.transcript()
     }
 
-    // A call fails: nothing more is received, and the count rises.
+    /// A call fails: nothing more is received, and the count rises.
     fn fail(&mut self) -> LinkFault
         ensures fault { result ≡ LinkFault.Cut }
-        ensures events { self.new.told.events ≡ self.old.told.events }
-        ensures state { self.new.told.state ≡ self.old.told.state }
-        ensures due { self.new.told.due ≡ [] }
-        ensures rose { Rose self.old.faults self.new.faults }
+        ensures failed { self.new ≡ failed self.old (dropped self.old.told) }
         ensures later { self.old.faults ≤ self.new.faults }
     {
         self.cut = true;
+        self.calls = one_more(self.calls);
         self.faults = one_more(self.faults);
         LinkFault::Cut
     }
 }
 
 impl<K: Keyed> Link for Loopback<K> {
-    ghost use Rattle.std.specs.Prelude.{Some, not};
-    ghost use Rattle.server_core.specs.Refusal.{is_nil};
-
     ghost reply_due = { λ l. not (is_nil l.told.due) };
 
     ghost faults = { λ l. l.faults };
@@ -89,32 +94,74 @@ impl<K: Keyed> Link for Loopback<K> {
 
     ghost remote = { λ l. Some (record { state = l.told.state }) };
 
-    fn send(&mut self, frame: &[u8]) -> Result<(), LinkFault> {
-        let call = self.calls;
-        self.calls = call.saturating_add(1);
-        let Some(delivered) = fail_at(&self.fails, call) else {
-            self.steady.send(frame)?;
-            self.cut = false;
-            return Ok(());
-        };
-        if delivered {
-            self.steady.send(frame)?;
+    ghost began = { λ l. Some (record { state = l.told.began }) };
+
+    fn send(&mut self, frame: &[u8]) -> Result<(), LinkFault>
+        requires frame { IsFrame frame.now }
+
+        // A call that works isn't listed.
+        ensures not_listed { OnOk result (listed_at self.old.fails self.old.calls ≡ None) }
+        ensures sent { OnOk result (IsSent (keyed_fn K.prf K.pad) self.old.told self.new.told frame.now) }
+        ensures waits { OnOk result (is_nil self.new.told.due ≡ false) }
+        ensures worked { OnOk result (self.new ≡ worked self.old self.new.told) }
+
+        // One that is cut is listed, and fails as listed.
+        ensures listed { result ≡ Err LinkFault.Cut → IsSomeAnd (listed_at self.old.fails self.old.calls)
+            (λ delivered. FailsSend (keyed_fn K.prf K.pad) delivered self.old.told self.new.told frame.now) }
+        ensures failed { result ≡ Err LinkFault.Cut → self.new ≡ failed self.old self.new.told }
+        ensures undelivered { listed_at self.old.fails self.old.calls ≡ Some false → result ≡ Err LinkFault.Cut }
+
+        ensures no_memory { result ≡ Err LinkFault.NoMemory → self.new ≡ self.old }
+        ensures later { self.old.faults ≤ self.new.faults }
+    {
+        match fail_at(&self.fails, self.calls) {
+            None => {
+                self.steady.send(frame)?;
+                self.cut = false;
+                self.calls = one_more(self.calls);
+                Ok(())
+            }
+            Some(true) => {
+                self.steady.send(frame)?;
+                Err(self.fail())
+            }
+            Some(false) => Err(self.fail()),
         }
-        Err(self.fail())
     }
 
-    fn recv(&mut self, out: &mut [u8]) -> Result<usize, LinkFault> {
-        let call = self.calls;
-        self.calls = call.saturating_add(1);
-        if fail_at(&self.fails, call).is_none() {
-            return self.steady.recv(out);
+    fn recv(&mut self, out: &mut [u8]) -> Result<usize, LinkFault>
+        requires room { 65544 ≤ length out.old }
+        requires due { not (is_nil self.old.told.due) ≡ true }
+
+        // A call that works isn't listed.
+        ensures not_listed { IfOk result (λ _. listed_at self.old.fails self.old.calls ≡ None) }
+        ensures received { IfOk result (λ n. IsReceived self.old.told self.new.told (take n out.new)) }
+        ensures due_after { IfOk result (λ n. IsTrue (not (is_nil self.new.told.due)) ↔ IsOpenPage (take n out.new)) }
+        ensures no_fault { IfOk result (λ n. take n out.new ≢ reply_bytes StoreFault) }
+        ensures least { IfOk result (λ n. 4 ≤ n) }
+        ensures most { IfOk result (λ n. n ≤ 65544) }
+        ensures worked { IfOk result (λ _. self.new ≡ worked self.old self.new.told) }
+
+        // One that is listed is cut.
+        ensures listed { (result ≡ Err LinkFault.Cut) ↔ IsSome (listed_at self.old.fails self.old.calls) }
+        ensures failed { result ≡ Err LinkFault.Cut → self.new ≡ failed self.old (dropped self.old.told) }
+
+        ensures no_memory { result ≡ Err LinkFault.NoMemory → self.new ≡ self.old }
+        ensures later { self.old.faults ≤ self.new.faults }
+    {
+        if fail_at(&self.fails, self.calls).is_some() {
+            return Err(self.fail());
         }
-        Err(self.fail())
+        let n = self.steady.recv(out)?;
+        self.calls = one_more(self.calls);
+        Ok(n)
     }
 }
 
-// Whether the call fails, and then whether it fails after its work.
-fn fail_at(fails: &[Fail], call: u64) -> Option<bool> {
+/// Whether the call fails, and then whether it fails after its work.
+fn fail_at(fails: &[Fail], call: u64) -> Option<bool>
+    ensures { result ≡ listed_at fails.now call }
+{
     for fail in fails {
         if fail.call == call {
             return Some(fail.delivered);

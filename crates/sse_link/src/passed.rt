@@ -1,8 +1,10 @@
+use crate::Mark;
+
 /// What passed over a link: the bytes of a frame or of a reply, with its four length bytes.
 #[derive(Debug, Drop)]
 pub enum Passed {
-    /// A frame that was sent.
-    Sent(Vec<u8>),
+    /// A frame that was sent, and what the link knows of its answer.
+    Sent { bytes: Vec<u8>, mark: Mark },
     /// A reply that was received.
     Received(Vec<u8>),
 }

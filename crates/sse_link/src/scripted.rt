@@ -1,13 +1,14 @@
-ghost use Rattle.std.specs.Prelude.{◌≡◌, ◌↔◌, ◌+◌, ◌≤◌, [], false, length, IfSome, IsTrue};
+ghost use Rattle.std.specs.Prelude.{◌≡◌, ◌≢◌, ◌↔◌, ◌+◌, ◌≤◌, [], true, false, length, IfSome, IsTrue};
 ghost use Rattle.sse_frames.specs.Replies.{StoreFault, reply_bytes};
-ghost use Rattle.sse_link.specs.Due.{is_open_page};
+ghost use Rattle.sse_frames.specs.Seen.{seen_reply};
+ghost use Rattle.sse_link.specs.Due.{leaves_more, IsOpenPage};
 ghost use Rattle.sse_link.specs.Passed.{events_of};
 ghost use Rattle.sse_link.specs.Scripted.{reply_size};
 
-use crate::faults::one_more;
-use crate::record::Record;
-use crate::{Link, LinkFault, Passed};
-use sse_frames::MAX_REPLY_BODY;
+use crate::counts::one_more;
+use crate::transcript::Transcript;
+use crate::{Link, LinkFault, Mark, Passed};
+use sse_frames::{MAX_REPLY_BODY, Reply, read_whole_reply};
 use std::alloc::Global;
 use std::marker::Model;
 
@@ -21,18 +22,19 @@ pub struct ScriptedLink {
     at: usize,
     due: bool,
     faults: u64,
-    passed: Record,
+    passed: Transcript,
 }
 
 impl Model for ScriptedLink {
     ghost use Rattle.std.specs.Prelude.{◌≤◌, drop, vec_len};
+    ghost use Rattle.sse_link.specs.Recorded.{recorded};
     ghost use Rattle.sse_link.specs.Scripted.{ScriptTold, script_code};
 
     ghost Value = { ScriptTold };
 
     ghost coded = { script_code };
 
-    ghost view = { λ l. record { events = l.passed; rest = drop l.at l.replies.items; due = l.due; faults = l.faults } };
+    ghost view = { λ l. record { events = recorded l.passed; rest = drop l.at l.replies.items; due = l.due; faults = l.faults } };
 
     ghost invariant = { λ l. l.at ≤ vec_len l.replies };
 }
@@ -47,7 +49,7 @@ impl ScriptedLink {
             at: 0,
             due: false,
             faults: 0,
-            passed: Record::new(alloc),
+            passed: Transcript::new(alloc),
         }
     }
 
@@ -60,9 +62,11 @@ impl ScriptedLink {
 }
 
 impl Link for ScriptedLink {
-    ghost use Rattle.std.specs.Prelude.{Some, None, Err, true, false, ◌∷◌, ◌++◌, take, drop, IfOk, OnOk, OnErr};
+    ghost use Rattle.std.specs.Prelude.{Some, None, Err, ◌∷◌, ◌++◌, take, drop, IfOk, OnOk, OnErr};
     ghost use Rattle.sse_outside.specs.Causes.{Rose};
+    ghost use Rattle.sse_link.specs.declared.mark.Mark.TheVariants.{Unknown};
     ghost use Rattle.sse_link.specs.Events.{Sent, Received};
+    ghost use Rattle.sse_frames.specs.Frames.{IsFrame};
 
     ghost reply_due = { λ l. l.due };
 
@@ -72,12 +76,16 @@ impl Link for ScriptedLink {
 
     ghost remote = { λ _. None };
 
+    ghost began = { λ _. None };
+
     /// Keeps the frame. No frame is refused, and none takes bytes of the script.
     fn send(&mut self, frame: &[u8]) -> Result<(), LinkFault>
-        ensures ok { OnOk result (self.new ≡ record self.old { events = self.old.events ++ Sent frame.now None ∷ []; due = true }) }
+        requires frame { IsFrame frame.now }
+        ensures ok { OnOk result (self.new ≡ record self.old { events = self.old.events ++ Sent frame.now Unknown ∷ []; due = true }) }
         ensures err { OnErr result ((result ≡ Err LinkFault.NoMemory) × (self.new ≡ self.old)) }
     {
-        self.passed.sent(frame)?;
+        let bytes = self.passed.make_room(frame)?;
+        self.passed.sent(bytes, Mark::Unknown);
         self.due = true;
         Ok(())
     }
@@ -85,17 +93,19 @@ impl Link for ScriptedLink {
     /// Hands out the reply in front of the bytes that are left.
     fn recv(&mut self, out: &mut [u8]) -> Result<usize, LinkFault>
         requires room { 65544 ≤ length out.old }
+        requires due { self.old.due ≡ true }
         ensures size { IfOk result (λ n. reply_size self.old.rest ≡ Some n) }
         ensures reply { IfOk result (λ n. take n out.new ≡ take n self.old.rest) }
         ensures rest { IfOk result (λ n. self.new.rest ≡ drop n self.old.rest) }
         ensures told { IfOk result (λ n. self.new.events ≡ self.old.events ++ Received (take n out.new) ∷ []) }
-        ensures due { IfOk result (λ n. self.new.due ≡ is_open_page (take n out.new)) }
+        ensures due { IfOk result (λ n. IsTrue self.new.due ↔ IsOpenPage (take n out.new)) }
         ensures least { IfOk result (λ n. 4 ≤ n) }
         ensures most { IfOk result (λ n. n ≤ 65544) }
         ensures store_fault { IfOk result (λ n. take n out.new ≡ reply_bytes StoreFault → Rose self.old.faults self.new.faults) }
+        ensures steady { IfOk result (λ n. take n out.new ≢ reply_bytes StoreFault → self.new.faults ≡ self.old.faults) }
 
-        // It is cut where the bytes end.
-        ensures end { result ≡ Err LinkFault.Cut → reply_size self.old.rest ≡ None }
+        // It is cut where the bytes end, and nowhere else.
+        ensures end { (result ≡ Err LinkFault.Cut) ↔ (reply_size self.old.rest ≡ None) }
         ensures cut { result ≡ Err LinkFault.Cut → (self.new.due ≡ false) × Rose self.old.faults self.new.faults }
         ensures err { OnErr result ((self.new.events ≡ self.old.events) × (self.new.rest ≡ self.old.rest)) }
         ensures no_memory { result ≡ Err LinkFault.NoMemory → self.new ≡ self.old }
@@ -108,7 +118,8 @@ impl Link for ScriptedLink {
             return Err(LinkFault::Cut);
         };
         let (reply, _) = rest.split_at(n);
-        self.passed.received(reply)?;
+        let bytes = self.passed.make_room(reply)?;
+        self.passed.received(bytes);
         out[..n].copy_from_slice(reply);
         self.due = is_open(reply);
         if is_store_fault(reply) {
@@ -119,7 +130,7 @@ impl Link for ScriptedLink {
     }
 }
 
-// How many bytes the reply in front has.
+/// How many bytes the reply in front has, its four length bytes among them; none where the bytes end inside it.
 fn size_of_reply(bytes: &[u8]) -> Option<usize>
     ensures size { result ≡ reply_size bytes.now }
     ensures whole { IfSome result (λ n. n ≤ length bytes.now) }
@@ -140,13 +151,27 @@ fn size_of_reply(bytes: &[u8]) -> Option<usize>
     Some(n)
 }
 
-// Whether the reply is a page that isn't the last.
-fn is_open(reply: &[u8]) -> bool
-    ensures { result ≡ is_open_page reply.now }
+/// Whether the bytes are a page of the grammar that isn't the last.
+fn is_open(bytes: &[u8]) -> bool
+    ensures { IsTrue result ↔ IsOpenPage bytes.now }
 {
-    reply.len() > 4 && reply[4] == 0x85 && (reply.len() <= 5 || reply[5] == 0)
+    match read_whole_reply(bytes) {
+        Some(reply) => leaves_more(&reply),
+        None => false,
+    }
 }
 
+/// Whether the reply is a page that isn't the last.
+fn leaves_more(reply: &Reply<'_>) -> bool
+    ensures { result ≡ leaves_more (seen_reply reply.now) }
+{
+    match reply {
+        Reply::Page { last, .. } => !*last,
+        _ => false,
+    }
+}
+
+/// Whether the reply reports a fault of the server's disk.
 fn is_store_fault(reply: &[u8]) -> bool
     ensures { IsTrue result ↔ (reply.now ≡ reply_bytes StoreFault) }
 {

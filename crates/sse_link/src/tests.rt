@@ -1,7 +1,9 @@
-ghost use Rattle.std.specs.Prelude.{◌≡◌, IfOk, vec_len};
+ghost use Rattle.std.specs.Prelude.{◌≡◌, ◌≤◌, IfOk, OnOk, length, true, vec_len};
 
 use super::*;
+use crate::whole::whole_frame;
 use keyed_fn::Toy;
+use server_core::Server;
 use sse_frames::REPLY_ROOM;
 use std::alloc::Global;
 use std::test::Fail as Failed;
@@ -22,11 +24,15 @@ const END: &[u8] = b"\x00\x00\x00\x05\x05\x00\x00\x00\x02";
 const SEARCH: &[u8] =
     b"\x00\x00\x00\xa1\x08\xc3\xc4\xc5\xc6\xc7\xc8\xc9\xca\xcb\xcc\xcd\xce\xcf\xd0\xd1\xd2\xd3\xd4\xd5\xd6\xd7\xd8\xd9\xda\xdb\xdc\xdd\xde\xdf\xe0\xe1\xe2\xc4\xc5\xc6\xc7\xc8\xc9\xca\xcb\xcc\xcd\xce\xcf\xd0\xd1\xd2\xd3\xd4\xd5\xd6\xd7\xd8\xd9\xda\xdb\xdc\xdd\xde\xdf\xe0\xe1\xe2\xe3\xc5\xc6\xc7\xc8\xc9\xca\xcb\xcc\xcd\xce\xcf\xd0\xd1\xd2\xd3\xd4\xd5\xd6\xd7\xd8\xd9\xda\xdb\xdc\xdd\xde\xdf\xe0\xe1\xe2\xe3\xe4\xc6\xc7\xc8\xc9\xca\xcb\xcc\xcd\xce\xcf\xd0\xd1\xd2\xd3\xd4\xd5\xd6\xd7\xd8\xd9\xda\xdb\xdc\xdd\xde\xdf\xe0\xe1\xe2\xe3\xe4\xe5\xc7\xc8\xc9\xca\xcb\xcc\xcd\xce\xcf\xd0\xd1\xd2\xd3\xd4\xd5\xd6\xd7\xd8\xd9\xda\xdb\xdc\xdd\xde\xdf\xe0\xe1\xe2\xe3\xe4\xe5\xe6";
 
-// What is sent in a row, and the reply to it: an unknown kind, a length of 0, a byte behind a field and one behind a
-// frame among it.
-const REPLIES: [(&[u8], &[u8]); 11] = [
+// The reply to a server's next number 0, and to 1.
+const NEXT_0: &[u8] = b"\x00\x00\x00\x05\x81\x00\x00\x00\x00";
+
+const NEXT_1: &[u8] = b"\x00\x00\x00\x05\x81\x00\x00\x00\x01";
+
+// What is sent in a row, and the reply to it.
+const REPLIES: [(&[u8], &[u8]); 7] = [
     (SEARCH, b"\x00\x00\x00\x01\x8a"),
-    (HELLO, b"\x00\x00\x00\x05\x81\x00\x00\x00\x00"),
+    (HELLO, NEXT_0),
     (BEGIN, b"\x00\x00\x00\x05\x82\x00\x00\x00\x00"),
     (DICT, b"\x00\x00\x00\x05\x82\x00\x00\x00\x01"),
     (END, b"\x00\x00\x00\x05\x82\x00\x00\x00\x02"),
@@ -35,10 +41,16 @@ const REPLIES: [(&[u8], &[u8]); 11] = [
         SEARCH,
         b"\x00\x00\x00\x0c\x85\x01\x00\x01\x00\x00\x00\x00\x00\x00\x00\x01",
     ),
+];
+
+// Bytes that are no frame, and the reply to them: an unknown kind, a length of 0, a byte behind a field, one behind a
+// frame, and a frame cut short.
+const BAD_BYTES: [(&[u8], &[u8]); 5] = [
     (b"\x00\x00\x00\x01\x09", b"\x00\x00\x00\x02\x89\x02"),
     (b"\x00\x00\x00\x00", b"\x00\x00\x00\x02\x89\x01"),
     (b"\x00\x00\x00\x02\x01\x00", b"\x00\x00\x00\x02\x89\x03"),
     (b"\x00\x00\x00\x01\x01\x00", b"\x00\x00\x00\x02\x89\x01"),
+    (b"\x00\x00\x00\x05\x05\x00", b"\x00\x00\x00\x02\x89\x01"),
 ];
 
 // Room for a reply.
@@ -48,40 +60,84 @@ fn zeros(alloc: Global, len: usize) -> Result<Vec<u8>, NoMemory>
     vec![in alloc; 0u8; len]
 }
 
+// Sends bytes that are a frame.
+fn send<L: Link>(link: &mut L, bytes: &[u8]) -> Result<(), LinkFault>
+    ensures { OnOk result (L.reply_due link.new ≡ true) }
+{
+    match whole_frame(bytes) {
+        Ok(_frame) => link.send(bytes),
+        Err(_) => Err(LinkFault::Cut),
+    }
+}
+
 #[test]
 fn a_steady_loopback_answers(rt: HostRuntime) -> Result<(), Failed> {
-    let mut link = SteadyLoopback::new(rt.alloc(), Toy);
+    let mut link = SteadyLoopback::new(rt.alloc(), Toy, Server::new(rt.alloc()));
     let mut out = zeros(rt.alloc(), REPLY_ROOM)?;
     for (frame, reply) in REPLIES {
-        link.send(frame)?;
+        send(&mut link, frame)?;
         let n = link.recv(&mut out)?;
         assert_eq!(rt; &out[..n], reply);
     }
     let passed = link.transcript();
     assert_eq!(rt; passed.len(), 2 * REPLIES.len());
-    assert!(rt; matches!(&passed[0], Passed::Sent(bytes) if bytes.as_slice() == SEARCH));
+    assert!(rt;
+        matches!(&passed[0], Passed::Sent { bytes, mark: Mark::Stepped } if bytes.as_slice() == SEARCH)
+    );
     assert!(rt;
         matches!(&passed[1], Passed::Received(bytes) if bytes.as_slice() == b"\x00\x00\x00\x01\x8a".as_slice())
     );
     Ok(())
 }
 
+// The first reply of a server to bytes.
+fn reply_to(alloc: Global, server: &mut Server, bytes: &[u8]) -> Result<Vec<u8>, NoMemory> {
+    let mut found = Vec::new(alloc);
+    let due = answer_bytes(&Toy, server, bytes, &mut found);
+    let mut out = zeros(alloc, REPLY_ROOM)?;
+    let (n, _) = due.write_first(&found, &mut out);
+    out.truncate(n);
+    Ok(out)
+}
+
+#[test]
+fn bytes_that_are_no_frame_are_answered(rt: HostRuntime) -> Result<(), Failed> {
+    let mut server = Server::new(rt.alloc());
+    for (bytes, reply) in BAD_BYTES {
+        let answer = reply_to(rt.alloc(), &mut server, bytes)?;
+        assert_eq!(rt; answer.as_slice(), reply);
+    }
+    Ok(())
+}
+
+#[test]
+fn a_loopback_begins_where_its_server_stands(rt: HostRuntime) -> Result<(), Failed> {
+    let mut server = Server::new(rt.alloc());
+    reply_to(rt.alloc(), &mut server, BEGIN)?;
+    let mut link = SteadyLoopback::new(rt.alloc(), Toy, server);
+    assert_eq!(rt; link.transcript().len(), 0);
+    let mut out = zeros(rt.alloc(), REPLY_ROOM)?;
+    send(&mut link, HELLO)?;
+    let n = link.recv(&mut out)?;
+    assert_eq!(rt; &out[..n], NEXT_1);
+    Ok(())
+}
+
 #[test]
 fn a_loopback_fails_where_it_is_told_to(rt: HostRuntime) -> Result<(), Failed> {
-    // The send and the receive of the first frame work, and the second send fails.
-    for (delivered, next) in [
-        (false, b"\x00\x00\x00\x05\x81\x00\x00\x00\x00"),
-        (true, b"\x00\x00\x00\x05\x81\x00\x00\x00\x01"),
-    ] {
-        let fails = vec![in rt.alloc(); Fail { call: 2, delivered }]?;
-        let mut link = Loopback::new(rt.alloc(), Toy, fails);
+    // The send and the receive of the first frame work, the second send and the next receive fail.
+    for (delivered, next) in [(false, NEXT_0), (true, NEXT_1)] {
+        let fails = vec![in rt.alloc(); Fail { call: 2, delivered }, Fail { call: 4, delivered }]?;
+        let mut link = Loopback::new(rt.alloc(), Toy, Server::new(rt.alloc()), fails);
         let mut out = zeros(rt.alloc(), REPLY_ROOM)?;
-        link.send(HELLO)?;
+        send(&mut link, HELLO)?;
         link.recv(&mut out)?;
-        assert_eq!(rt; link.send(BEGIN), Err(LinkFault::Cut));
-        link.send(HELLO)?;
+        assert_eq!(rt; send(&mut link, BEGIN), Err(LinkFault::Cut));
+        send(&mut link, HELLO)?;
+        assert_eq!(rt; link.recv(&mut out), Err(LinkFault::Cut));
+        send(&mut link, HELLO)?;
         let n = link.recv(&mut out)?;
-        assert_eq!(rt; &out[..n], next.as_slice());
+        assert_eq!(rt; &out[..n], next);
     }
     Ok(())
 }
@@ -96,11 +152,14 @@ fn a_script_is_played_back(rt: HostRuntime) -> Result<(), Failed> {
         b"\x00\x00\x00\x05\x81\x00\x00\x00\x09".as_slice(),
         b"\x00\x01\x00\x05".as_slice(),
     ] {
-        link.send(HELLO)?;
+        send(&mut link, HELLO)?;
         let n = link.recv(&mut out)?;
         assert_eq!(rt; &out[..n], reply);
     }
-    link.send(HELLO)?;
+    send(&mut link, HELLO)?;
     assert_eq!(rt; link.recv(&mut out), Err(LinkFault::Cut));
+    assert!(rt;
+        matches!(link.transcript().first(), Some(Passed::Sent { bytes, mark: Mark::Unknown }) if bytes.as_slice() == HELLO)
+    );
     Ok(())
 }

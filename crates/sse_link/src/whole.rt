@@ -1,8 +1,9 @@
-ghost use Rattle.std.specs.Prelude.{◌≡◌, ◌≤◌, IfOk, IfErr, IsOkAnd};
-ghost use Rattle.sse_frames.specs.Frames.{FrameText, InGrammar, frame_bytes};
-ghost use Rattle.sse_frames.specs.Reading.{IsBuilt, frame_outcome};
+ghost use Rattle.std.specs.Prelude.{◌≡◌, IfOk, IfErr, IsOkAnd};
+ghost use Rattle.sse_frames.specs.Frames.{InGrammar, frame_bytes};
+ghost use Rattle.sse_frames.specs.Reading.{frame_outcome};
 ghost use Rattle.sse_frames.specs.Seen.{seen};
 ghost use Rattle.sse_link.specs.BadFrames.{bad_reason};
+ghost use Rattle.sse_frames.specs.Frames.{IsFrame};
 
 use sse_frames::{Frame, FrameFault, read_frame};
 
@@ -11,7 +12,7 @@ use sse_frames::{Frame, FrameFault, read_frame};
 pub fn whole_frame(bytes: &[u8]) -> Result<Frame<'_>, u8>
     ensures grammar { IfOk result (λ frame. InGrammar (seen frame)) }
     ensures spelled { IfOk result (λ frame. bytes.now ≡ frame_bytes (seen frame)) }
-    ensures only { (text : FrameText) → InGrammar text → IsBuilt text → bytes.now ≡ frame_bytes text → IsOkAnd result (λ frame. seen frame ≡ text) }
+    ensures only { (sent : IsFrame bytes.now) → IsOkAnd result (λ frame. seen frame ≡ sent.frame) }
     ensures reason { IfErr result (λ reason. reason ≡ bad_reason (frame_outcome bytes.now)) }
 {
     match read_frame(bytes) {

@@ -1,5 +1,10 @@
+use Rattle.keyed_fn.specs.KeyedFn.{keyed_fn}
+use Rattle.sse_link.specs.Served.{idle}
+use Rattle.sse_link.specs.Told.{served}
+use Rattle.sse_link.proofs.Kept.{cut_served}
 use Rattle.sse_link.proofs.loopback.Loopback.transcript.Goals as goal
 
--- the link inside it is honest
+-- the link inside it is honest, and a cut drops what waits
 pub returns-clause-honest : goal.returns-clause-honest
-returns-clause-honest g c = rw (← c.self.view_is) (c.self.inside.steady.due, c.transcript.ensures.honest)
+returns-clause-honest g c = rw (← c.self.view_is)
+    (cut_served (keyed_fn g.K.Keyed.prf g.K.Keyed.pad) (idle c.self.inside.steady.began) (served c.self.inside.steady) c.self.inside.steady.events c.self.inside.cut c.transcript.ensures.honest)

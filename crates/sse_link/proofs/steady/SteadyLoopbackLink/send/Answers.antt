@@ -1,18 +1,20 @@
-use Rattle.std.proofs.Common.{map}
-use Rattle.sse_frames.specs.Replies.{reply_bytes}
+use Rattle.std.proofs.Common.{◌≡◌, [], ◌∷◌, ◌++◌, subst, sym, ◌∙◌}
 use Rattle.keyed_fn.specs.KeyedFn.{keyed_fn}
-use Rattle.sse_link.specs.Due.{waiting}
-use Rattle.sse_link.specs.Served.{Served, at_start}
-use Rattle.sse_link.proofs.Honest.{IsServed-sent}
+use Rattle.sse_link.specs.Events.{Sent}
+use Rattle.sse_link.specs.Marks.{mark_of}
+use Rattle.sse_link.specs.Recorded.{recorded}
+use Rattle.sse_link.specs.Steady.{IsSteady}
+use Rattle.sse_link.proofs.Kept.{steady_sent}
 use Rattle.sse_link.proofs.steady.SteadyLoopbackLink.send.Goals as goal
 
--- the frame and its replies are served
+-- the frame was answered as its mark says, and its replies wait
 pub invariant_of-self-2 : goal.invariant_of-self-2
 invariant_of-self-2 g c =
-    let replies = c.replies_to-self-inside in
-    let now : Served = record { state = c.self.inside.server.state; due = map reply_bytes (waiting c.self.inside.due c.self.inside.found.items) } in
-    let later : Served = record { state = replies.new.server.state; due = map reply_bytes (waiting replies.result replies.new.found.items) } in
-    record {
-      writable = replies.ensures.due;
-      honest = rw c.in_ok-sent.ensures.ok (IsServed-sent (keyed_fn g.K.Keyed.prf g.K.Keyed.pad) at_start now later c.self.inside.passed c.args.frame.now c.self.invariant.honest replies.ensures.serves);
-    }
+    let f = keyed_fn g.K.Keyed.prf g.K.Keyed.pad in
+    let inside = c.self.inside in
+    let answer = c.answer_bytes-self-inside in
+    let kept : recorded c.sent.new.self ≡ recorded inside.passed ++ Sent c.args.frame.now (mark_of answer.result) ∷ [] =
+    c.sent.ensures ∙ (λ i. c.make_room.ensures.same i ++ Sent (c.in_ok-bytes.ensures.copy i) (c.mark.ensures i) ∷ []) in
+    subst (λ events. IsSteady f events inside.began.value.state answer.new.server.state answer.result answer.new.found.items) (sym kept)
+    (steady_sent f (recorded inside.passed) inside.began.value.state inside.server.state answer.new.server.state inside.due answer.result inside.found.items answer.new.found.items
+    c.args.frame.now c.self.invariant c.requires.frame answer.ensures.due (answer.ensures.frame c.requires.frame))

@@ -1,0 +1,21 @@
+use Rattle.std.proofs.Common.{◌≡◌, Some, true, Bool, sym, ap, subst, ◌∙◌}
+use Rattle.keyed_fn.specs.KeyedFn.{keyed_fn}
+use Rattle.sse_link.specs.Failing.{listed_at, FailingTold}
+use Rattle.sse_link.specs.Told.{IsSent}
+use Rattle.sse_link.proofs.Kept.{sent_behind, lost_as_listed}
+use Rattle.sse_link.proofs.loopback.LoopbackLink.send.Goals as goal
+
+-- the frame reached the server
+pub returns-in_ok-send-in-Some-true-clause-listed : goal.returns-in_ok-send-in-Some-true-clause-listed
+returns-in_ok-send-in-Some-true-clause-listed g c is =
+    let f = keyed_fn g.K.Keyed.prf g.K.Keyed.pad in
+    let old : FailingTold = c.args.self.now in
+    let listed : listed_at old.fails old.calls ≡ Some true =
+    ap (λ (v : FailingTold). listed_at v.fails v.calls) (sym c.self.view_is) ∙ ap (λ fails. listed_at fails c.self.inside.calls) (sym c.deref.ensures.value)
+    ∙ sym c.fail_at.ensures ∙ c.in-Some-true.is ∙ ap (λ (delivered : Bool). Some delivered) c.in-Some-true.field-0-test in
+    lost_as_listed f old.fails old.calls old.told _ c.args.frame.now listed
+    (record {
+      between = c.send-in-Some-true.new.self;
+      sent = subst (λ (v : FailingTold). IsSent f v.told c.send-in-Some-true.new.self c.args.frame.now) c.self.view_is (sent_behind f c.self.inside.steady c.send-in-Some-true.new.self _ c.args.frame.now c.in_ok-send-in-Some-true.ensures.sent);
+      dropped_is = ap (λ (t : FailingTold). t.told) c.fail.ensures.failed;
+    })

@@ -1,0 +1,11 @@
+-- How the replies of a server say by which mark a frame is told.
+use Rattle.sse_frames.specs.declared.reply.Reply.TheVariants as replies
+use Rattle.sse_link.specs.declared.due.Due.{Due}
+use Rattle.sse_link.specs.declared.due.Due.TheVariants as dues
+use Rattle.sse_link.specs.declared.mark.Mark.{Mark}
+use Rattle.sse_link.specs.declared.mark.Mark.TheVariants.{Stepped, LackedMemory}
+
+-- the mark of a frame that a server answered so
+abbrev pub mark_of : Due → Mark
+mark_of (dues.Single replies.NoMemory) = LackedMemory
+mark_of due = Stepped

@@ -1,0 +1,41 @@
+ghost use Rattle.std.specs.Prelude.{◌≡◌, ◌∷◌, false, [], map};
+ghost use Rattle.keyed_fn.specs.KeyedFn.{keyed_fn};
+ghost use Rattle.sse_frames.specs.Reading.{frame_outcome};
+ghost use Rattle.sse_frames.specs.Replies.{BadFrame, reply_bytes};
+ghost use Rattle.server_core.specs.Refusal.{is_nil};
+ghost use Rattle.sse_link.specs.BadFrames.{bad_reason, IsNoFrame};
+ghost use Rattle.sse_link.specs.Due.{waiting, IsDue};
+ghost use Rattle.sse_link.specs.Marks.{mark_of};
+ghost use Rattle.sse_link.specs.Served.{Answers};
+ghost use Rattle.sse_frames.specs.Frames.{IsFrame};
+
+use crate::Due;
+use crate::due::due_of;
+use crate::whole::whole_frame;
+use keyed_fn::Keyed;
+use server_core::Server;
+use sse_frames::Reply;
+
+/// What a server replies to bytes that came: where they are one whole frame, what it answers to that frame, by its
+/// step or out of memory. Bytes that aren't leave the server as it is, and have the one reply that says why: reason 1
+/// for a length that is out of range or isn't that of the bytes, 2 for an unknown kind, 3 for another field.
+///
+/// `found` has the identifiers that the replies to a search are made of.
+pub fn answer_bytes<K: Keyed>(
+    keyed: &K,
+    server: &mut Server,
+    bytes: &[u8],
+    found: &mut Vec<u64>,
+) -> Due
+    ensures frame { (sent : IsFrame bytes.now) →
+        Answers (keyed_fn K.prf K.pad) server.old.state sent.frame (mark_of result) server.new.state (map reply_bytes (waiting result found.new.items)) }
+    ensures bad_state { IsNoFrame bytes.now → server.new.state ≡ server.old.state }
+    ensures bad_reply { IsNoFrame bytes.now → waiting result found.new.items ≡ BadFrame (bad_reason (frame_outcome bytes.now)) ∷ [] }
+    ensures some { is_nil (waiting result found.new.items) ≡ false }
+    ensures due { IsDue result found.new.items }
+{
+    match whole_frame(bytes) {
+        Ok(frame) => due_of(server.handle(keyed, &frame, found)),
+        Err(reason) => Due::Single(Reply::BadFrame(reason)),
+    }
+}

@@ -1,0 +1,10 @@
+/// What a link knows of how the server answered a frame.
+#[derive(Clone, Copy, Debug, PartialEq, Eq)]
+pub enum Mark {
+    /// Nothing.
+    Unknown,
+    /// By its step.
+    Stepped,
+    /// It was out of memory, and stayed as it was.
+    LackedMemory,
+}
