@@ -1,12 +1,11 @@
 -- Bytes are one reply at most, and that reply says which fault they are.
-use Rattle.std.proofs.Common.{◌≡◌, ℕ, List, [], ◌++◌, Option, Some, None, Ok, refl, sym, ap, subst, ◌∙◌}
-use Rattle.sse_frames.specs.declared.reply.Reply.{Reply}
+use Rattle.std.proofs.Common.{◌≡◌, ℕ, List, [], ◌++◌, refl, sym, ap, ◌∙◌}
 use Rattle.sse_frames.specs.Replies.{ReplyText, Next, Took, Number, Clash, Page, BadList, NoMemory, StoreFault, BadFrame, OutOfPlace, reply_bytes}
-use Rattle.sse_frames.specs.Reading.{IsRead}
+use Rattle.sse_frames.specs.Reading.{IsReply}
 use Rattle.sse_frames.proofs.ReplySpelling.{one_reply}
 use Rattle.client_core.specs.declared.reply_fault.ReplyFault.{ReplyFault}
 use Rattle.client_core.specs.declared.reply_fault.ReplyFault.TheVariants as faults
-use Rattle.client_core.specs.Faults.{IsReply, fault_told, IsFaultOf}
+use Rattle.client_core.specs.Faults.{fault_told, IsFaultOf}
 
 -- bytes are one reply at most
 pub same_reply : (r s : ReplyText) (bytes : List ℕ) → IsReply r bytes → IsReply s bytes → r ≡ s
@@ -44,11 +43,3 @@ store_only faults.NoMemory bytes is e = absurd cc
 store_only faults.StoreFault bytes is e = is.spelled
 store_only faults.BadReply bytes is e = absurd cc
 store_only faults.OutOfMemory bytes is e = absurd cc
-
--- what was read where something was
-pub read_some : (o : Option (Reply × ℕ)) (reply : Reply) (n : ℕ) (P : Reply → ℕ → Type 0) → o ≡ Some (reply, n) → IsRead (Ok o) P → P reply n
-read_some o reply n P e read = subst (λ (x : Option (Reply × ℕ)). IsRead (Ok x) P) e read
-
--- nothing was read where something had to be
-pub read_none : (o : Option (Reply × ℕ)) (P : Reply → ℕ → Type 0) → o ≡ None → IsRead (Ok o) P → ⊥
-read_none o P e read = subst (λ (x : Option (Reply × ℕ)). IsRead (Ok x) P) e read

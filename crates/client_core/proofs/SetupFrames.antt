@@ -1,5 +1,5 @@
 -- The frames of a setup, built one behind the other.
-use Rattle.std.proofs.Common.{◌≡◌, ℕ, zero, suc, ◌+◌, ◌-◌, ◌*◌, ◌<◌, ◌≤◌, inl, inr, min, List, [], ◌∷◌, ◌++◌, map, length, take, drop, refl, sym, ap, ◌∙◌, append_assoc, arith}
+use Rattle.std.proofs.Common.{◌≡◌, ℕ, zero, suc, ◌+◌, ◌-◌, ◌*◌, ◌<◌, ◌≤◌, inl, inr, min, List, [], ◌∷◌, ◌++◌, map, length, take, drop, refl, sym, ap, subst, ◌∙◌, append_assoc, arith}
 use Rattle.std.specs.Prelude.{nat_le, Vec, vec_items, vec_len}
 use Rattle.std.specs.Int.{div_ceil}
 use Rattle.std.specs.List.{flat_map, AllByRecursion}
@@ -9,15 +9,18 @@ use Rattle.std.proofs.lemmas.Bool.{cases_Bool, leb-true, leb-false}
 use Rattle.std.proofs.lemmas.List.{append-nil, take-map, drop-map, take_all, drop_all, take-take, drop-take, drop-drop, map-append, length-map, length-take, length-drop}
 use Rattle.list_packing.specs.Parts.{parts}
 use Rattle.two_level.specs.Shape.{Shape}
-use Rattle.sse_frames.specs.Frames.{Entry, FrameText, SetupBegin, SetupDict, SetupEnd, IsEntry, entry_bytes, frame_bytes}
+use Rattle.sse_frames.specs.Frames.{Entry, FrameText, SetupBegin, SetupDict, SetupEnd, IsNumber, IsEntry, IsSetupDict, IsFrame, Rises, labels_of, entry_bytes, frame_bytes}
 use Rattle.sse_frames.specs.Order.{by_bytes}
 use Rattle.sse_frames.specs.Seen.{items_in, entry_in, entries_in}
 use Rattle.sse_frames.specs.Sending.{numbered, setup_frames}
-use Rattle.sse_frames.proofs.Chunks.{items_are, length-first_chunks}
+use Rattle.sse_frames.proofs.Chunks.{items_are, length-first_chunks, length-entries_in, each_entry}
+use Rattle.sse_frames.proofs.Cut.{AreBytes}
 use Rattle.sse_frames.proofs.Sorted.{length-by_bytes, All-by_bytes}
 use Rattle.sse_frames.proofs.Spelling.{entries_in-entry_bytes}
+use Rattle.sse_model.proofs.Counts.{AllByRecursion-append}
+use Rattle.sse_model.proofs.SetupGrammar.{Rises-take, Rises-drop}
 use Rattle.client_core.specs.Sending.{frame_list}
-use Rattle.client_core.specs.Setup.{behind_begin, frames_of_entries, setup_bytes}
+use Rattle.client_core.specs.Setup.{behind_begin, frames_of_entries, setup_bytes, IsPart}
 
 -- Entries cut out of their joined bytes.
 
@@ -158,6 +161,10 @@ setup_bytes-by_bytes b big es all =
 pub frames_pushed : {Y Z : Type 0} (old new : Vec (Vec ℕ Y) Z) (frame : Vec ℕ Y) → vec_items new ≡ vec_items old ++ frame ∷ [] → frame_list new ≡ frame_list old ++ vec_items frame ∷ []
 frames_pushed old new frame e = ap (map vec_items) e ∙ map-append vec_items (vec_items old) (frame ∷ [])
 
+-- frames, and one more
+pub are_pushed : (old new : List (List ℕ)) (frame : List ℕ) → new ≡ old ++ frame ∷ [] → AllByRecursion IsFrame old → IsFrame frame → AllByRecursion IsFrame new
+are_pushed old new frame e are is = subst (AllByRecursion IsFrame) (sym e) (AllByRecursion-append IsFrame old (frame ∷ []) are (is, tt))
+
 -- the bytes of the index, counted by entries
 pub bytes_whole : {Z : Type 0} (entries : Vec ℕ Z) (words b : ℕ) → vec_len entries ≡ words * (17 + 8 * b) → length (vec_items entries) ≡ words * (16 + (1 + 8 * b))
 bytes_whole entries words b e =
@@ -169,21 +176,63 @@ cut_times words rest sent c item e =
     let distributed : (rest + (sent + c)) * item ≡ rest * item + (sent * item + c * item) = omega arith in
     ap (λ (n : ℕ). n * item) e ∙ distributed
 
+-- a part of so many items has their bytes
+part_len : (item words sent c : ℕ) (bytes : List ℕ) → length bytes ≡ words * item → sent + c ≤ words → length (take (c * item) (drop (sent * item) bytes)) ≡ c * item
+part_len item words sent c bytes total within =
+    let times : words * item ≡ (words - (sent + c)) * item + (sent * item + c * item) =
+    cut_times words (words - (sent + c)) sent c item (let h : words ≡ words - (sent + c) + (sent + c) = omega (arith, within) in h) in
+    omega (arith, length-take (c * item) (drop (sent * item) bytes), length-drop (sent * item) bytes, total, times)
+
+-- from the start of a part to its end
+cut_size : (size sent c item : ℕ) → size ≡ (sent + c) * item - sent * item → size ≡ c * item
+cut_size size sent c item g = let distributed : (sent + c) * item ≡ sent * item + c * item = omega arith in omega (arith, g, distributed)
+
 -- the frame of a part of the bytes is that of those entries
 pub dict_frame : (b width words q sent c size : ℕ) (bytes entries frame : List ℕ) → width ≡ 1 + 8 * b → entries ≡ bytes → size ≡ (sent + c) * (16 + width) - sent * (16 + width)
     → length bytes ≡ words * (16 + (1 + 8 * b)) → sent + c ≤ words → frame ≡ frame_bytes (SetupDict q width (entries_in width (take size (drop (sent * (16 + width)) entries))))
     → frame ≡ frame_bytes (SetupDict q (1 + 8 * b) (take c (drop sent (entries_in (1 + 8 * b) bytes))))
 dict_frame b width words q sent c size bytes entries frame e f g whole within spelled =
     let item = 16 + width in
-    let distributed : (sent + c) * item ≡ sent * item + c * item = omega arith in
-    let size_is : size ≡ c * item = omega (arith, g, distributed) in
     let total : length bytes ≡ words * item = whole ∙ ap (λ (w : ℕ). words * (16 + w)) (sym e) in
     let part = take (c * item) (drop (sent * item) bytes) in
-    let times : words * item ≡ (words - (sent + c)) * item + (sent * item + c * item) =
-    cut_times words (words - (sent + c)) sent c item (let h : words ≡ words - (sent + c) + (sent + c) = omega (arith, within) in h) in
-    let len : length part ≡ c * item = omega (arith, length-take (c * item) (drop (sent * item) bytes), length-drop (sent * item) bytes, total, times) in
     spelled
-    ∙ ap (λ (n : ℕ). frame_bytes (SetupDict q width (entries_in width (take n (drop (sent * item) entries))))) size_is
+    ∙ ap (λ (n : ℕ). frame_bytes (SetupDict q width (entries_in width (take n (drop (sent * item) entries))))) (cut_size size sent c item g)
     ∙ ap (λ (x : List ℕ). frame_bytes (SetupDict q width (entries_in width (take (c * item) (drop (sent * item) x))))) f
-    ∙ ap (λ (x : List Entry). frame_bytes (SetupDict q width x)) (part_entries width words sent c bytes part total within refl len)
+    ∙ ap (λ (x : List Entry). frame_bytes (SetupDict q width x)) (part_entries width words sent c bytes part total within refl (part_len item words sent c bytes total within))
     ∙ ap (λ (w : ℕ). frame_bytes (SetupDict q w (take c (drop sent (entries_in w bytes))))) e
+
+-- a part of entries that rise
+pub part_is : (b width words q sent c size : ℕ) (bytes entries : List ℕ) → width ≡ 1 + 8 * b → 1 ≤ b → b ≤ 64 → entries ≡ bytes → size ≡ (sent + c) * (16 + width) - sent * (16 + width)
+    → length bytes ≡ words * (16 + (1 + 8 * b)) → sent + c ≤ words → 1 ≤ c → c ≤ 1024 → IsNumber q → Rises (labels_of (entries_in (1 + 8 * b) bytes))
+    → IsPart q width (take size (drop (sent * (16 + width)) entries))
+part_is b width words q sent c size bytes entries e some small f g whole within one few number rises =
+    let item = 16 + width in
+    let total : length bytes ≡ words * item = whole ∙ ap (λ (w : ℕ). words * (16 + w)) (sym e) in
+    let part = take (c * item) (drop (sent * item) bytes) in
+    let len : length part ≡ c * item = part_len item words sent c bytes total within in
+    let is : take size (drop (sent * item) entries) ≡ part =
+    ap (λ (n : ℕ). take n (drop (sent * item) entries)) (cut_size size sent c item g) ∙ ap (λ (x : List ℕ). take (c * item) (drop (sent * item) x)) f in
+    let es = entries_in width bytes in
+    let up : Rises (labels_of es) = subst (λ (w : ℕ). Rises (labels_of (entries_in w bytes))) (sym e) rises in
+    let part_rises : Rises (labels_of (take c (drop sent es))) = Rises-take (λ (entry : Entry). entry.label) c (drop sent es) (Rises-drop (λ (entry : Entry). entry.label) sent es up) in
+    subst (IsPart q width) (sym is) (record {
+      number = number;
+      cell = (b, some, small, e);
+      count = c;
+      some = one;
+      most = few;
+      whole = len;
+      rises = subst (λ (xs : List Entry). Rises (labels_of xs)) (sym (part_entries width words sent c bytes part total within refl len)) part_rises;
+    })
+
+-- a part is a frame of the grammar
+pub IsSetupDict-part : (q width : ℕ) (entries : List ℕ) → AreBytes entries → IsPart q width entries → IsSetupDict q width (entries_in width entries)
+IsSetupDict-part q width entries bytes part =
+    let count : length (entries_in width entries) ≡ part.count = length-entries_in width part.count entries part.whole in
+    record {
+      number = part.number;
+      cell = part.cell;
+      count = subst (λ (n : ℕ). (1 ≤ n) × (n ≤ 1024)) (sym count) (part.some, part.most);
+      each = each_entry width part.count entries bytes part.whole;
+      rises = part.rises;
+    }

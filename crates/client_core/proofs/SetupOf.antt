@@ -1,24 +1,31 @@
 -- The frames of the index that a setup's documents make under a key are those of the setup.
 use Rattle.std.proofs.Common.{◌≡◌, ℕ, ◌+◌, ◌*◌, List, [], ◌∷◌, ◌++◌, length, map, None, Some, refl, sym, ap, ◌∙◌, subst}
-use Rattle.std.specs.List.{AllByRecursion}
-use Rattle.std.proofs.lemmas.List.{nil_from_length}
+use Rattle.std.specs.List.{AllByRecursion, IsDistinct}
+use Rattle.std.specs.Str.{bytes_eq}
+use Rattle.std.proofs.lemmas.List.{nil_from_length, map-id}
 use Rattle.keyed_fn.specs.KeyedFn.{KeyedFn, IsKeyedFn}
 use Rattle.two_level.specs.Shape.{Shape}
 use Rattle.list_packing.specs.Parts.{parts}
+use Rattle.client_registry.proofs.DistinctLaws.{IsDistinct-first_clash}
 use Rattle.client_registry.specs.Acceptance.{blocks_of, setup_refusal}
+use Rattle.client_registry.specs.FirstClash.{first_clash}
 use Rattle.client_registry.specs.Run.{Offsets, at_first}
 use Rattle.client_registry.specs.Setup.{Setup}
-use Rattle.sse_frames.specs.Frames.{Entry, FrameText, SetupBegin, SetupDict, SetupArray, SetupEnd, IsBytes, IsEntry, frame_bytes}
+use Rattle.sse_frames.specs.Frames.{Entry, FrameText, SetupBegin, SetupDict, SetupArray, SetupEnd, IsBytes, IsEntry, Rises, labels_of, update_number, frame_bytes}
+use Rattle.sse_frames.proofs.Sorted.{AllDiffer, All-by_bytes, Rises-by_bytes}
+use Rattle.sse_frames.proofs.Spelling.{entries_in-entry_bytes}
 use Rattle.sse_frames.specs.Order.{by_bytes}
+use Rattle.sse_frames.specs.Seen.{entries_in}
 use Rattle.sse_frames.specs.Sending.{numbered, dict_frames, array_frames, setup_frames}
-use Rattle.sse_model.proofs.Counts.{length-block_positions, update_number, AllByRecursion-append, AllByRecursion-each}
+use Rattle.sse_model.proofs.Counts.{length-block_positions, AllByRecursion-append, AllByRecursion-each}
 use Rattle.sse_model.proofs.KeyValues.{IsValue-table}
-use Rattle.sse_model.proofs.SealedEntries.{HasNames, cells_have_names}
+use Rattle.sse_model.proofs.SealedEntries.{HasNames, AllDiffer-words, cells_have_names}
 use Rattle.sse_model.proofs.Texts.{HasText, IsBytes-xored, cells_have_texts}
 use Rattle.sse_model.specs.Names.{Table, cell_size}
 use Rattle.sse_model.specs.Positions.{Position, sealed, entry_positions, block_positions, ranks_of}
 use Rattle.sse_model.specs.Wire.{frames_of_setup, labels_in}
-use Rattle.index_setup.specs.Entries.{dictionary_bytes, key_table, setup_entries}
+use Rattle.index_setup.proofs.SealedEntries.{index_labels-entries}
+use Rattle.index_setup.specs.Entries.{dictionary_bytes, key_table, label_clash, setup_entries}
 use Rattle.client_core.proofs.SetupFrames.{setup_bytes-by_bytes}
 use Rattle.client_core.specs.Setup.{setup_bytes}
 
@@ -53,6 +60,15 @@ module _ (f : KeyedFn) (laws : IsKeyedFn f) (key : List ℕ) (s : Setup) where
     setup_bytes-dictionary_bytes =
         setup_bytes-by_bytes s.shape.b s.shape.big (setup_entries f key s) entries_are
         ∙ ap (λ ps. map frame_bytes (setup_frames 0 s.shape (setup_entries f key s) (map (sealed values ranks) ps))) (sym no_positions)
+
+    -- the labels of its entries rise, where no two are equal
+    pub labels_rise : label_clash f key s ≡ None → Rises (labels_of (entries_in (1 + 8 * s.shape.b) (dictionary_bytes f key s)))
+    labels_rise differ =
+        let es = setup_entries f key s in
+        let apart : IsDistinct bytes_eq (labels_of es) = IsDistinct-first_clash (labels_of es) (ap first_clash (sym (index_labels-entries f key s)) ∙ differ) in
+        let all : AllDiffer (labels_of es) = subst AllDiffer (map-id (labels_of es)) (AllDiffer-words (λ label. label) (labels_of es) apart (λ v w _ _ same. same)) in
+        let each = All-by_bytes (λ (entry : Entry). entry.label) (IsEntry (cell_size s.shape)) es entries_are in
+        subst (λ (xs : List Entry). Rises (labels_of xs)) (sym (entries_in-entry_bytes (cell_size s.shape) (by_bytes (λ entry. entry.label) es) each)) (Rises-by_bytes (λ (entry : Entry). entry.label) es all)
 
 -- Numbers.
 

@@ -1,13 +1,9 @@
--- Which reply some bytes are, and which fault that is where it isn't one that is expected.
+-- Which fault a reply is where it isn't one that is expected.
 use Rattle.std.specs.Prelude.{◌≡◌, ℕ, List}
-use Rattle.sse_frames.specs.Replies.{ReplyText, Clash, NoMemory, StoreFault, InReplies, reply_bytes}
+use Rattle.sse_frames.specs.Reading.{IsReply}
+use Rattle.sse_frames.specs.Replies.{ReplyText, Clash, NoMemory, StoreFault}
 use Rattle.client_core.specs.declared.reply_fault.ReplyFault.{ReplyFault}
 use Rattle.client_core.specs.declared.reply_fault.ReplyFault.TheVariants as faults
-
--- all of these bytes are this reply of the grammar
-pub record IsReply (text : ReplyText) (bytes : List ℕ) : Type 0 where
-  pub grammar : InReplies text
-  pub spelled : bytes ≡ reply_bytes text
 
 -- the fault that a reply reports where it isn't one that is expected
 abbrev pub fault_told : ReplyText → ReplyFault

@@ -3,7 +3,8 @@ use Rattle.std.specs.Prelude.{◌≡◌, ℕ, ◌+◌, ◌<◌, ◌≤◌, Bool,
 use Rattle.sse_frames.specs.Replies.{ReplyText, Page}
 use Rattle.sse_frames.specs.Seen.{numbers_in}
 use Rattle.sse_frames.specs.Sizes.{AreIds}
-use Rattle.client_core.specs.Faults.{IsReply, IsFaultOf}
+use Rattle.sse_frames.specs.Reading.{IsReply}
+use Rattle.client_core.specs.Faults.{IsFaultOf}
 use Rattle.client_core.specs.declared.found.Found.{Found}
 use Rattle.client_core.specs.declared.found.Progress.{Progress}
 use Rattle.client_core.specs.declared.found.Progress.TheVariants as progress

@@ -1,8 +1,8 @@
 -- Which frames carry the index of a setup.
-use Rattle.std.specs.Prelude.{◌≡◌, ℕ, ◌+◌, ◌*◌, List, [], ◌∷◌, ◌++◌, length, map}
+use Rattle.std.specs.Prelude.{◌≡◌, ℕ, ◌+◌, ◌*◌, ◌≤◌, List, [], ◌∷◌, ◌++◌, length, map}
 use Rattle.list_packing.specs.Parts.{parts}
 use Rattle.two_level.specs.Shape.{Shape}
-use Rattle.sse_frames.specs.Frames.{Entry, FrameText, SetupBegin, SetupDict, SetupEnd, frame_bytes}
+use Rattle.sse_frames.specs.Frames.{Entry, FrameText, SetupBegin, SetupDict, SetupEnd, IsNumber, IsCellWidth, Rises, labels_of, frame_bytes}
 use Rattle.sse_frames.specs.Seen.{entries_in}
 use Rattle.sse_frames.specs.Sending.{numbered}
 
@@ -23,3 +23,13 @@ pub record SendsSetup (b big words : ℕ) (frames : List (List ℕ)) : Type 0 wh
   pub entries : List ℕ
   pub whole : length entries ≡ words * (17 + 8 * b)
   pub sent : frames ≡ setup_bytes b big entries
+
+-- joined entries that a SetupDict carries: at most 1,024 cells of the width, whose labels rise
+pub record IsPart (q width : ℕ) (entries : List ℕ) : Type 0 where
+  pub number : IsNumber q
+  pub cell : IsCellWidth width
+  pub count : ℕ
+  pub some : 1 ≤ count
+  pub most : count ≤ 1024
+  pub whole : length entries ≡ count * (16 + width)
+  pub rises : Rises (labels_of (entries_in width entries))

@@ -4,7 +4,8 @@ ghost use Rattle.client_registry.specs.Documents.{words_of};
 ghost use Rattle.client_registry.specs.Run.{at_first};
 ghost use Rattle.client_registry.specs.Setup.{setup_of};
 ghost use Rattle.keyed_fn.specs.KeyedFn.{keyed_fn};
-ghost use Rattle.sse_frames.specs.Frames.{frame_bytes};
+ghost use Rattle.std.specs.List.{AllByRecursion};
+ghost use Rattle.sse_frames.specs.Frames.{IsFrame, frame_bytes};
 ghost use Rattle.sse_model.specs.Wire.{frames_of_setup};
 ghost use Rattle.index_setup.specs.Entries.{key_table, label_clash};
 ghost use Rattle.index_setup.specs.Refused.{refused_by_size};
@@ -52,6 +53,7 @@ impl Client<Fresh> {
         ensures no_blocks { IfOk result (λ _. blocks_of (setup_of docs.now b big) ≡ 0) }
         ensures differ { IfOk result (λ _. label_clash (keyed_fn K.prf K.pad) self.now.key (setup_of docs.now b big) ≡ None) }
         ensures frames { IfOk result (λ planned. frame_list planned.frames ≡ map frame_bytes (frames_of_setup (key_table (keyed_fn K.prf K.pad) self.now.key (setup_of docs.now b big)) at_first (setup_of docs.now b big))) }
+        ensures grammar { IfOk result (λ planned. AllByRecursion IsFrame (frame_list planned.frames)) }
         ensures words { IfOk result (λ planned. planned.words ≡ length (words_of docs.now)) }
         ensures blocks { IfOk result (λ planned. planned.blocks ≡ 0) }
         ensures sends { IfOk result (λ planned. SendsSetup b big (length (words_of docs.now)) (frame_list planned.frames)) }

@@ -14,7 +14,6 @@ mod ready;
 mod reply_fault;
 mod sending;
 mod setup_frames;
-mod whole_reply;
 
 pub use behind::Behind;
 pub use client::{Client, Spent};

@@ -1,18 +1,17 @@
 ghost use Rattle.std.specs.Prelude.{◌≡◌, ℕ, Bool, List, false, None, IfSome};
 ghost use Rattle.sse_frames.specs.Replies.{Page};
 ghost use Rattle.sse_frames.specs.Seen.{seen_reply};
-ghost use Rattle.client_core.specs.Faults.{IsReply};
+ghost use Rattle.sse_frames.specs.Reading.{IsReply};
 ghost use Rattle.client_core.specs.Pages.{IsPageIn, is_page};
 
-use crate::whole_reply::whole_reply;
-use sse_frames::Reply;
+use sse_frames::{Reply, read_whole_reply};
 
 /// The page that all of these bytes are: whether it is the last, and its identifiers.
 pub(crate) fn page_in(reply: &[u8]) -> Option<(bool, &[u8])>
     ensures found { IfSome result (λ page. IsPageIn reply.now page.0 page.1.now) }
     ensures none { result ≡ None → (last : Bool) (ids : List ℕ) → IsReply (Page last ids) reply.now → ⊥ }
 {
-    match whole_reply(reply) {
+    match read_whole_reply(reply) {
         Some(read) => page_of(read),
         None => None,
     }

@@ -1,10 +1,10 @@
 ghost use Rattle.std.specs.Prelude.{◌≡◌};
 ghost use Rattle.sse_frames.specs.Replies.{ReplyText, reply_bytes, StoreFault};
 ghost use Rattle.sse_frames.specs.Seen.{seen_reply};
-ghost use Rattle.client_core.specs.Faults.{IsReply, fault_told, IsFaultOf};
+ghost use Rattle.sse_frames.specs.Reading.{IsReply};
+ghost use Rattle.client_core.specs.Faults.{fault_told, IsFaultOf};
 
-use crate::whole_reply::whole_reply;
-use sse_frames::Reply;
+use sse_frames::{Reply, read_whole_reply};
 use std::alloc::AllocError;
 
 /// Why a reply ends the client's run.
@@ -29,7 +29,7 @@ pub fn fault_of(reply: &[u8]) -> ReplyFault
     ensures told { (text : ReplyText) → IsReply text reply.now → result ≡ fault_told text }
     ensures store { result ≡ ReplyFault.StoreFault → reply.now ≡ reply_bytes StoreFault }
 {
-    match whole_reply(reply) {
+    match read_whole_reply(reply) {
         Some(read) => told_by(read),
         None => ReplyFault::BadReply,
     }

@@ -8,8 +8,7 @@ use crate::behind::Behind;
 use crate::client::{Client, Spent};
 use crate::ready::Ready;
 use crate::reply_fault::{ReplyFault, fault_of};
-use crate::whole_reply::whole_reply;
-use sse_frames::Reply;
+use sse_frames::{Reply, read_whole_reply};
 
 /// What a reply makes of a client with unacknowledged frames.
 #[derive(Drop)]
@@ -59,7 +58,7 @@ fn acknowledges(reply: &[u8], number: u32) -> bool
     ensures yes { result ≡ true → reply.now ≡ reply_bytes (Took number) }
     ensures no { result ≡ false → reply.now ≢ reply_bytes (Took number) }
 {
-    match whole_reply(reply) {
+    match read_whole_reply(reply) {
         Some(read) => is_took_of(read, number),
         None => false,
     }

@@ -1,9 +1,10 @@
 ghost use Rattle.std.specs.Prelude.{◌≡◌, ◌+◌, ◌*◌, ◌≤◌, ◌^◌, vec_len, IfOk};
-ghost use Rattle.sse_frames.specs.Frames.{SetupBegin, SetupDict, frame_bytes};
+ghost use Rattle.std.specs.List.{AllByRecursion};
+ghost use Rattle.sse_frames.specs.Frames.{SetupBegin, SetupDict, InGrammar, IsFrame, Rises, labels_of, frame_bytes};
 ghost use Rattle.sse_frames.specs.Seen.{seen, entries_in};
-ghost use Rattle.sse_frames.specs.Sizes.{HasSizes, AreEntries};
+ghost use Rattle.sse_frames.specs.Sizes.{HasSizes};
 ghost use Rattle.client_core.specs.Sending.{frame_list};
-ghost use Rattle.client_core.specs.Setup.{setup_bytes};
+ghost use Rattle.client_core.specs.Setup.{setup_bytes, IsPart};
 
 use index_setup::Index;
 use sse_frames::{ENTRIES_PER_FRAME, Frame, LABEL_LEN, write_frame};
@@ -11,9 +12,12 @@ use std::alloc::{AllocError, Global};
 
 /// The frames of a setup, numbered from 0: SetupBegin, the entries in parts of 1,024, SetupEnd.
 pub(crate) fn setup_frames(alloc: Global, index: &Index) -> Result<Vec<Vec<u8>>, AllocError>
+    requires block { 1 ≤ index.now.big }
+    requires rises { Rises (labels_of (entries_in (1 + 8 * index.now.b) index.now.entries.items)) }
     ensures some { IfOk result (λ frames. 1 ≤ vec_len frames) }
     ensures most { IfOk result (λ frames. vec_len frames ≤ 2 ^ 21) }
     ensures frames { IfOk result (λ frames. frame_list frames ≡ setup_bytes index.now.b index.now.big index.now.entries.items) }
+    ensures grammar { IfOk result (λ frames. AllByRecursion IsFrame (frame_list frames)) }
 {
     let words = index.words() as usize;
     let width = index.cell_size();
@@ -34,7 +38,9 @@ pub(crate) fn setup_frames(alloc: Global, index: &Index) -> Result<Vec<Vec<u8>>,
 }
 
 fn begin_frame(alloc: Global, index: &Index) -> Result<Vec<u8>, AllocError>
-    ensures { IfOk result (λ bytes. bytes.items ≡ frame_bytes (SetupBegin 0 index.now.b index.now.big index.now.words 0)) }
+    requires { 1 ≤ index.now.big }
+    ensures bytes { IfOk result (λ bytes. bytes.items ≡ frame_bytes (SetupBegin 0 index.now.b index.now.big index.now.words 0)) }
+    ensures frame { IfOk result (λ bytes. IsFrame bytes.items) }
 {
     let begin = Frame::SetupBegin {
         q: 0,
@@ -52,15 +58,18 @@ fn dictionary_frame(
     width: u16,
     entries: &[u8],
 ) -> Result<Vec<u8>, AllocError>
-    requires { AreEntries width entries.now }
-    ensures { IfOk result (λ bytes. bytes.items ≡ frame_bytes (SetupDict q width (entries_in width entries.now))) }
+    requires { IsPart q width entries.now }
+    ensures bytes { IfOk result (λ bytes. bytes.items ≡ frame_bytes (SetupDict q width (entries_in width entries.now))) }
+    ensures frame { IfOk result (λ bytes. IsFrame bytes.items) }
 {
     bytes_of(alloc, &Frame::SetupDict { q, width, entries })
 }
 
 fn bytes_of(alloc: Global, frame: &Frame<'_>) -> Result<Vec<u8>, AllocError>
-    requires { HasSizes frame.now }
-    ensures { IfOk result (λ bytes. bytes.items ≡ frame_bytes (seen frame.now)) }
+    requires grammar { InGrammar (seen frame.now) }
+    requires sizes { HasSizes frame.now }
+    ensures bytes { IfOk result (λ bytes. bytes.items ≡ frame_bytes (seen frame.now)) }
+    ensures frame { IfOk result (λ bytes. IsFrame bytes.items) }
 {
     let mut bytes = Vec::new(alloc);
     write_frame(frame, &mut bytes)?;

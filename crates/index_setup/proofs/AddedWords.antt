@@ -10,13 +10,12 @@ use Rattle.std.proofs.lemmas.List.{append-nil, map-append, take_more}
 use Rattle.std.proofs.lemmas.List.Elements.{All-cons, All-nil, filter-append}
 use Rattle.std.proofs.lemmas.Slice.Eq.{bytes_eq-Decides}
 use Rattle.client_registry.proofs.DistinctLaws.{IsDistinct-first_seen}
-use Rattle.client_registry.proofs.Positions.{is_some-position}
+use Rattle.client_registry.proofs.Positions.{is_some-position, position-cons}
 use Rattle.client_registry.proofs.WordsLaws.{length-ids_with}
 use Rattle.client_registry.specs.Document.{Document}
 use Rattle.client_registry.specs.DocumentRule.{IsDocument}
 use Rattle.client_registry.specs.Documents.{all_words, has_word, ids_with, words_of}
 use Rattle.index_setup.specs.Lists.{lists_among}
-use Rattle.index_setup.proofs.Places.{position-cons}
 
 -- the identifier, as often as the word stands among these
 abbrev pub id_for : ℕ → List (List ℕ) → List ℕ → List ℕ
@@ -63,10 +62,6 @@ module _ (G : List ℕ → List ℕ) (id : ℕ) (v : List ℕ) where
           let next : suc m ≡ n = cc in
           subst (λ k. with_id u ∷ map with_id us ≡ set (G u ∷ map G us) k (get_or (G u ∷ map G us) k [] ++ id ∷ [])) next (λ i. elsewhere u is i ∷ later m e i)
 
-  none_at : (words : List (List ℕ)) → list_any (bytes_eq v) words ≡ false → AllByRecursion (λ u. bytes_eq v u ≡ false) words
-  none_at [] none = tt
-  none_at (u ∷ us) none = let parts = or_parts (bytes_eq v u) (list_any (bytes_eq v) us) none in (parts.0, none_at us parts.1)
-
 module _ (docs before : List Document) (id : ℕ) (ws : List (List ℕ)) (v : List ℕ) where
   abbrev so_far : List (List ℕ)
   so_far = lists_with docs before id ws
@@ -78,12 +73,6 @@ module _ (docs before : List Document) (id : ℕ) (ws : List (List ℕ)) (v : Li
   -- one word more: its list has the identifier behind it
   pub lists_with-found : (n : ℕ) → position (bytes_eq v) (words_of docs) ≡ Some n → lists_with docs before id (ws ++ v ∷ []) ≡ set so_far n (get_or so_far n [] ++ id ∷ [])
   lists_with-found n at = with_one ∙ at_place (λ word. ids_with before word ++ id_for id ws word) id v (words_of docs) (IsDistinct-first_seen (all_words docs)) n at
-
-  -- a word of no document changes no list
-  pub lists_with-absent : position (bytes_eq v) (words_of docs) ≡ None → lists_with docs before id (ws ++ v ∷ []) ≡ so_far
-  lists_with-absent none =
-      with_one ∙ nowhere (λ word. ids_with before word ++ id_for id ws word) id v (words_of docs)
-      (none_at (λ word. ids_with before word ++ id_for id ws word) id v (words_of docs) (sym (is_some-position (bytes_eq v) (words_of docs)) ∙ ap is_some none))
 
 constant : {X : Type 0} (id : ℕ) (xs : List X) → map (λ _. id) xs ≡ replicate (length xs) id
 constant id [] = refl

@@ -4,7 +4,7 @@ use Rattle.std.specs.Option.{option_or, option_map}
 use Rattle.std.specs.Str.{bytes_eq}
 use Rattle.std.proofs.lemmas.Cmp.{nat_list_eq_equiv}
 use Rattle.std.proofs.lemmas.Slice.Eq.{bytes_eq-Decides}
-use Rattle.index_setup.proofs.Places.{position-cons}
+use Rattle.client_registry.proofs.Positions.{position-cons}
 use Rattle.client_registry.proofs.FirstClashLaws.{first_clash-push, first_clash-append}
 use Rattle.client_registry.specs.FirstClash.{first_clash}
 

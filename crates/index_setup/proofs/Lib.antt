@@ -1,6 +1,5 @@
 mod JoinedBytes
 mod CellBytes
-mod Places
 mod Clashes
 mod AddedWords
-mod SealedEntries
+pub mod SealedEntries

@@ -23,7 +23,7 @@ use crate::lists::lists_of;
 use client_registry::{Docs, Word, size_of};
 use keyed_fn::Keyed;
 use std::alloc::{AllocError, Global};
-use word_keys::{ListPads, MasterKey, seal};
+use word_keys::{MasterKey, PreparedMaster, seal};
 
 /// Builds the index of the documents with b numbers per cell and `big` numbers per block.
 ///
@@ -93,25 +93,30 @@ fn entries_of<K: Keyed>(
     ensures most { IfOk result (λ entries. vec_len entries ≤ 2 ^ 20) }
 {
     let lists = lists_of(alloc, docs)?;
+    let master = key.prepare(keyed);
     let mut entries = Vec::with_capacity(alloc, docs.words())?;
     'words: for w in 0..docs.words() {
         let cell = cell_of(alloc, &lists[w], b)?;
-        entries.push(entry_of(keyed, key, docs.word(w), cell))?;
+        entries.push(entry_of(keyed, &master, docs.word(w), cell))?;
     }
     Ok(entries)
 }
 
 /// The entry of a word: its label, and its cell under keystream segment 0 of the word's list key.
-fn entry_of<K: Keyed>(keyed: &K, key: &MasterKey, word: &Word, mut cell: Vec<u8>) -> Entry
+fn entry_of<K: Keyed>(
+    keyed: &K,
+    master: &PreparedMaster<K>,
+    word: &Word,
+    mut cell: Vec<u8>,
+) -> Entry
     requires { vec_len cell ≤ 2048 }
-    ensures label { result.label ≡ list_label (keyed_fn K.prf K.pad) (part_key (keyed_fn K.prf K.pad) key.now 1 (word_bytes word.now)) }
+    ensures label { result.label ≡ list_label (keyed_fn K.prf K.pad) (part_key (keyed_fn K.prf K.pad) master.now 1 (word_bytes word.now)) }
     ensures size { vec_len result.cell ≡ vec_len cell }
-    ensures cell { result.cell.items ≡ xored cell.items (cell_pad (keyed_fn K.prf K.pad) (part_key (keyed_fn K.prf K.pad) key.now 2 (word_bytes word.now)) (vec_len cell)) }
+    ensures cell { result.cell.items ≡ xored cell.items (cell_pad (keyed_fn K.prf K.pad) (part_key (keyed_fn K.prf K.pad) master.now 2 (word_bytes word.now)) (vec_len cell)) }
 {
-    let token = key.token(keyed, word);
-    let label = token.list_label(keyed);
-    let mut pads = ListPads::begin(token);
-    seal(pads.next(), keyed, &mut cell);
+    let keys = master.list_keys(keyed, word);
+    let label = keys.label(keyed);
+    seal(keys.pads().next(), keyed, &mut cell);
     Entry { label, cell }
 }
 

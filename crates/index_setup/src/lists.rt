@@ -35,11 +35,9 @@ fn add_document(docs: &Docs, i: usize, lists: &mut Vec<Vec<u64>>) -> Result<(), 
     ensures { OnOk result (as_lists lists.new.items ≡ lists_among docs.now (take (i + 1) docs.now)) }
 {
     let doc = docs.get(i);
-    let id = doc.id().get();
-    'words: for word in doc.words() {
-        if let Some(number) = docs.number_of(word) {
-            add_identifier(lists, number as usize, id)?;
-        }
+    let id = doc.id.get();
+    'words: for number in doc.numbers {
+        add_identifier(lists, *number as usize, id)?;
     }
     Ok(())
 }

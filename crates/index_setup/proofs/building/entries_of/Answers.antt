@@ -44,12 +44,14 @@ words-preserved g c =
     c.deref.ensures.value ∙ ap (λ v. v.items) c.index.ensures
     ∙ sym (get_or-map (λ list. list.items) lists w c.index.result.now [] (omega (arith, within, count)))
     ∙ ap (λ ls. get_or ls w []) c.in_ok-lists.ensures ∙ get_or-map (ids_with docs) words w [] [] within ∙ ap (ids_with docs) is in
-    let pad = λ (size : ℕ). cell_pad f (part_key f key 2 bytes) size in
+    let master = c.prepare-master.result in
+    let pad = λ (size : ℕ). cell_pad f (part_key f master 2 bytes) size in
     let text : c.entry_of.result.cell.items ≡ xored (cell_bytes (laid_in_cell b (ids_with docs bytes))) (pad (1 + 8 * b)) =
     c.entry_of.ensures.cell
     ∙ ap (λ size. xored c.in_ok-cell.cell.items (pad size)) c.in_ok-cell.ensures.size
     ∙ ap (λ clear. xored clear (pad (1 + 8 * b))) (c.in_ok-cell.ensures.cell ∙ ap (λ ns. cell_bytes (laid_in_cell b ns)) ids) in
-    let entry : as_entry c.entry_of.result ≡ word_entry f key b docs bytes = λ i. record { label = c.entry_of.ensures.label i; text = text i } in
+    let under : as_entry c.entry_of.result ≡ word_entry f master b docs bytes = λ i. record { label = c.entry_of.ensures.label i; text = text i } in
+    let entry : as_entry c.entry_of.result ≡ word_entry f key b docs bytes = under ∙ ap (λ k. word_entry f k b docs bytes) c.prepare-master.ensures in
     let front = map (word_entry f key b docs) (take w words) in
     let HasCell = λ (entry : Entry). vec_len entry.cell ≡ 1 + 8 * b in
     record {
