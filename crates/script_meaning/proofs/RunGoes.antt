@@ -1,0 +1,282 @@
+-- A run goes as its script means: by induction over the lines that are left.
+use Rattle.std.proofs.Common.{◌≡◌, ◌⊎◌, ℕ, ◌+◌, ◌≤◌, inl, inr, Bool, true, false, ◌||◌, List, [], ◌∷◌, ◌++◌, length, take, drop, Some, None, refl, sym, ap, ◌∙◌, subst, arith, append_assoc}
+use Rattle.std.specs.Prelude.{Option, option_map}
+use Rattle.std.specs.Io.KnownBytes.{append_known}
+use Rattle.std.proofs.Math.Seq.{take-append-add}
+use Rattle.std.proofs.lemmas.List.{append-nil}
+use Rattle.client_registry.proofs.HistoryLaws.{IsFirstOf-same}
+use Rattle.client_registry.specs.Histories.{empty, IsFirstOf}
+use Rattle.client_registry.specs.Run.{History}
+use Rattle.sse_outside.proofs.Known.{append_known-twice}
+use Rattle.keyed_fn.specs.KeyedFn.{KeyedFn}
+use Rattle.sse_frames.specs.Frames.{FrameText, Hello}
+use Rattle.sse_link.specs.Events.{Event, Sent, Received}
+use Rattle.sse_model.specs.Compared.{Collision, Labels, Places, Numbers}
+use Rattle.sse_model.specs.Exchange.{asked}
+use Rattle.sse_model.specs.Histories.{frames_sent, HasNoCollision}
+use Rattle.sse_script.specs.Shown.{Cause, NoMemory}
+use Rattle.sse_script.specs.Stops.{cause_status}
+use Rattle.script_meaning.specs.Built.{is_built, comes_to}
+use Rattle.script_meaning.specs.Carries.{Outside, keys_at, frames_by, collision_cause, clash_in_hand, text_with, Carries, FindsClash, IsCutShort, IsUnprinted}
+use Rattle.script_meaning.specs.Exchange.{Told, Adds, AreCut, IsCut}
+use Rattle.script_meaning.specs.Goes.{Passes, Prints, Goes}
+use Rattle.script_meaning.specs.Lines.{Line, Empty, Key, Command, Request}
+use Rattle.script_meaning.specs.Meaning.{Meaning, showing, follow, meant_from}
+use Rattle.script_meaning.specs.Outcome.{Place, Outcome, opened, after, shown_by, is_refusal}
+use Rattle.script_meaning.specs.Runs.{Ended, ended, StopsReading, Stops, Runs, Opens}
+use Rattle.script_meaning.specs.Session.{frames_with, IsFree}
+use Rattle.script_meaning.specs.Stops.{Stop, AtEnd, SinkFault, At, status_of}
+use Rattle.script_meaning.proofs.Following.{frames-next, searches-next, no_clash-next, after-key, follow-key, first-follow}
+use Rattle.script_meaning.proofs.Going.{Adds-nothing, AreExchanged-none, append_known-nothing, text_with-append, front_more, Passes-behind, Passes-none, Prints-none, shows_status}
+
+-- Which statuses a stop within a line has.
+
+clash_status : (o : Option Collision) (cause : Cause) → option_map collision_cause o ≡ Some cause → cause_status cause ≡ 8
+clash_status None cause e = absurd (cc)
+clash_status (Some (Labels first second)) cause e = ap cause_status (let same : cause ≡ collision_cause (Labels first second) = cc in same)
+clash_status (Some (Places first second)) cause e = ap cause_status (let same : cause ≡ collision_cause (Places first second) = cc in same)
+clash_status (Some (Numbers first second)) cause e = ap cause_status (let same : cause ≡ collision_cause (Numbers first second) = cc in same)
+
+cut_status : (left : List FrameText) (cut : List Event) (cause : Cause) → IsCut left cut cause → 5 ≤ cause_status cause
+cut_status [] cut cause is = omega (arith, ap cause_status is.1)
+cut_status (frame ∷ left) [] cause (inl link) = omega (arith, ap cause_status link)
+cut_status (frame ∷ left) [] cause (inr memory) = omega (arith, ap cause_status memory)
+cut_status (frame ∷ left) (Sent bytes mark ∷ cut) cause is = shows_status (asked frame) is.1.0 cause is.1.2
+cut_status (frame ∷ left) (Received bytes ∷ cut) cause is = absurd is
+
+-- a cut exchange is what passed of these frames
+Passes-cut : (f : KeyedFn) (frames : List FrameText) (now : Told) (end : Ended) (events : List Event) (cause : Cause) → end.stop ≡ At cause → Adds now end.outside.told events → (c : AreCut frames events cause) → Passes f frames c.answers now end
+Passes-cut f frames now end events cause stops adds c = record {
+  events = events;
+  adds = adds;
+  n = c.n;
+  before = c.before;
+  cut = c.cut;
+  parts = c.parts;
+  exchanged = c.exchanged;
+  left = inr (inl (cause, stops, c.one_more));
+  whole = λ few. absurd (omega (arith, few, ap status_of stops, cut_status (drop c.n frames) c.cut cause c.one_more));
+}
+
+-- what a run does since a moment behind a history, over lines of this meaning
+record Went (f : KeyedFn) (key : List ℕ) (h : History) (m : Meaning) (now : Outside) (end : Ended) : Type 0 where
+  same_key : end.key ≡ Some key
+  history : IsFirstOf end.history m.history
+  more : List FrameText
+  frames : frames_sent f (λ epoch. key) end.history ≡ frames_sent f (λ epoch. key) h ++ more
+  answers : List (List ℕ)
+  passes : Passes f more answers now.told end
+  prints : Prints m answers now.written end.outside.written
+  ended_well : status_of end.stop ≤ 2 → (end.stop ≡ m.end) × (end.history ≡ m.history) × (end.outside.written ≡ append_known now.written (text_with answers m.shown))
+
+module _ (f : KeyedFn) where
+  -- A run that stops between two lines.
+
+  went-here : (key : List ℕ) (h : History) (m : Meaning) (now : Outside) (stop : Stop) (end : Ended) → end ≡ ended now (Some key) h stop → IsFirstOf h m.history → status_of stop ≤ 7
+      → (status_of stop ≤ 2 → (stop ≡ m.end) × (h ≡ m.history) × (m.shown ≡ [])) → Went f key h m now end
+  went-here key h m now stop end same first outside whole = subst (Went f key h m now) (sym same) (record {
+    same_key = refl;
+    history = first;
+    more = [];
+    frames = sym (append-nil (frames_sent f (λ epoch. key) h));
+    answers = [];
+    passes = Passes-none f now.told (ended now (Some key) h stop) refl outside;
+    prints = Prints-none m [] now.written now.written refl;
+    ended_well = λ few.
+        let all = whole few in
+        (all.0, all.1, sym (ap (λ shown. append_known now.written (text_with [] shown)) all.2 ∙ append_known-nothing now.written));
+  })
+
+  went-reading : (key : List ℕ) (h : History) (m : Meaning) (now : Outside) (end : Ended) → IsFirstOf h m.history → StopsReading now (Some key) h end → Went f key h m now end
+  went-reading key h m now end first (inl e) = went-here key h m now _ end e first (omega arith) (λ few. absurd (omega (arith, few)))
+  went-reading key h m now end first (inr e) = went-here key h m now _ end e first (omega arith) (λ few. absurd (omega (arith, few)))
+
+  module _ (place : Place) (line : Request) (m : Meaning) (now : Outside) (end : Ended) where
+    abbrev result : Outcome
+    result = comes_to is_built place line
+
+    abbrev whole : Meaning
+    whole = showing (shown_by result) m
+
+    -- A run that stops in a line.
+
+    module _ (s : Stops f place result now end) (first : IsFirstOf (after result place).history m.history) where
+      first_of : IsFirstOf end.history m.history
+      first_of = subst (λ h. IsFirstOf h m.history) (sym s.history) first
+
+      frames_of : frames_sent f (keys_at place) end.history ≡ frames_sent f (keys_at place) place.history ++ frames_by f place result
+      frames_of = ap (frames_sent f (keys_at place)) s.history ∙ frames-next is_built place line f
+
+      went-clash : FindsClash f place result now end.outside end.stop → Went f place.key place.history whole now end
+      went-clash c =
+          let status : status_of end.stop ≡ 8 = ap status_of c.stops ∙ clash_status _ c.cause c.found in record {
+            same_key = s.key;
+            history = first_of;
+            more = frames_by f place result;
+            frames = frames_of;
+            answers = [];
+            passes = record {
+              events = [];
+              adds = ap (λ (o : Outside). o.told) c.nothing ∙ Adds-nothing now.told;
+              n = 0;
+              before = [];
+              cut = [];
+              parts = refl;
+              exchanged = AreExchanged-none;
+              left = inr (inr (refl, λ free. never c.cause c.found (no_clash-next f place line (subst (λ h. HasNoCollision f (keys_at place) h) s.history (subst (λ k. IsFree f k end.history) s.key free)))));
+              whole = λ few. absurd (omega (arith, few, status));
+            };
+            prints = Prints-none whole [] now.written end.outside.written (ap (λ (o : Outside). o.written) c.nothing);
+            ended_well = λ few. absurd (omega (arith, few, status));
+          }
+        where
+          never : (cause : Cause) → clash_in_hand f place result ≡ Some cause → clash_in_hand f place result ≡ None → ⊥
+          never cause some none = cc
+
+      went-cut : IsCutShort f place result now end.outside end.stop → Went f place.key place.history whole now end
+      went-cut c = record {
+        same_key = s.key;
+        history = first_of;
+        more = frames_by f place result;
+        frames = frames_of;
+        answers = c.cut.answers;
+        passes = Passes-cut f (frames_by f place result) now.told end c.events c.cause c.stops c.adds c.cut;
+        prints = Prints-none whole c.cut.answers now.written end.outside.written c.unprinted;
+        ended_well = λ few. absurd (omega (arith, few, ap status_of c.stops, cut_status _ c.cut.cut c.cause c.cut.one_more));
+      }
+
+      went-unprinted : IsUnprinted f place result now end.outside end.stop → Went f place.key place.history whole now end
+      went-unprinted u =
+          let frames = frames_by f place result in
+          let status : (4 ≤ status_of end.stop) × (status_of end.stop ≤ 7) = by end.stop u.stops in
+          let text = text_with u.answers (shown_by result) in
+          let front = front_more u.p text (text_with [] m.shown) in
+          let all : text_with u.answers whole.shown ≡ text ++ text_with [] m.shown =
+          ap (λ answers. text_with answers whole.shown) (sym (append-nil u.answers)) ∙ text_with-append u.answers [] (shown_by result) m.shown (u.sent.exchanged.count ∙ searches-next is_built place line f) in record {
+            same_key = s.key;
+            history = first_of;
+            more = frames;
+            frames = frames_of;
+            answers = u.answers;
+            passes = subst (λ fs. Passes f fs u.answers now.told end) (append-nil frames) (subst (λ answers. Passes f (frames ++ []) answers now.told end) (append-nil u.answers)
+                (Passes-behind f frames [] u.answers [] now.told end.outside.told end u.sent.events u.sent.adds u.sent.exchanged (Passes-none f end.outside.told end refl status.1)));
+            prints = record { p = front.0; written = u.printed ∙ ap (append_known now.written) (sym (ap (take front.0) all ∙ front.1)) };
+            ended_well = λ few. absurd (omega (arith, few, status.0));
+          }
+        where
+          by : (stop : Stop) → (stop ≡ SinkFault) ⊎ (stop ≡ At NoMemory) → (4 ≤ status_of stop) × (status_of stop ≤ 7)
+          by stop (inl sink) = (omega (arith, ap status_of sink), omega (arith, ap status_of sink))
+          by stop (inr memory) = (omega (arith, ap status_of memory), omega (arith, ap status_of memory))
+
+      went-stopped : Went f place.key place.history whole now end
+      went-stopped = elim s.within [ inl c ↦ went-clash c | inr (inl c) ↦ went-cut c | inr (inr u) ↦ went-unprinted u ]
+
+    -- A line that is carried out.
+
+    went-carried : (next : Outside) → Carries f place result now next → Went f (after result place).key (after result place).history m next end → Went f place.key place.history whole now end
+    went-carried next c later =
+        let w : Went f place.key (after result place).history m next end = subst (λ k. Went f k (after result place).history m next end) (after-key result place) later in
+        let text = text_with c.answers (shown_by result) in
+        let all : text_with (c.answers ++ w.answers) whole.shown ≡ text ++ text_with w.answers m.shown =
+        text_with-append c.answers w.answers (shown_by result) m.shown (c.sent.exchanged.count ∙ searches-next is_built place line f) in
+        record {
+          same_key = w.same_key;
+          history = w.history;
+          more = frames_by f place result ++ w.more;
+          frames =
+              w.frames
+              ∙ ap (λ fs. fs ++ w.more) (frames-next is_built place line f)
+              ∙ append_assoc (frames_sent f (keys_at place) place.history) (frames_by f place result) w.more;
+          answers = c.answers ++ w.answers;
+          passes = Passes-behind f (frames_by f place result) w.more c.answers w.answers now.told next.told end c.sent.events c.sent.adds c.sent.exchanged w.passes;
+          prints = record {
+            p = length text + w.prints.p;
+            written = behind now.written next.written end.outside.written text _ c.printed w.prints.written
+                ∙ ap (append_known now.written) (sym (ap (take (length text + w.prints.p)) all ∙ take-append-add text (text_with w.answers m.shown) w.prints.p));
+          };
+          ended_well = λ few.
+              let well = w.ended_well few in
+              (well.0, well.1, behind now.written next.written end.outside.written text _ c.printed well.2 ∙ ap (append_known now.written) (sym all));
+        }
+      where
+        behind : (a b e : Option (List ℕ)) (xs ys : List ℕ) → b ≡ append_known a xs → e ≡ append_known b ys → e ≡ append_known a (xs ++ ys)
+        behind a b e xs ys first second = second ∙ ap (λ w. append_known w ys) first ∙ append_known-twice a xs ys
+
+  -- All lines.
+
+  went : (place : Place) (number : ℕ) (lines : List (Option Line)) (refused : Bool) (now : Outside) (end : Ended) → Runs f place number lines refused now end
+      → Went f place.key place.history (follow is_built place number lines refused) now end
+  went place number [] refused now end (inl e) = went-here place.key place.history _ now (AtEnd refused) end e (IsFirstOf-same place.history) (at_end refused) (λ few. (refl, refl, refl))
+    where
+      at_end : (b : Bool) → status_of (AtEnd b) ≤ 7
+      at_end true = omega arith
+      at_end false = omega arith
+  went place number [] refused now end (inr reading) = went-reading place.key place.history _ now end (IsFirstOf-same place.history) reading
+  went place number (None ∷ lines) refused now end (inl e) = went-here place.key place.history _ now _ end e (IsFirstOf-same place.history) (omega arith) (λ few. (refl, refl, refl))
+  went place number (None ∷ lines) refused now end (inr reading) = went-reading place.key place.history _ now end (IsFirstOf-same place.history) reading
+  went place number (Some Empty ∷ lines) refused now end (inl reading) = went-reading place.key place.history _ now end (first-follow is_built place (number + 1) lines refused) reading
+  went place number (Some Empty ∷ lines) refused now end (inr runs) = went place (number + 1) lines refused now end runs
+  went place number (Some (Key key) ∷ lines) refused now end (inl e) = went-here place.key place.history _ now _ end e (IsFirstOf-same place.history) (omega arith) (λ few. (refl, refl, refl))
+  went place number (Some (Key key) ∷ lines) refused now end (inr reading) = went-reading place.key place.history _ now end (IsFirstOf-same place.history) reading
+  went place number (Some (Command line) ∷ lines) refused now end (inl reading) =
+      went-reading place.key place.history _ now end (first-follow is_built place number (Some (Command line) ∷ lines) refused) reading
+  went place number (Some (Command line) ∷ lines) refused now end (inr (inl stops)) =
+      let r = comes_to is_built place line in
+      went-stopped place line (follow is_built (after r place) (number + 1) lines (refused || is_refusal r)) now end stops (first-follow is_built (after r place) (number + 1) lines (refused || is_refusal r))
+  went place number (Some (Command line) ∷ lines) refused now end (inr (inr (next, carries, runs))) =
+      let r = comes_to is_built place line in
+      went-carried place line (follow is_built (after r place) (number + 1) lines (refused || is_refusal r)) now end next carries
+      (went (after r place) (number + 1) lines (refused || is_refusal r) next end runs)
+
+  -- Before the key line.
+
+  goes-here : (m : Meaning) (now : Outside) (stop : Stop) (end : Ended) → end ≡ ended now None empty stop → status_of stop ≤ 7 → (status_of stop ≤ 2 → (stop ≡ m.end) × (None ≡ m.key) × (empty ≡ m.history) × (m.shown ≡ [])) → Goes f m now end
+  goes-here m now stop end same outside whole = subst (Goes f m now) (sym same) (record {
+    key = inl refl;
+    history = tt;
+    answers = [];
+    passes = Passes-none f now.told (ended now None empty stop) refl outside;
+    prints = Prints-none m [] now.written now.written refl;
+    ended = λ few.
+        let all = whole few in
+        (all.0, all.1, all.2, sym (ap (λ shown. append_known now.written (text_with [] shown)) all.3 ∙ append_known-nothing now.written));
+  })
+
+  goes-reading : (m : Meaning) (now : Outside) (end : Ended) → StopsReading now None empty end → Goes f m now end
+  goes-reading m now end (inl e) = goes-here m now _ end e (omega arith) (λ few. absurd (omega (arith, few)))
+  goes-reading m now end (inr e) = goes-here m now _ end e (omega arith) (λ few. absurd (omega (arith, few)))
+
+  -- a run goes as its script means
+  pub goes : (number : ℕ) (lines : List (Option Line)) (now : Outside) (end : Ended) → Opens f number lines now end → Goes f (meant_from is_built number lines) now end
+  goes number [] now end (inl e) = goes-here _ now _ end e (omega arith) (λ few. (refl, refl, refl, refl))
+  goes number [] now end (inr reading) = goes-reading _ now end reading
+  goes number (None ∷ lines) now end (inl e) = goes-here _ now _ end e (omega arith) (λ few. (refl, refl, refl, refl))
+  goes number (None ∷ lines) now end (inr reading) = goes-reading _ now end reading
+  goes number (Some (Command line) ∷ lines) now end (inl e) = goes-here _ now _ end e (omega arith) (λ few. (refl, refl, refl, refl))
+  goes number (Some (Command line) ∷ lines) now end (inr reading) = goes-reading _ now end reading
+  goes number (Some Empty ∷ lines) now end (inl reading) = goes-reading _ now end reading
+  goes number (Some Empty ∷ lines) now end (inr opens) = goes (number + 1) lines now end opens
+  goes number (Some (Key key) ∷ lines) now end (inl reading) = goes-reading _ now end reading
+  goes number (Some (Key key) ∷ lines) now end (inr (inl away)) =
+      let m = follow is_built (opened key) (number + 1) lines false in record {
+        key = inr (away.same_key ∙ sym (follow-key is_built (opened key) (number + 1) lines false));
+        history = subst (λ h. IsFirstOf h m.history) (sym away.history) tt;
+        answers = away.cut.answers;
+        passes = subst (λ fs. Passes f fs away.cut.answers now.told end) (λ i. frames_with f (sym away.same_key i) (sym away.history i))
+            (Passes-cut f (Hello ∷ []) now.told end away.events away.cause away.stops away.adds away.cut);
+        prints = Prints-none m away.cut.answers now.written end.outside.written away.unprinted;
+        ended = λ few. absurd (omega (arith, few, ap status_of away.stops, cut_status _ away.cut.cut away.cause away.cut.one_more));
+      }
+  goes number (Some (Key key) ∷ lines) now end (inr (inr (next, greeted, runs))) =
+      let m = follow is_built (opened key) (number + 1) lines false in
+      let w = went (opened key) (number + 1) lines false next end runs in record {
+        key = inr (w.same_key ∙ sym (follow-key is_built (opened key) (number + 1) lines false));
+        history = w.history;
+        answers = w.answers;
+        passes = subst (λ fs. Passes f fs w.answers now.told end) (sym w.frames ∙ ap (λ k. frames_with f k end.history) (sym w.same_key))
+            (Passes-behind f (Hello ∷ []) w.more [] w.answers now.told next.told end greeted.events greeted.adds greeted.exchanged w.passes);
+        prints = record { p = w.prints.p; written = w.prints.written ∙ ap (λ o. append_known o (take w.prints.p (text_with w.answers m.shown))) greeted.unprinted };
+        ended = λ few.
+            let well = w.ended_well few in
+            (well.0, w.same_key ∙ sym (follow-key is_built (opened key) (number + 1) lines false), well.1, well.2 ∙ ap (λ o. append_known o (text_with w.answers m.shown)) greeted.unprinted);
+      }

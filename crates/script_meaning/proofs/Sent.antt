@@ -1,0 +1,90 @@
+-- The frames that a run sent, with the command in hand, are the first of those of its script.
+use Rattle.std.proofs.Common.{◌≡◌, ◌⊎◌, ℕ, ◌+◌, inl, inr, List, [], ◌∷◌, ◌++◌, map, take, drop, None, Some, refl, sym, ap, ◌∙◌}
+use Rattle.std.specs.Prelude.{Option}
+use Rattle.std.proofs.Math.Seq.{take-add}
+use Rattle.std.proofs.lemmas.List.{map-append}
+use Rattle.client_registry.specs.Histories.{IsFirstOf}
+use Rattle.client_registry.specs.Run.{History}
+use Rattle.keyed_fn.specs.KeyedFn.{KeyedFn}
+use Rattle.sse_frames.specs.Frames.{FrameText, frame_bytes}
+use Rattle.sse_frames.specs.Replies.{ReplyText}
+use Rattle.sse_link.specs.Events.{Event, Sent, Received}
+use Rattle.sse_model.proofs.HistoryLaws.{frames_sent-first}
+use Rattle.sse_model.specs.Exchange.{asked, expected, first_answer, answers_behind, exchange}
+use Rattle.sse_model.specs.Transcript as model
+use Rattle.sse_script.specs.Shown.{Cause}
+use Rattle.script_meaning.specs.Carries.{Outside}
+use Rattle.script_meaning.specs.Exchange.{IsCut, as_event, bare, sent_in}
+use Rattle.script_meaning.specs.Goes.{IsLeft, Passes, Goes}
+use Rattle.script_meaning.specs.Meaning.{Meaning}
+use Rattle.script_meaning.specs.Runs.{Ended}
+use Rattle.script_meaning.specs.Session.{frames_with, frames_of}
+use Rattle.script_meaning.proofs.Going.{front_more}
+
+sent_in-append : (xs ys : List Event) → sent_in (xs ++ ys) ≡ sent_in xs ++ sent_in ys
+sent_in-append [] ys = refl
+sent_in-append (Sent bytes mark ∷ xs) ys = ap (λ frames. bytes ∷ frames) (sent_in-append xs ys)
+sent_in-append (Received bytes ∷ xs) ys = sent_in-append xs ys
+
+sent_in-bare : (events : List Event) → sent_in (map bare events) ≡ sent_in events
+sent_in-bare [] = refl
+sent_in-bare (Sent bytes mark ∷ events) = ap (λ frames. bytes ∷ frames) (sent_in-bare events)
+sent_in-bare (Received bytes ∷ events) = sent_in-bare events
+
+sent_in-received : (replies : List (List ℕ)) → sent_in (map Received replies) ≡ []
+sent_in-received [] = refl
+sent_in-received (reply ∷ replies) = sent_in-received replies
+
+sent_in-replies : (rs : List ReplyText) (later : List model.Passed) → sent_in (map as_event (map model.Received rs ++ later)) ≡ sent_in (map as_event later)
+sent_in-replies [] later = refl
+sent_in-replies (r ∷ rs) later = sent_in-replies rs later
+
+sent_in-exchange : (answers : List (List ℕ)) (frames : List FrameText) → sent_in (map as_event (exchange answers frames)) ≡ map frame_bytes frames
+sent_in-exchange answers [] = refl
+sent_in-exchange answers (frame ∷ frames) =
+    ap (λ rest. frame_bytes frame ∷ rest) (sent_in-replies (expected (first_answer answers) (asked frame)) _ ∙ sent_in-exchange (answers_behind (asked frame) answers) frames)
+
+sent_in-cut : (left : List FrameText) (cut : List Event) (cause : Cause) → IsCut left cut cause → (k : ℕ) × (sent_in cut ≡ map frame_bytes (take k left))
+sent_in-cut [] cut cause is = (0, ap sent_in is.0)
+sent_in-cut (frame ∷ left) [] cause is = (0, refl)
+sent_in-cut (frame ∷ left) (Sent bytes mark ∷ cut) cause is = (1, λ i. is.0 i ∷ (ap sent_in is.1.1 ∙ sent_in-received is.1.0) i)
+sent_in-cut (frame ∷ left) (Received bytes ∷ cut) cause is = absurd is
+
+module _ (f : KeyedFn) (m : Meaning) (now : Outside) (end : Ended) (g : Goes f m now end) where
+  abbrev frames : List FrameText
+  frames = frames_with f end.key end.history
+
+  abbrev p : Passes f frames g.answers now.told end
+  p = g.passes
+
+  -- of the history up to where it stopped
+  pub sent_first : (k : ℕ) × (sent_in g.passes.events ≡ map frame_bytes (take k frames))
+  sent_first = (
+    p.n + last.0,
+    ap sent_in p.parts
+        ∙ sent_in-append p.before p.cut
+        ∙ (λ i. (sym (sent_in-bare p.before) ∙ ap sent_in p.exchanged.each ∙ sent_in-exchange g.answers (take p.n frames)) i ++ last.1 i)
+        ∙ sym (map-append frame_bytes (take p.n frames) (take last.0 (drop p.n frames)))
+        ∙ ap (map frame_bytes) (sym (take-add p.n last.0 frames)),
+  )
+    where
+      cut : IsLeft f end (drop p.n frames) p.cut → (k : ℕ) × (sent_in p.cut ≡ map frame_bytes (take k (drop p.n frames)))
+      cut (inl whole) = (0, ap sent_in whole.1)
+      cut (inr (inl stopped)) = sent_in-cut (drop p.n frames) p.cut stopped.0 stopped.2
+      cut (inr (inr collision)) = (0, ap sent_in collision.0)
+
+      last : (k : ℕ) × (sent_in p.cut ≡ map frame_bytes (take k (drop p.n frames)))
+      last = cut p.left
+
+  first_of : (key whole_key : Option (List ℕ)) (part whole : History) → (key ≡ None) ⊎ (key ≡ whole_key) → IsFirstOf part whole → (more : List FrameText) × (frames_with f whole_key whole ≡ frames_with f key part ++ more)
+  first_of key whole_key part whole (inl none) first = (frames_with f whole_key whole, ap (λ k. frames_with f k part ++ frames_with f whole_key whole) (sym none))
+  first_of key None part whole (inr same) first = ([], ap (λ k. frames_with f k part ++ []) (sym same))
+  first_of key (Some k) part whole (inr same) first =
+      let rest = frames_sent-first f (λ epoch. k) part whole first in (rest.0, rest.1 ∙ ap (λ x. frames_with f x part ++ rest.0) (sym same))
+
+  -- and so of the history that the script means
+  pub sent_front : (k : ℕ) × (sent_in g.passes.events ≡ map frame_bytes (take k (frames_of f m)))
+  sent_front =
+      let more = first_of end.key m.key end.history m.history g.key g.history in
+      let front = front_more sent_first.0 frames more.0 in
+      (front.0, sent_first.1 ∙ ap (map frame_bytes) (sym (ap (take front.0) more.1 ∙ front.1)))

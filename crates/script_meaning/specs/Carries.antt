@@ -1,0 +1,101 @@
+-- What one line of a script does: what passes for it, what it prints, and how a run stops within it.
+use Rattle.std.specs.Prelude.{◌≡◌, ◌≢◌, ◌⊎◌, ℕ, List, [], ◌∷◌, drop, flat_map, map, take, Option, Some, None, option_map}
+use Rattle.std.specs.Io.KnownBytes.{append_known}
+use Rattle.client_registry.specs.Live.{in_order}
+use Rattle.keyed_fn.specs.KeyedFn.{KeyedFn}
+use Rattle.sse_frames.specs.Frames.{FrameText}
+use Rattle.sse_link.specs.Events.{Event}
+use Rattle.sse_model.specs.Compared.{Collision, Labels, Places, Numbers}
+use Rattle.sse_model.specs.Exchange.{first_answer}
+use Rattle.sse_model.specs.Histories.{frames_of_first, frames_behind, collision_of_first, collision_behind}
+use Rattle.sse_script.specs.Shown.{Cause, LabelClash, PlaceClash, NumberClash, NoMemory}
+use Rattle.sse_script.specs.Shown.{Shown, Found}
+use Rattle.sse_script.specs.Texts.{text_of}
+use Rattle.script_meaning.specs.Exchange.{Told, Adds, AreExchanged, AreCut}
+use Rattle.script_meaning.specs.Outcome.{Place, Outcome, Collects, Refuses, SetsUp, Does, shown_by}
+use Rattle.script_meaning.specs.Stops.{Stop, SinkFault, At}
+
+-- what is seen of a run at one moment: what the link told, and what the sink took
+pub record Outside : Type 0 where
+  pub told : Told
+  pub written : Option (List ℕ)
+
+-- the keys of a place, by epoch
+abbrev pub keys_at : Place → ℕ → List ℕ
+keys_at place epoch = place.key
+
+-- the frames that a line sends at a place, where it comes to this
+abbrev pub frames_by : KeyedFn → Place → Outcome → List FrameText
+frames_by f place (Collects d) = []
+frames_by f place (Refuses refusal) = []
+frames_by f place (SetsUp s) = frames_of_first f (keys_at place) s
+frames_by f place (Does commands shown) = frames_behind f (keys_at place) place.history commands
+
+-- two equal values of what it sends, which a client that looks finds
+abbrev pub collision_by : KeyedFn → Place → Outcome → Option Collision
+collision_by f place (Collects d) = None
+collision_by f place (Refuses refusal) = None
+collision_by f place (SetsUp s) = collision_of_first f (keys_at place) s
+collision_by f place (Does commands shown) = collision_behind f (keys_at place) place.history commands
+
+abbrev pub collision_cause : Collision → Cause
+collision_cause (Labels first second) = LabelClash first second
+collision_cause (Places first second) = PlaceClash first second
+collision_cause (Numbers first second) = NumberClash first second
+
+-- why a run stops before a line sends anything, where two values of what it is to send are equal
+abbrev pub clash_in_hand : KeyedFn → Place → Outcome → Option Cause
+clash_in_hand f place result = option_map collision_cause (collision_by f place result)
+
+-- the printed lines where the searches have these answers
+abbrev pub with_answers : List (List ℕ) → List Shown → List Shown
+with_answers answers [] = []
+with_answers answers (Found found ∷ shown) = Found (first_answer answers) ∷ with_answers (drop 1 answers) shown
+with_answers answers (line ∷ shown) = line ∷ with_answers answers shown
+
+-- their text, the identifiers of each answer rising
+abbrev pub text_with : List (List ℕ) → List Shown → List ℕ
+text_with answers shown = flat_map text_of (with_answers (map in_order answers) shown)
+
+-- all frames of a line were exchanged, with these answers to its searches; none of the values compared in them are equal
+pub record IsSent (f : KeyedFn) (place : Place) (result : Outcome) (old new : Told) (answers : List (List ℕ)) : Type 0 where
+  pub events : List Event
+  pub adds : Adds old new events
+  pub exchanged : AreExchanged answers (frames_by f place result) events
+  pub no_clash : clash_in_hand f place result ≡ None
+
+-- a line that comes to this at a place is carried out: all its frames were exchanged, and all its lines printed
+pub record Carries (f : KeyedFn) (place : Place) (result : Outcome) (now next : Outside) : Type 0 where
+  pub answers : List (List ℕ)
+  pub sent : IsSent f place result now.told next.told answers
+  pub printed : next.written ≡ append_known now.written (text_with answers (shown_by result))
+
+-- it stops a run for a collision that the client found: nothing was sent of it, and nothing is printed
+pub record FindsClash (f : KeyedFn) (place : Place) (result : Outcome) (now end : Outside) (stop : Stop) : Type 0 where
+  pub cause : Cause
+  pub found : clash_in_hand f place result ≡ Some cause
+  pub stops : stop ≡ At cause
+  pub nothing : end ≡ now
+
+-- it stops a run within its frames: a front of them was exchanged, of the next one at most a part, and nothing is printed
+pub record IsCutShort (f : KeyedFn) (place : Place) (result : Outcome) (now end : Outside) (stop : Stop) : Type 0 where
+  pub cause : Cause
+  pub stops : stop ≡ At cause
+  pub events : List Event
+  pub adds : Adds now.told end.told events
+  pub cut : AreCut (frames_by f place result) events cause
+  pub no_clash : events ≢ [] → clash_in_hand f place result ≡ None
+  pub unprinted : end.written ≡ now.written
+
+-- it stops a run behind its frames: all of them were exchanged, and a front of its lines is printed
+pub record IsUnprinted (f : KeyedFn) (place : Place) (result : Outcome) (now end : Outside) (stop : Stop) : Type 0 where
+  pub stops : (stop ≡ SinkFault) ⊎ (stop ≡ At NoMemory)
+  pub answers : List (List ℕ)
+  pub sent : IsSent f place result now.told end.told answers
+  pub some : shown_by result ≢ []
+  pub p : ℕ
+  pub printed : end.written ≡ append_known now.written (take p (text_with answers (shown_by result)))
+
+abbrev pub StopsIn : KeyedFn → Place → Outcome → Outside → Outside → Stop → Type 0
+StopsIn f place result now end stop =
+    FindsClash f place result now end stop ⊎ IsCutShort f place result now end stop ⊎ IsUnprinted f place result now end stop

@@ -1,0 +1,51 @@
+-- What follows from a run over any link, by the meaning of its script: what passed is the first of the session of the history
+-- up to where it stopped, and what was printed is the first of the meaning's lines with the answers that came.
+use Rattle.std.specs.Prelude.{◌≡◌, ◌⊎◌, ◌≤◌, ℕ, List, [], ◌++◌, take, drop, None, Option}
+use Rattle.std.specs.Io.KnownBytes.{append_known}
+use Rattle.client_registry.specs.Histories.{IsFirstOf}
+use Rattle.keyed_fn.specs.KeyedFn.{KeyedFn}
+use Rattle.sse_frames.specs.Frames.{FrameText}
+use Rattle.sse_link.specs.Events.{Event}
+use Rattle.sse_script.specs.Shown.{Cause}
+use Rattle.script_meaning.specs.Carries.{Outside, text_with}
+use Rattle.script_meaning.specs.Exchange.{Told, Adds, AreExchanged, IsCut}
+use Rattle.script_meaning.specs.Meaning.{Meaning}
+use Rattle.script_meaning.specs.Runs.{Ended}
+use Rattle.script_meaning.specs.Session.{frames_with, IsFree}
+use Rattle.script_meaning.specs.Stops.{At, status_of}
+
+-- why a run sent no more than it did: no frame is left, where neither a collision nor a reply stopped it; of the first frame
+-- that is left a part passed; or a collision was found, of a history that is to have none
+abbrev pub IsLeft : KeyedFn → Ended → List FrameText → (cut : List Event) → Type 0
+IsLeft f end left cut =
+    ((left ≡ []) × (cut ≡ []) × (status_of end.stop ≤ 7))
+    ⊎ ((cause : Cause) × (end.stop ≡ At cause) × IsCut left cut cause)
+    ⊎ ((cut ≡ []) × (IsFree f end.key end.history → ⊥))
+
+-- the first n of these frames were exchanged, with these answers, and at most a part of the next; all of them, where the run
+-- came to the end of its script or to a bad line
+pub record Passes (f : KeyedFn) (frames : List FrameText) (answers : List (List ℕ)) (now : Told) (end : Ended) : Type 0 where
+  pub events : List Event
+  pub adds : Adds now end.outside.told events
+  pub n : ℕ
+  pub before : List Event
+  pub cut : List Event
+  pub parts : events ≡ before ++ cut
+  pub exchanged : AreExchanged answers (take n frames) before
+  pub left : IsLeft f end (drop n frames) cut
+  pub whole : status_of end.stop ≤ 2 → AreExchanged answers frames events
+
+-- a front of the meaning's lines is printed, with these answers
+pub record Prints (m : Meaning) (answers : List (List ℕ)) (now end : Option (List ℕ)) : Type 0 where
+  pub p : ℕ
+  pub written : end ≡ append_known now (take p (text_with answers m.shown))
+
+pub record Goes (f : KeyedFn) (m : Meaning) (now : Outside) (end : Ended) : Type 0 where
+  pub key : (end.key ≡ None) ⊎ (end.key ≡ m.key)
+  pub history : IsFirstOf end.history m.history
+  pub answers : List (List ℕ)
+  pub passes : Passes f (frames_with f end.key end.history) answers now.told end
+  pub prints : Prints m answers now.written end.outside.written
+  -- at the end of the script or at a bad line that is all that it means
+  pub ended : status_of end.stop ≤ 2
+      → (end.stop ≡ m.end) × (end.key ≡ m.key) × (end.history ≡ m.history) × (end.outside.written ≡ append_known now.written (text_with answers m.shown))

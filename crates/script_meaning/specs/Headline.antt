@@ -1,0 +1,44 @@
+-- A run that nothing disturbed, and what it did.
+use Rattle.std.specs.Prelude.{◌≡◌, ◌≢◌, ℕ, List, ◌++◌, flat_map, map, take, Some}
+use Rattle.std.specs.Io.KnownBytes.{append_known}
+use Rattle.keyed_fn.specs.KeyedFn.{KeyedFn}
+use Rattle.server_core.specs.State as server
+use Rattle.server_core.specs.State.{ServerState}
+use Rattle.server_core.specs.Step.{steps}
+use Rattle.sse_link.specs.Events.{Event}
+use Rattle.sse_link.specs.Served.{IsHonest}
+use Rattle.sse_script.specs.Texts.{text_of}
+use Rattle.script_meaning.specs.Carries.{Outside}
+use Rattle.script_meaning.specs.Exchange.{Told, Adds, as_event, bare}
+use Rattle.script_meaning.specs.Meaning.{Meaning}
+use Rattle.script_meaning.specs.Session.{frames_of, session_of}
+use Rattle.script_meaning.specs.Stops.{stop_text, status_of}
+
+-- what passed between these two moments is told, and is an honest transcript from a server that had taken nothing, which it
+-- left in this state
+pub record IsOverHonest (f : KeyedFn) (now end : Told) (behind : ServerState) : Type 0 where
+  pub past : List Event
+  pub told : now ≡ Some past
+  pub events : List Event
+  pub adds : Adds now end events
+  pub honest : IsHonest f server.at_first events behind
+
+-- no device stopped the run, and memory wasn't wanting
+pub record IsCalm (status : ℕ) : Type 0 where
+  pub source : status ≢ 3
+  pub sink : status ≢ 4
+  pub link : status ≢ 5
+  pub disk : status ≢ 6
+  pub memory : status ≢ 7
+
+-- between these two moments a script of this meaning was carried out, with this status: its lines were printed, each search
+-- with the identifiers of the live documents that hold its word, and a front of the line that says why it stopped; all that
+-- passed is what the meaning's history makes, and the server at the other end is one that was sent its frames
+pub record Headline (f : KeyedFn) (m : Meaning) (now end : Outside) (status : ℕ) (behind : ServerState) : Type 0 where
+  pub status_is : status ≡ status_of m.end
+  pub q : ℕ
+  pub printed : end.written ≡ append_known now.written (flat_map text_of m.shown ++ take q (stop_text m.end))
+  pub events : List Event
+  pub adds : Adds now.told end.told events
+  pub session : map bare events ≡ map as_event (session_of f m)
+  pub stored : behind ≡ (steps f server.at_first (frames_of f m)).0

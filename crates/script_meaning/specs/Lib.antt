@@ -1,0 +1,12 @@
+pub mod Lines
+pub mod Refused
+pub mod Outcome
+pub mod Built
+pub mod Stops
+pub mod Meaning
+pub mod Exchange
+pub mod Carries
+pub mod Runs
+pub mod Session
+pub mod Goes
+pub mod Headline

@@ -1,0 +1,114 @@
+-- What a run does over the lines that are left of its script, from whatever place it begins at.
+use Rattle.std.specs.Prelude.{◌≡◌, ◌⊎◌, ℕ, ◌+◌, Bool, false, ◌||◌, List, [], ◌∷◌, take, Option, None, Some, IfSome}
+use Rattle.std.specs.Io.KnownBytes.{append_known}
+use Rattle.client_registry.specs.Histories.{empty}
+use Rattle.client_registry.specs.Run.{History}
+use Rattle.keyed_fn.specs.KeyedFn.{KeyedFn}
+use Rattle.sse_frames.specs.Frames.{Hello}
+use Rattle.sse_link.specs.Events.{Event}
+use Rattle.sse_script.specs.Shown.{Cause, BadLine, SourceFault, NoMemory}
+use Rattle.script_meaning.specs.Built.{is_built, comes_to}
+use Rattle.script_meaning.specs.Carries.{Outside, Carries, StopsIn}
+use Rattle.script_meaning.specs.Exchange.{Adds, AreExchanged, AreCut}
+use Rattle.script_meaning.specs.Lines.{Line, Empty, Key, Command, lines_in}
+use Rattle.script_meaning.specs.Outcome.{Place, Outcome, opened, after, is_refusal}
+use Rattle.script_meaning.specs.Stops.{Stop, AtEnd, At, stop_text}
+
+-- where a run stopped: what is seen then, the key where its key line was read, the history up to there with the command in
+-- hand, and why. The last line isn't printed yet
+pub record Ended : Type 0 where
+  pub outside : Outside
+  pub key : Option (List ℕ)
+  pub history : History
+  pub stop : Stop
+
+abbrev pub ended : Outside → Option (List ℕ) → History → Stop → Ended
+ended outside key history stop = record { outside = outside; key = key; history = history; stop = stop }
+
+-- a run stops here, as nothing more passes and nothing is printed: as the reading of its script stops, by a fault of the
+-- source or for want of memory
+abbrev pub StopsReading : Outside → Option (List ℕ) → History → Ended → Type 0
+StopsReading now key history end = (end ≡ ended now key history (At SourceFault)) ⊎ (end ≡ ended now key history (At NoMemory))
+
+-- or for this
+abbrev pub StopsHere : Outside → Option (List ℕ) → History → Stop → Ended → Type 0
+StopsHere now key history stop end = (end ≡ ended now key history stop) ⊎ StopsReading now key history end
+
+-- a run stops in the line in hand
+pub record Stops (f : KeyedFn) (place : Place) (result : Outcome) (now : Outside) (end : Ended) : Type 0 where
+  pub within : StopsIn f place result now end.outside end.stop
+  pub key : end.key ≡ Some place.key
+  pub history : end.history ≡ (after result place).history
+
+-- a run over these lines, which begins at a place and at this moment and ends there: the first line has this number, and a
+-- command was refused before it or none
+abbrev pub Runs : KeyedFn → Place → (number : ℕ) → List (Option Line) → (refused : Bool) → Outside → Ended → Type 0
+Runs f place number [] refused now end = StopsHere now (Some place.key) place.history (AtEnd refused) end
+Runs f place number (None ∷ lines) refused now end = StopsHere now (Some place.key) place.history (At (BadLine number)) end
+Runs f place number (Some Empty ∷ lines) refused now end =
+    StopsReading now (Some place.key) place.history end ⊎ Runs f place (number + 1) lines refused now end
+Runs f place number (Some (Key key) ∷ lines) refused now end = StopsHere now (Some place.key) place.history (At (BadLine number)) end
+Runs f place number (Some (Command line) ∷ lines) refused now end =
+    let result = comes_to is_built place line in
+    StopsReading now (Some place.key) place.history end
+    ⊎ Stops f place result now end
+    ⊎ ((next : Outside) × Carries f place result now next × Runs f (after result place) (number + 1) lines (refused || is_refusal result) next end)
+
+-- the session is opened, which prints nothing: Hello was exchanged
+pub record IsGreeted (now next : Outside) : Type 0 where
+  pub events : List Event
+  pub adds : Adds now.told next.told events
+  pub exchanged : AreExchanged [] (Hello ∷ []) events
+  pub unprinted : next.written ≡ now.written
+
+-- or at most a part of its exchange passed before the run stopped
+pub record IsTurnedAway (key : List ℕ) (now : Outside) (end : Ended) : Type 0 where
+  pub cause : Cause
+  pub stops : end.stop ≡ At cause
+  pub events : List Event
+  pub adds : Adds now.told end.outside.told events
+  pub cut : AreCut (Hello ∷ []) events cause
+  pub unprinted : end.outside.written ≡ now.written
+  pub same_key : end.key ≡ Some key
+  pub history : end.history ≡ empty
+
+-- a run over these lines from before its key line: empty ones, the key line, the greeting, and what follows
+abbrev pub Opens : KeyedFn → (number : ℕ) → List (Option Line) → Outside → Ended → Type 0
+Opens f number (Some Empty ∷ lines) now end = StopsReading now None empty end ⊎ Opens f (number + 1) lines now end
+Opens f number (Some (Key key) ∷ lines) now end =
+    StopsReading now None empty end
+    ⊎ IsTurnedAway key now end
+    ⊎ ((next : Outside) × IsGreeted now next × Runs f (opened key) (number + 1) lines false next end)
+Opens f number _ now end = StopsHere now None empty (At (BadLine number)) end
+
+-- what follows the stop: a front of the last line is printed, and nothing else passes
+pub record Ends (end : Ended) (last : Outside) : Type 0 where
+  pub told : last.told ≡ end.outside.told
+  pub q : ℕ
+  pub printed : last.written ≡ append_known end.outside.written (take q (stop_text end.stop))
+
+-- Where lines are taken from a source, of which nothing may be known.
+
+-- a moment of a run: where it stands in its script, the number of the next line, the texts of those that are left, whether a
+-- command was refused, and what is seen
+pub record Moment : Type 0 where
+  pub place : Place
+  pub number : ℕ
+  pub left : Option (List (List ℕ))
+  pub refused : Bool
+  pub outside : Outside
+
+abbrev pub moment : Place → ℕ → Option (List (List ℕ)) → Bool → Outside → Moment
+moment place number left refused outside = record { place = place; number = number; left = left; refused = refused; outside = outside }
+
+-- a run from this moment ends there, where the lines that are left are known
+abbrev pub RunsFrom : KeyedFn → Moment → Ended → Type 0
+RunsFrom f now end = IfSome now.left (λ texts. Runs f now.place now.number (lines_in texts) now.refused now.outside end)
+
+-- the same before the key line
+abbrev pub OpensFrom : KeyedFn → (number : ℕ) → Option (List (List ℕ)) → Outside → Ended → Type 0
+OpensFrom f number left now end = IfSome left (λ texts. Opens f number (lines_in texts) now end)
+
+-- the same at a key line, with these texts behind it
+abbrev pub OpensAtKey : KeyedFn → (key : List ℕ) (number : ℕ) → Option (List (List ℕ)) → Outside → Ended → Type 0
+OpensAtKey f key number behind now end = IfSome behind (λ texts. Opens f number (Some (Key key) ∷ lines_in texts) now end)

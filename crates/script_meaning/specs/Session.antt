@@ -1,0 +1,31 @@
+-- All that passes for a script, and the collisions that it must not have.
+use Rattle.std.specs.Prelude.{List, ℕ, [], Option, None, Some}
+use Rattle.client_registry.specs.Run.{History}
+use Rattle.keyed_fn.specs.KeyedFn.{KeyedFn}
+use Rattle.sse_frames.specs.Frames.{FrameText}
+use Rattle.sse_model.specs.Histories.{frames_sent, HasNoCollision}
+use Rattle.sse_model.specs.Transcript.{Passed, session}
+use Rattle.script_meaning.specs.Meaning.{Meaning}
+
+-- all that passes for a history under this key: nothing without a key
+abbrev pub session_with : KeyedFn → Option (List ℕ) → History → List Passed
+session_with f None h = []
+session_with f (Some key) h = session f (λ epoch. key) h
+
+-- for a script of this meaning
+abbrev pub session_of : KeyedFn → Meaning → List Passed
+session_of f m = session_with f m.key m.history
+
+-- the frames that are sent for a history under this key
+abbrev pub frames_with : KeyedFn → Option (List ℕ) → History → List FrameText
+frames_with f None h = []
+frames_with f (Some key) h = frames_sent f (λ epoch. key) h
+
+-- for a script of this meaning
+abbrev pub frames_of : KeyedFn → Meaning → List FrameText
+frames_of f m = frames_with f m.key m.history
+
+-- no values of a history under this key that have to differ are equal
+abbrev pub IsFree : KeyedFn → Option (List ℕ) → History → Type 0
+IsFree f None h = Unit {0}
+IsFree f (Some key) h = HasNoCollision f (λ epoch. key) h
