@@ -19,7 +19,7 @@ use Rattle.sse_client.specs.LineFaults.{SaysRefusal, refusal_shown}
 use Rattle.sse_client.specs.Outcome.{Place, Outcome, Nothing, Collects, Refuses, SetsUp, Does, document, unless}
 use Rattle.sse_client.specs.OutcomeViews.{outcome_view, refuses}
 use Rattle.sse_client.specs.Progress.{Told, IsSearched, IsCutShort, IsCutAt}
-use Rattle.sse_client.specs.Refused.{bad_word, collect_refusal}
+use Rattle.script_meaning.specs.Refused.{bad_word, collect_refusal}
 use Rattle.sse_client.specs.Stages.{stage_view, open_documents, place_view, is_alone, comes_to, DidAs}
 use Rattle.sse_client.specs.Stops.{peer_cause}
 use Rattle.sse_client.specs.declared.line_fault.LineFault.{LineFault}

@@ -17,7 +17,7 @@ use Rattle.sse_client.specs.declared.session.Stage.{Stage}
 use Rattle.sse_client.specs.Built.{is_built, limited}
 use Rattle.sse_client.specs.LineFaults.{SaysRefusal, refusal_shown}
 use Rattle.sse_client.specs.Outcome.{Place, document, unless, Collects}
-use Rattle.sse_client.specs.Refused.{collect_refusal}
+use Rattle.script_meaning.specs.Refused.{collect_refusal}
 use Rattle.sse_client.specs.Stages.{stage_view, open_documents, place_view, comes_to, DidAs}
 
 -- the outcome of a line without a line of its own, by what was done

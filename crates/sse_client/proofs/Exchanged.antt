@@ -1,37 +1,37 @@
 -- What is exchanged over an honest link: the server steps through all frames, and its replies begin with those that were received.
-use Rattle.std.proofs.Common.{◌≡◌, ℕ, ◌<◌, List, [], ◌∷◌, ◌++◌, map, slice_index, None, refl, sym, ap, ◌∙◌, subst, arith, inl, inr}
+use Rattle.std.proofs.Common.{◌≡◌, ℕ, ◌<◌, List, [], ◌∷◌, ◌++◌, map, slice_index, refl, sym, ap, ◌∙◌, subst, arith, inl, inr}
 use Rattle.std.specs.List.{AllByRecursion}
 use Rattle.std.proofs.lemmas.List.{map-append}
 use Rattle.keyed_fn.specs.KeyedFn.{KeyedFn}
 use Rattle.sse_frames.specs.Frames.{FrameText, Hello, SetupBegin, SetupDict, SetupArray, SetupEnd, AddFrame, DeleteFrame, SearchFrame, InGrammar, frame_bytes}
-use Rattle.sse_frames.specs.Reading.{IsBuilt}
 use Rattle.sse_frames.specs.Replies.{ReplyText, NoMemory, reply_bytes}
 use Rattle.sse_frames.specs.Sending.{pages_of}
 use Rattle.list_packing.specs.Parts.{parts}
 use Rattle.server_core.specs.Step.{step, steps}
 use Rattle.sse_model.specs.Transcript as model
-use Rattle.sse_link.proofs.Honest.{IsServed-exchange}
+use Rattle.sse_link.proofs.Honest.{Serves-unmarked, IsServed-exchange}
 use Rattle.sse_link.specs.Events.{Event, Sent, Received}
 use Rattle.sse_link.specs.Served.{Served, IsServed}
+use Rattle.sse_link.specs.declared.mark.Mark.TheVariants.{Unknown}
 use Rattle.sse_client.specs.Exchange.{first_answer, expected, answers_behind, exchange, as_event, bare}
 
--- events are served whether or not the server's state behind them is told
+-- events are served whether or not it is told how their frames were answered
 pub IsServed-bare : (f : KeyedFn) (start end : Served) (events : List Event) → IsServed f start events end → IsServed f start (map bare events) end
 IsServed-bare f start end [] served = served
-IsServed-bare f start end (Sent bytes behind ∷ events) served = (served.0, tt, served.2, IsServed-bare f served.0 end events served.3)
+IsServed-bare f start end (Sent bytes mark ∷ events) served = (served.0, Serves-unmarked f start.state bytes mark served.0 served.1, IsServed-bare f served.0 end events served.2)
 IsServed-bare f start end (Received bytes ∷ events) served = (served.0, served.1, IsServed-bare f _ end events served.2)
 
-events_received : (rs : List ReplyText) → map as_event (map model.Received rs) ≡ map Received (map reply_bytes rs)
+pub events_received : (rs : List ReplyText) → map as_event (map model.Received rs) ≡ map Received (map reply_bytes rs)
 events_received [] = refl
 events_received (r ∷ rs) = ap (λ more. Received (reply_bytes r) ∷ more) (events_received rs)
 
 -- the events of an exchange: the first frame, its replies, and those of the others
 pub events-exchange : (answers : List (List ℕ)) (frame : FrameText) (frames : List FrameText) → map as_event (exchange answers (frame ∷ frames))
-    ≡ Sent (frame_bytes frame) None ∷ (map Received (map reply_bytes (expected (first_answer answers) frame)) ++ map as_event (exchange (answers_behind frame answers) frames))
+    ≡ Sent (frame_bytes frame) Unknown ∷ (map Received (map reply_bytes (expected (first_answer answers) frame)) ++ map as_event (exchange (answers_behind frame answers) frames))
 events-exchange answers frame frames =
     let rs = expected (first_answer answers) frame in
     let later = exchange (answers_behind frame answers) frames in
-    ap (λ more. Sent (frame_bytes frame) None ∷ more) (map-append as_event (map model.Received rs) later ∙ ap (λ more. more ++ map as_event later) (events_received rs))
+    ap (λ more. Sent (frame_bytes frame) Unknown ∷ more) (map-append as_event (map model.Received rs) later ∙ ap (λ more. more ++ map as_event later) (events_received rs))
 
 -- Out of memory is no reply that is expected.
 
@@ -59,10 +59,6 @@ not_lacking ids (SearchFrame token) due e = no_kind 0x85 (omega arith) _ (kind_o
 
 -- One frame.
 
--- frames of the grammar that a server reads
-abbrev pub IsSendable : FrameText → Type 0
-IsSendable frame = InGrammar frame × IsBuilt frame
-
 -- the server behind the first of these frames made its step, whose replies begin with those expected
 pub record IsBehindFirst (f : KeyedFn) (start end : Served) (answers : List (List ℕ)) (frame : FrameText) (frames : List FrameText) (after : Served) : Type 0 where
   pub state : after.state ≡ (step f start.state frame).0
@@ -70,39 +66,39 @@ pub record IsBehindFirst (f : KeyedFn) (start end : Served) (answers : List (Lis
   pub later : IsServed f after (map as_event (exchange (answers_behind frame answers) frames)) end
 
 -- where these frames were exchanged, the server made its step at the first
-pub first_exchanged : (f : KeyedFn) (start end : Served) (answers : List (List ℕ)) (frame : FrameText) (frames : List FrameText) → IsSendable frame
+pub first_exchanged : (f : KeyedFn) (start end : Served) (answers : List (List ℕ)) (frame : FrameText) (frames : List FrameText) → InGrammar frame
     → IsServed f start (map as_event (exchange answers (frame ∷ frames))) end → (after : Served) × IsBehindFirst f start end answers frame frames after
-first_exchanged f start end answers frame frames sendable served =
-    let one = IsServed-exchange f start end frame None (map reply_bytes (expected (first_answer answers) frame)) _ sendable.0 sendable.1
+first_exchanged f start end answers frame frames grammar served =
+    let one = IsServed-exchange f start end frame Unknown (map reply_bytes (expected (first_answer answers) frame)) _ grammar
     (subst (λ events. IsServed f start events end) (events-exchange answers frame frames) served) in (
       one.0,
       elim one.1 [
-        | inl stepped ↦ record { state = stepped.0; replies = stepped.1; later = one.2 }
-        | inr lacked ↦ absurd (not_lacking (first_answer answers) frame one.0.due lacked.2)
+        | inl stepped ↦ record { state = stepped.state; replies = stepped.replies_are; later = one.2 }
+        | inr lacked ↦ absurd (not_lacking (first_answer answers) frame one.0.due lacked.replies_are)
       ],
     )
 
 -- Several frames.
 
 -- behind all frames the server is where their steps lead
-pub state_exchanged : (f : KeyedFn) (start end : Served) (answers : List (List ℕ)) (frames : List FrameText) → AllByRecursion IsSendable frames
+pub state_exchanged : (f : KeyedFn) (start end : Served) (answers : List (List ℕ)) (frames : List FrameText) → AllByRecursion InGrammar frames
     → IsServed f start (map as_event (exchange answers frames)) end → end.state ≡ (steps f start.state frames).0
-state_exchanged f start end answers [] sendable served = ap (λ (s : Served). s.state) (sym served)
-state_exchanged f start end answers (frame ∷ frames) sendable served =
-    let one = first_exchanged f start end answers frame frames sendable.0 served in
-    state_exchanged f one.0 end (answers_behind frame answers) frames sendable.1 one.1.later ∙ ap (λ s. (steps f s frames).0) one.1.state
+state_exchanged f start end answers [] grammar served = sym served.0
+state_exchanged f start end answers (frame ∷ frames) grammar served =
+    let one = first_exchanged f start end answers frame frames grammar.0 served in
+    state_exchanged f one.0 end (answers_behind frame answers) frames grammar.1 one.1.later ∙ ap (λ s. (steps f s frames).0) one.1.state
 
 -- a frame that asks for no answer
 abbrev pub AsksNothing : FrameText → Type 0
 AsksNothing frame = (answers : List (List ℕ)) → answers_behind frame answers ≡ answers
 
 -- behind frames that ask for no answer the server is where their steps lead, and the others were exchanged from there
-pub front_exchanged : (f : KeyedFn) (start end : Served) (answers : List (List ℕ)) (xs ys : List FrameText) → AllByRecursion IsSendable xs → AllByRecursion AsksNothing xs
+pub front_exchanged : (f : KeyedFn) (start end : Served) (answers : List (List ℕ)) (xs ys : List FrameText) → AllByRecursion InGrammar xs → AllByRecursion AsksNothing xs
     → IsServed f start (map as_event (exchange answers (xs ++ ys))) end
     → (mid : Served) × (mid.state ≡ (steps f start.state xs).0) × IsServed f mid (map as_event (exchange answers ys)) end
-front_exchanged f start end answers [] ys sendable ask served = (start, refl, served)
-front_exchanged f start end answers (frame ∷ xs) ys sendable ask served =
-    let one = first_exchanged f start end answers frame (xs ++ ys) sendable.0 served in
-    let rest = front_exchanged f one.0 end answers xs ys sendable.1 ask.1
+front_exchanged f start end answers [] ys grammar ask served = (start, refl, served)
+front_exchanged f start end answers (frame ∷ xs) ys grammar ask served =
+    let one = first_exchanged f start end answers frame (xs ++ ys) grammar.0 served in
+    let rest = front_exchanged f one.0 end answers xs ys grammar.1 ask.1
     (subst (λ left. IsServed f one.0 (map as_event (exchange left (xs ++ ys))) end) (ask.0 answers) one.1.later) in
     (rest.0, rest.1 ∙ ap (λ s. (steps f s xs).0) one.1.state, rest.2)

@@ -1,10 +1,12 @@
 -- What is told of several calls of a link, one behind the other.
-use Rattle.std.proofs.Common.{◌≡◌, ℕ, List, [], ◌∷◌, ◌++◌, map, Option, Some, None, Ok, Err, Result, refl, sym, ap, subst, ◌∙◌, append_assoc, inl, inr, ◌⊎◌}
+use Rattle.std.proofs.Common.{◌≡◌, ℕ, List, [], ◌∷◌, ◌++◌, map, Some, None, Ok, Err, Result, refl, sym, ap, subst, ◌∙◌, append_assoc, inl, inr, ◌⊎◌}
 use Rattle.std.specs.Prelude.{option_map, IfErr, IsErrAnd}
 use Rattle.std.proofs.lemmas.List.{append-nil, map-append}
 use Rattle.sse_link.specs.declared.link_fault.LinkFault.{LinkFault}
 use Rattle.sse_link.specs.declared.link_fault.LinkFault.TheVariants as faults
-use Rattle.sse_link.specs.Events.{Event, Remote, Sent, Received}
+use Rattle.sse_link.specs.Events.{Event, Sent, Received}
+use Rattle.sse_link.specs.declared.mark.Mark.{Mark}
+use Rattle.sse_link.specs.declared.mark.Mark.TheVariants.{Unknown}
 use Rattle.sse_script.specs.Shown as cause
 use Rattle.sse_script.specs.Shown.{Cause}
 use Rattle.sse_frames.specs.Frames.{FrameText, frame_bytes}
@@ -44,7 +46,7 @@ from_outside faults.NoMemory = inr refl
 
 -- a fault of the link in sending leaves the frame without reply
 pub IsUnanswered-send : (old new : Told) (frame : List ℕ) (fault : LinkFault)
-    → (fault ≡ faults.Cut → (new ≡ old) ⊎ ((behind : Option Remote) × Adds old new (Sent frame behind ∷ [])))
+    → (fault ≡ faults.Cut → (new ≡ old) ⊎ ((mark : Mark) × Adds old new (Sent frame mark ∷ [])))
     → (fault ≡ faults.NoMemory → new ≡ old) → IsUnanswered old new frame (peer_cause (stop_of_link fault))
 IsUnanswered-send old new frame faults.Cut cut lacked = elim (cut refl) [
   | inl same ↦ record { events = []; adds = Adds-nothing old new same; most = inl refl; outside = inl refl }
@@ -53,7 +55,7 @@ IsUnanswered-send old new frame faults.Cut cut lacked = elim (cut refl) [
 IsUnanswered-send old new frame faults.NoMemory cut lacked = record { events = []; adds = Adds-nothing old new (lacked refl); most = inl refl; outside = inr refl }
 
 -- so does one in receiving
-pub IsUnanswered-recv : (old between new : Told) (frame : List ℕ) (fault : LinkFault) → ((behind : Option Remote) × Adds old between (Sent frame behind ∷ [])) → new ≡ between
+pub IsUnanswered-recv : (old between new : Told) (frame : List ℕ) (fault : LinkFault) → ((mark : Mark) × Adds old between (Sent frame mark ∷ [])) → new ≡ between
     → IsUnanswered old new frame (peer_cause (stop_of_link fault))
 IsUnanswered-recv old between new frame fault sent same = record {
   events = Sent frame sent.0 ∷ [];
@@ -72,7 +74,7 @@ pub ShowsInReplies-outside : (c : Cause) (frames : List FrameText) (replies : Li
 ShowsInReplies-outside c frames replies (inl e) = subst (ShowsInReplies frames replies) (sym e) tt
 ShowsInReplies-outside c frames replies (inr e) = subst (ShowsInReplies frames replies) (sym e) tt
 
-IsCut-most : (frame : FrameText) (frames : List FrameText) (events : List Event) → (events ≡ []) ⊎ ((behind : Option Remote) × (events ≡ Sent (frame_bytes frame) behind ∷ [])) → IsCut (frame ∷ frames) events
+IsCut-most : (frame : FrameText) (frames : List FrameText) (events : List Event) → (events ≡ []) ⊎ ((mark : Mark) × (events ≡ Sent (frame_bytes frame) mark ∷ [])) → IsCut (frame ∷ frames) events
 IsCut-most frame frames events (inl e) = subst (IsCut (frame ∷ frames)) (sym e) tt
 IsCut-most frame frames events (inr e) = subst (IsCut (frame ∷ frames)) (sym e.1) (refl, refl)
 
@@ -81,7 +83,7 @@ pub IsCutShort-unanswered : (old new : Told) (bytes : List ℕ) (frame : FrameTe
 IsCutShort-unanswered old new bytes frame frames c spelled un = record {
   events = un.events;
   adds = un.adds;
-  one = IsCut-most frame frames un.events (subst (λ b. (un.events ≡ []) ⊎ ((behind : Option Remote) × (un.events ≡ Sent b behind ∷ []))) spelled un.most);
+  one = IsCut-most frame frames un.events (subst (λ b. (un.events ≡ []) ⊎ ((mark : Mark) × (un.events ≡ Sent b mark ∷ []))) spelled un.most);
   shown = ShowsInReplies-outside c (frame ∷ frames) (received_in un.events) un.outside;
 }
 
@@ -140,7 +142,7 @@ IsExchanged-answered old new bytes reply answers frame r spelled replied expects
   events = Sent bytes answered.0 ∷ Received reply ∷ [];
   adds = answered.1;
   each =
-      ap (λ b. Sent b None ∷ Received reply ∷ []) spelled
-      ∙ ap (λ b. Sent (frame_bytes frame) None ∷ Received b ∷ []) replied
-      ∙ ap (λ rs. Sent (frame_bytes frame) None ∷ map as_event (map model.Received rs ++ [])) (sym expects);
+      ap (λ b. Sent b Unknown ∷ Received reply ∷ []) spelled
+      ∙ ap (λ b. Sent (frame_bytes frame) Unknown ∷ Received b ∷ []) replied
+      ∙ ap (λ rs. Sent (frame_bytes frame) Unknown ∷ map as_event (map model.Received rs ++ [])) (sym expects);
 }

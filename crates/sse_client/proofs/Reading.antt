@@ -1,9 +1,9 @@
 -- How far the reading of a search's pages is.
-use Rattle.std.proofs.Common.{◌≡◌, ℕ, ◌+◌, ◌≤◌, ◌^◌, Bool, true, false, List, [], ◌∷◌, ◌++◌, length, map, Option, None, refl, sym, ap, subst, ◌∙◌, append_assoc, length-append, arith, ◌⊎◌}
+use Rattle.std.proofs.Common.{◌≡◌, ℕ, ◌+◌, ◌≤◌, ◌^◌, Bool, true, false, List, [], ◌∷◌, ◌++◌, length, map, refl, sym, ap, subst, ◌∙◌, append_assoc, length-append, arith, ◌⊎◌}
 use Rattle.std.specs.List.{AllByRecursion}
 use Rattle.std.proofs.lemmas.List.{append-nil, map-append, length-map}
 use Rattle.std.proofs.lemmas.List.Elements.{All-from_recursion, recursion_from_All}
-use Rattle.client_core.specs.Faults.{IsReply}
+use Rattle.sse_frames.specs.Reading.{IsReply}
 use Rattle.client_core.specs.Pages.{IsNextPage, IsNoPage, IsRefused}
 use Rattle.client_core.specs.declared.reply_fault.ReplyFault.{ReplyFault}
 use Rattle.client_core.specs.declared.reply_fault.ReplyFault.TheVariants as faults
@@ -13,7 +13,9 @@ use Rattle.sse_frames.specs.Replies.{ReplyText, Page, IsPage, IsIdentifier, InRe
 use Rattle.sse_frames.specs.Sending.{pages}
 use Rattle.sse_frames.proofs.AnswerPages.{replies_back}
 use Rattle.sse_frames.proofs.Replied.{InReplies-pages}
-use Rattle.sse_link.specs.Events.{Remote, Sent, Received}
+use Rattle.sse_link.specs.Events.{Sent, Received}
+use Rattle.sse_link.specs.declared.mark.Mark.{Mark}
+use Rattle.sse_link.specs.declared.mark.Mark.TheVariants.{Unknown}
 use Rattle.sse_model.proofs.Counts.{AllByRecursion-append}
 use Rattle.sse_script.specs.Shown as cause
 use Rattle.sse_script.specs.Shown.{Cause}
@@ -32,32 +34,32 @@ page_replies took = map reply_bytes (full_pages took)
 
 -- this search was sent, and so many full pages received, which hold these identifiers
 pub record IsReading (old now : Told) (token items : List ℕ) (count : ℕ) : Type 0 where
-  pub behind : Option Remote
+  pub mark : Mark
   pub took : List (List ℕ)
-  pub adds : Adds old now (Sent (frame_bytes (SearchFrame token)) behind ∷ map Received (page_replies took))
+  pub adds : Adds old now (Sent (frame_bytes (SearchFrame token)) mark ∷ map Received (page_replies took))
   pub each : AllByRecursion (IsPage false) took
   pub items_are : items ≡ joined took
   pub counted : count ≡ length took
 
-page_replies-push : (took : List (List ℕ)) (ids : List ℕ) → page_replies (took ++ ids ∷ []) ≡ page_replies took ++ reply_bytes (Page false ids) ∷ []
+pub page_replies-push : (took : List (List ℕ)) (ids : List ℕ) → page_replies (took ++ ids ∷ []) ≡ page_replies took ++ reply_bytes (Page false ids) ∷ []
 page_replies-push took ids =
     ap (map reply_bytes) (map-append (λ x. Page false x) took (ids ∷ [])) ∙ map-append reply_bytes (full_pages took) (Page false ids ∷ [])
 
 -- one more reply
-adds_reply : (old now new : Told) (token items : List ℕ) (count : ℕ) (reading : IsReading old now token items count) (reply : List ℕ) → Adds now new (Received reply ∷ [])
-    → Adds old new (Sent (frame_bytes (SearchFrame token)) reading.behind ∷ map Received (page_replies reading.took ++ reply ∷ []))
+pub adds_reply : (old now new : Told) (token items : List ℕ) (count : ℕ) (reading : IsReading old now token items count) (reply : List ℕ) → Adds now new (Received reply ∷ [])
+    → Adds old new (Sent (frame_bytes (SearchFrame token)) reading.mark ∷ map Received (page_replies reading.took ++ reply ∷ []))
 adds_reply old now new token items count reading reply one =
-    subst (λ events. Adds old new (Sent (frame_bytes (SearchFrame token)) reading.behind ∷ events)) (sym (map-append Received (page_replies reading.took) (reply ∷ [])))
-    (Adds-joined old now new (Sent (frame_bytes (SearchFrame token)) reading.behind ∷ map Received (page_replies reading.took)) (Received reply ∷ []) reading.adds one)
+    subst (λ events. Adds old new (Sent (frame_bytes (SearchFrame token)) reading.mark ∷ events)) (sym (map-append Received (page_replies reading.took) (reply ∷ [])))
+    (Adds-joined old now new (Sent (frame_bytes (SearchFrame token)) reading.mark ∷ map Received (page_replies reading.took)) (Received reply ∷ []) reading.adds one)
 
 -- one more full page
 pub IsReading-next : (old now new : Told) (token items items' : List ℕ) (count count' : ℕ) (reply ids : List ℕ) → IsReading old now token items count → Adds now new (Received reply ∷ [])
     → IsNextPage count reply false ids → items' ≡ items ++ ids → count' ≡ count + 1 → IsReading old new token items' count'
 IsReading-next old now new token items items' count count' reply ids reading one page more counted = record {
-  behind = reading.behind;
+  mark = reading.mark;
   took = reading.took ++ ids ∷ [];
   adds =
-      subst (λ replies. Adds old new (Sent (frame_bytes (SearchFrame token)) reading.behind ∷ map Received replies)) (ap (λ x. page_replies reading.took ++ x ∷ []) page.reply.spelled ∙ sym (page_replies-push reading.took ids))
+      subst (λ replies. Adds old new (Sent (frame_bytes (SearchFrame token)) reading.mark ∷ map Received replies)) (ap (λ x. page_replies reading.took ++ x ∷ []) page.reply.spelled ∙ sym (page_replies-push reading.took ids))
       (adds_reply old now new token items count reading reply one);
   each = AllByRecursion-append (IsPage false) reading.took (ids ∷ []) reading.each (page.reply.grammar, tt);
   items_are = more ∙ ap (λ x. x ++ ids) reading.items_are ∙ sym (joined-push reading.took ids);
@@ -66,15 +68,15 @@ IsReading-next old now new token items items' count count' reply ids reading one
 
 -- The last page.
 
-bare_received : (replies : List (List ℕ)) → map bare (map Received replies) ≡ map Received replies
+pub bare_received : (replies : List (List ℕ)) → map bare (map Received replies) ≡ map Received replies
 bare_received [] = refl
 bare_received (reply ∷ replies) = ap (λ x. Received reply ∷ x) (bare_received replies)
 
-joined_ids : (took : List (List ℕ)) → AllByRecursion (IsPage false) took → AllByRecursion IsIdentifier (joined took)
+pub joined_ids : (took : List (List ℕ)) → AllByRecursion (IsPage false) took → AllByRecursion IsIdentifier (joined took)
 joined_ids [] each = tt
 joined_ids (ids ∷ took) each = AllByRecursion-append IsIdentifier ids (joined took) each.0.each (joined_ids took each.1)
 
-all_received : (took : List (List ℕ)) (reply ids : List ℕ) → AllByRecursion (IsPage false) took → IsReply (Page true ids) reply → (1 ≤ length took → 1 ≤ length ids)
+pub all_received : (took : List (List ℕ)) (reply ids : List ℕ) → AllByRecursion (IsPage false) took → IsReply (Page true ids) reply → (1 ≤ length took → 1 ≤ length ids)
     → page_replies took ++ reply ∷ [] ≡ map reply_bytes (pages (joined took ++ ids))
 all_received took reply ids each page some =
     ap (λ x. page_replies took ++ x ∷ []) page.spelled
@@ -94,10 +96,10 @@ IsSearched-last old now new token items items' found count reply ids reading one
           All-from_recursion IsIdentifier answer
           (AllByRecursion-append IsIdentifier (joined reading.took) ids (joined_ids reading.took reading.each) page.reply.grammar.each);
       exchanged = record {
-        events = Sent (frame_bytes (SearchFrame token)) reading.behind ∷ map Received replies;
+        events = Sent (frame_bytes (SearchFrame token)) reading.mark ∷ map Received replies;
         adds = adds_reply old now new token items count reading reply one;
         each =
-            ap (λ x. Sent (frame_bytes (SearchFrame token)) None ∷ x) (bare_received replies ∙ ap (map Received) (all_received reading.took reply ids reading.each page.reply some) ∙ sym (append-nil (map Received (map reply_bytes (pages answer)))))
+            ap (λ x. Sent (frame_bytes (SearchFrame token)) Unknown ∷ x) (bare_received replies ∙ ap (map Received) (all_received reading.took reply ids reading.each page.reply some) ∙ sym (append-nil (map Received (map reply_bytes (pages answer)))))
             ∙ sym (events-exchange (answer ∷ []) (SearchFrame token) []);
       };
       rising = rising ∙ ap in_order (more ∙ ap (λ x. x ++ ids) reading.items_are);
@@ -117,13 +119,13 @@ received_received (reply ∷ replies) = ap (λ x. reply ∷ x) (received_receive
 pub IsCutShort-reading : (old now new : Told) (token items : List ℕ) (count : ℕ) (c : Cause) → IsReading old now token items count → new ≡ now
     → (c ≡ cause.LinkFault) ⊎ (c ≡ cause.NoMemory) → IsCutShort old new (SearchFrame token ∷ []) c
 IsCutShort-reading old now new token items count c reading same outside = record {
-  events = Sent (frame_bytes (SearchFrame token)) reading.behind ∷ map Received (page_replies reading.took);
+  events = Sent (frame_bytes (SearchFrame token)) reading.mark ∷ map Received (page_replies reading.took);
   adds = same ∙ reading.adds;
   one = (refl, sent_received (page_replies reading.took));
   shown = ShowsInReplies-outside c (SearchFrame token ∷ []) _ outside;
 }
 
-full_in_replies : (took : List (List ℕ)) → AllByRecursion (IsPage false) took → AllByRecursion InReplies (full_pages took)
+pub full_in_replies : (took : List (List ℕ)) → AllByRecursion (IsPage false) took → AllByRecursion InReplies (full_pages took)
 full_in_replies [] each = tt
 full_in_replies (ids ∷ took) each = (each.0, full_in_replies took each.1)
 
@@ -157,7 +159,7 @@ not_allowed token took reply each none allowed =
 IsCutShort-reply : (old now new : Told) (token items : List ℕ) (count : ℕ) (reply : List ℕ) (c : Cause) → (reading : IsReading old now token items count)
     → Adds now new (Received reply ∷ []) → ShowsInReplies (SearchFrame token ∷ []) (page_replies reading.took ++ reply ∷ []) c → IsCutShort old new (SearchFrame token ∷ []) c
 IsCutShort-reply old now new token items count reply c reading one shows = record {
-  events = Sent (frame_bytes (SearchFrame token)) reading.behind ∷ map Received (page_replies reading.took ++ reply ∷ []);
+  events = Sent (frame_bytes (SearchFrame token)) reading.mark ∷ map Received (page_replies reading.took ++ reply ∷ []);
   adds = adds_reply old now new token items count reading reply one;
   one = (refl, sent_received (page_replies reading.took ++ reply ∷ []));
   shown = subst (λ replies. ShowsInReplies (SearchFrame token ∷ []) replies c) (sym (received_received (page_replies reading.took ++ reply ∷ []))) shows;

@@ -2,14 +2,14 @@
 use Rattle.std.proofs.Common.{◌≡◌, ℕ, Bool, ◌<◌, ◌^◌, List, [], ◌∷◌, ◌++◌, map, Some, refl, ap, ◌∙◌, arith}
 use Rattle.std.specs.Prelude.{IfSome}
 use Rattle.sse_frames.specs.Replies.{ReplyText, Next, Took, Number, Clash, Page, BadList, NoMemory, StoreFault, BadFrame, OutOfPlace, InReplies, reply_bytes}
-use Rattle.sse_frames.specs.Frames.{FrameText, Hello, SetupBegin, SetupDict, SetupArray, SetupEnd, AddFrame, DeleteFrame, SearchFrame}
+use Rattle.sse_frames.specs.Frames.{FrameText, Hello, SetupBegin, SetupDict, SetupArray, SetupEnd, AddFrame, DeleteFrame, SearchFrame, update_number}
 use Rattle.client_core.specs.Faults.{fault_told, IsFaultOf}
 use Rattle.client_core.specs.declared.reply_fault.ReplyFault.{ReplyFault}
 use Rattle.client_core.specs.declared.reply_fault.ReplyFault.TheVariants as faults
 use Rattle.sse_client.specs.Clauses.{ShowsInReplies}
 use Rattle.sse_client.specs.Exchange.{expected, answers_behind, IsAllowed, IsNotice}
 use Rattle.sse_client.specs.Stops.{cause_of_fault}
-use Rattle.sse_client.specs.Progress.{next_number, number_in}
+use Rattle.sse_client.specs.Progress.{next_number}
 
 -- the bytes of a Next reply are those of its number
 pub next_spelled : (r : ReplyText) (bytes : List ℕ) → bytes ≡ reply_bytes r → IfSome (next_number r) (λ q. bytes ≡ reply_bytes (Next q))
@@ -25,15 +25,15 @@ next_spelled (BadFrame reason) bytes e = tt
 next_spelled OutOfPlace bytes e = tt
 
 -- an update frame is to be acknowledged
-pub expected-number_in : (frame : FrameText) (q : ℕ) → number_in frame ≡ Some q → (ids : List ℕ) → expected ids frame ≡ Took q ∷ []
-expected-number_in Hello q e ids = absurd cc
-expected-number_in (SetupBegin n b big m a) q e ids = let same : n ≡ q = cc in ap (λ k. Took k ∷ []) same
-expected-number_in (SetupDict n width entries) q e ids = let same : n ≡ q = cc in ap (λ k. Took k ∷ []) same
-expected-number_in (SetupArray n width blocks) q e ids = let same : n ≡ q = cc in ap (λ k. Took k ∷ []) same
-expected-number_in (SetupEnd n) q e ids = let same : n ≡ q = cc in ap (λ k. Took k ∷ []) same
-expected-number_in (AddFrame n entries numbers) q e ids = let same : n ≡ q = cc in ap (λ k. Took k ∷ []) same
-expected-number_in (DeleteFrame n numbers) q e ids = let same : n ≡ q = cc in ap (λ k. Took k ∷ []) same
-expected-number_in (SearchFrame token) q e ids = absurd cc
+pub expected-update_number : (frame : FrameText) (q : ℕ) → update_number frame ≡ Some q → (ids : List ℕ) → expected ids frame ≡ Took q ∷ []
+expected-update_number Hello q e ids = absurd cc
+expected-update_number (SetupBegin n b big m a) q e ids = let same : n ≡ q = cc in ap (λ k. Took k ∷ []) same
+expected-update_number (SetupDict n width entries) q e ids = let same : n ≡ q = cc in ap (λ k. Took k ∷ []) same
+expected-update_number (SetupArray n width blocks) q e ids = let same : n ≡ q = cc in ap (λ k. Took k ∷ []) same
+expected-update_number (SetupEnd n) q e ids = let same : n ≡ q = cc in ap (λ k. Took k ∷ []) same
+expected-update_number (AddFrame n entries numbers) q e ids = let same : n ≡ q = cc in ap (λ k. Took k ∷ []) same
+expected-update_number (DeleteFrame n numbers) q e ids = let same : n ≡ q = cc in ap (λ k. Took k ∷ []) same
+expected-update_number (SearchFrame token) q e ids = absurd cc
 
 -- where no answer came, none is left behind a frame
 pub answers_behind-none : (frame : FrameText) → answers_behind frame [] ≡ []
@@ -70,15 +70,15 @@ abbrev pub IsNoHello : FrameText → Type 0
 IsNoHello Hello = ⊥
 IsNoHello _ = Unit {0}
 
-IsNoHello-number_in : (frame : FrameText) (q : ℕ) → number_in frame ≡ Some q → IsNoHello frame
-IsNoHello-number_in Hello q e = absurd cc
-IsNoHello-number_in (SetupBegin n b big m a) q e = tt
-IsNoHello-number_in (SetupDict n width entries) q e = tt
-IsNoHello-number_in (SetupArray n width blocks) q e = tt
-IsNoHello-number_in (SetupEnd n) q e = tt
-IsNoHello-number_in (AddFrame n entries numbers) q e = tt
-IsNoHello-number_in (DeleteFrame n numbers) q e = tt
-IsNoHello-number_in (SearchFrame token) q e = tt
+IsNoHello-update_number : (frame : FrameText) (q : ℕ) → update_number frame ≡ Some q → IsNoHello frame
+IsNoHello-update_number Hello q e = absurd cc
+IsNoHello-update_number (SetupBegin n b big m a) q e = tt
+IsNoHello-update_number (SetupDict n width entries) q e = tt
+IsNoHello-update_number (SetupArray n width blocks) q e = tt
+IsNoHello-update_number (SetupEnd n) q e = tt
+IsNoHello-update_number (AddFrame n entries numbers) q e = tt
+IsNoHello-update_number (DeleteFrame n numbers) q e = tt
+IsNoHello-update_number (SearchFrame token) q e = tt
 
 -- what tells of no fault is no notice for them
 pub no_notice : (frame : FrameText) → IsNoHello frame → (r : ReplyText) → IsNotice frame r → TellsNothing r → ⊥
@@ -127,9 +127,9 @@ ShowsInReplies-hello reply fault wrong is = ShowsInReplies-fault Hello [] [] rep
     other OutOfPlace below notice tells e = notice
 
 -- and of one to an update frame that isn't its acknowledgement
-pub ShowsInReplies-update : (frame : FrameText) (frames : List FrameText) (q : ℕ) (reply : List ℕ) (fault : ReplyFault) → number_in frame ≡ Some q → (reply ≡ reply_bytes (Took q) → ⊥) → IsFaultOf reply fault
+pub ShowsInReplies-update : (frame : FrameText) (frames : List FrameText) (q : ℕ) (reply : List ℕ) (fault : ReplyFault) → update_number frame ≡ Some q → (reply ≡ reply_bytes (Took q) → ⊥) → IsFaultOf reply fault
     → ShowsInReplies (frame ∷ frames) (reply ∷ []) (cause_of_fault fault reply)
 ShowsInReplies-update frame frames q reply fault number wrong is =
     ShowsInReplies-fault frame frames [] reply fault
-    (λ allowed. wrong (let first : reply ∷ allowed.rest ≡ reply_bytes (Took q) ∷ [] = allowed.first ∙ ap (map reply_bytes) (expected-number_in frame q number allowed.ids) in cc))
-    (λ r below notice tells e. no_notice frame (IsNoHello-number_in frame q number) r notice tells) is
+    (λ allowed. wrong (let first : reply ∷ allowed.rest ≡ reply_bytes (Took q) ∷ [] = allowed.first ∙ ap (map reply_bytes) (expected-update_number frame q number allowed.ids) in cc))
+    (λ r below notice tells e. no_notice frame (IsNoHello-update_number frame q number) r notice tells) is

@@ -17,8 +17,7 @@ use Rattle.index_setup.specs.Refused.{refused_by_size}
 use Rattle.index_setup.specs.declared.fault.BuildFault.{BuildFault}
 use Rattle.index_setup.specs.declared.fault.BuildFault.TheVariants as builds
 use Rattle.keyed_fn.specs.KeyedFn.{KeyedFn}
-use Rattle.sse_frames.specs.Frames.{FrameText, Hello, SetupBegin, SetupDict, SetupArray, SetupEnd, AddFrame, DeleteFrame, SearchFrame}
-use Rattle.sse_model.proofs.Counts.{update_number}
+use Rattle.sse_frames.specs.Frames.{FrameText}
 use Rattle.sse_model.specs.Names.{Table}
 use Rattle.sse_model.specs.Wire.{frames_of_setup}
 use Rattle.sse_script.specs.Lines.{SetupLine}
@@ -30,8 +29,8 @@ use Rattle.sse_client.specs.Carried.{key_of, frames_by_result, IsCarried}
 use Rattle.sse_client.specs.Clauses.{ShowsInReplies, label_clash as clash_behind}
 use Rattle.sse_client.specs.Outcome.{Place, Outcome, Refuses, SetsUp, unless, after}
 use Rattle.sse_client.specs.OutcomeViews.{outcome_view, refuses}
-use Rattle.sse_client.specs.Progress.{Told, IsExchanged, IsCutAt, AreNumbered, number_in}
-use Rattle.sse_client.specs.Refused.{size_refused}
+use Rattle.sse_client.specs.Progress.{Told, IsExchanged, IsCutAt, AreNumbered}
+use Rattle.script_meaning.specs.Refused.{size_refused}
 use Rattle.sse_client.specs.Stages.{stage_view, open_documents, place_view, comes_to}
 use Rattle.sse_client.specs.Stops.{peer_cause}
 use Rattle.sse_client.specs.declared.outcome.Outcome.{Outcome as Came}
@@ -41,19 +40,9 @@ use Rattle.sse_client.specs.declared.session.Stage.{Stage}
 use Rattle.sse_client.proofs.Carrying.{carried-quiet}
 use Rattle.sse_client.proofs.Passing.{IsExchanged-none, Adds-nothing}
 
-number_in-update : (frame : FrameText) (q : ℕ) → update_number frame ≡ Some q → number_in frame ≡ Some q
-number_in-update Hello q e = e
-number_in-update (SetupBegin n b big m a) q e = e
-number_in-update (SetupDict n width entries) q e = e
-number_in-update (SetupArray n width blocks) q e = e
-number_in-update (SetupEnd n) q e = e
-number_in-update (AddFrame n entries numbers) q e = e
-number_in-update (DeleteFrame n numbers) q e = e
-number_in-update (SearchFrame token) q e = e
-
 -- the frames of a setup are numbered one after the other
 pub frames_of_setup-are_numbered : (t : Table) (o : Offsets) (s : Setup) → AreNumbered o.frame (frames_of_setup t o s)
-frames_of_setup-are_numbered = frames_of_setup-numbered AreNumbered (λ q. tt) (λ q frame frames e rest. (number_in-update frame q e, rest))
+frames_of_setup-are_numbered = frames_of_setup-numbered AreNumbered (λ q. tt) (λ q frame frames e rest. (e, rest))
 
 -- a plan that was refused
 abbrev pub refusing : (T : Type 0) → BuildFault → Result T BuildFault

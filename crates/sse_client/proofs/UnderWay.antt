@@ -1,17 +1,18 @@
 -- How far the sending of update frames is.
 use Rattle.std.proofs.Common.{◌≡◌, ℕ, ◌+◌, List, [], ◌∷◌, ◌++◌, map, length, take, drop, Some, refl, sym, ap, subst, ◌∙◌, append_assoc}
+use Rattle.std.specs.List.{AllByRecursion}
 use Rattle.std.proofs.lemmas.List.{take_at, drop_at}
 use Rattle.client_core.specs.Sending.{to_send}
 use Rattle.client_core.specs.declared.behind.Behind.{Behind}
 use Rattle.client_core.specs.Faults.{IsFaultOf}
 use Rattle.client_core.specs.declared.reply_fault.ReplyFault.{ReplyFault}
-use Rattle.sse_frames.specs.Frames.{FrameText, frame_bytes}
+use Rattle.sse_frames.specs.Frames.{FrameText, IsFrame, frame_bytes, update_number}
 use Rattle.sse_frames.specs.Replies.{Took, reply_bytes}
 use Rattle.sse_script.specs.Shown.{Cause}
-use Rattle.sse_client.specs.Progress.{Told, IsAnswered, IsUnanswered, IsExchanged, IsCutShort, IsCutAt, AreNumbered, number_in}
+use Rattle.sse_client.specs.Progress.{Told, IsAnswered, IsUnanswered, IsExchanged, IsCutShort, IsCutAt, AreNumbered}
 use Rattle.sse_client.specs.Stops.{cause_of_fault}
 use Rattle.sse_client.proofs.Passing.{IsExchanged-joined, IsExchanged-answered, IsCutShort-unanswered, IsCutShort-answered, answers_left-none}
-use Rattle.sse_client.proofs.Replying.{expected-number_in, ShowsInReplies-update}
+use Rattle.sse_client.proofs.Replying.{expected-update_number, ShowsInReplies-update}
 
 -- of these frames some were exchanged, and the others are left
 pub record IsUnderWay (old now : Told) (state : Behind) (frames : List FrameText) : Type 0 where
@@ -32,7 +33,7 @@ pub record IsNext (state : Behind) (frame : List ℕ) (left : List FrameText) : 
   pub others : List FrameText
   pub are : left ≡ first ∷ others
   pub spelled : frame ≡ frame_bytes first
-  pub number : number_in first ≡ Some state.next
+  pub number : update_number first ≡ Some state.next
   pub more : drop 1 (to_send state) ≡ map frame_bytes others
   pub numbered : AreNumbered (state.next + 1) others
 
@@ -51,12 +52,21 @@ next_of state frame (first ∷ others) to_come numbered one =
     }
 
 -- one more was exchanged
-one_more : (old now new : Told) (done : List FrameText) (first : FrameText) (q : ℕ) (frame reply : List ℕ) → IsExchanged old now [] done → frame ≡ frame_bytes first → number_in first ≡ Some q
+one_more : (old now new : Told) (done : List FrameText) (first : FrameText) (q : ℕ) (frame reply : List ℕ) → IsExchanged old now [] done → frame ≡ frame_bytes first → update_number first ≡ Some q
     → reply ≡ reply_bytes (Took q) → IsAnswered now new frame reply → IsExchanged old new [] (done ++ first ∷ [])
 one_more old now new done first q frame reply exchanged spelled number took answered =
     IsExchanged-joined old now new [] done (first ∷ []) exchanged
     (subst (λ answers. IsExchanged now new answers (first ∷ [])) (sym (answers_left-none done))
-    (IsExchanged-answered now new frame reply [] first (Took q) spelled took (expected-number_in first q number []) answered))
+    (IsExchanged-answered now new frame reply [] first (Took q) spelled took (expected-update_number first q number []) answered))
+
+-- of frames of the grammar the first is one, and so are those behind it
+pub first_frame : (frames : List (List ℕ)) (frame : List ℕ) → take 1 frames ≡ frame ∷ [] → AllByRecursion IsFrame frames → IsFrame frame
+first_frame [] frame e are = absurd cc
+first_frame (first ∷ frames) frame e are = let same : first ≡ frame = cc in subst IsFrame same are.0
+
+pub frames_behind : (frames later : List (List ℕ)) → later ≡ drop 1 frames → AllByRecursion IsFrame frames → AllByRecursion IsFrame later
+frames_behind [] later e are = subst (AllByRecursion IsFrame) (sym e) tt
+frames_behind (first ∷ frames) later e are = subst (AllByRecursion IsFrame) (sym e) are.1
 
 -- an acknowledgement takes the next one off
 pub IsUnderWay-next : (old now new : Told) (state later : Behind) (frames : List FrameText) (frame reply : List ℕ) → IsUnderWay old now state frames → take 1 (to_send state) ≡ frame ∷ []
@@ -72,7 +82,7 @@ IsUnderWay-next old now new state later frames frame reply way one answered took
       numbered = subst (λ q. AreNumbered q n.others) (sym counted) n.numbered;
     }
 
-none_mapped : (frames : List FrameText) → map frame_bytes frames ≡ [] → frames ≡ []
+pub none_mapped : (frames : List FrameText) → map frame_bytes frames ≡ [] → frames ≡ []
 none_mapped [] e = refl
 none_mapped (frame ∷ frames) e = absurd cc
 

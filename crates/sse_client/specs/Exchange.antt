@@ -1,10 +1,11 @@
 -- What passes over a link where each frame has the replies that it is to have.
-use Rattle.std.specs.Prelude.{◌≡◌, ◌≤◌, ◌^◌, ℕ, List, [], ◌∷◌, ◌++◌, length, map, take, drop, All, None}
+use Rattle.std.specs.Prelude.{◌≡◌, ◌≤◌, ◌^◌, ℕ, List, [], ◌∷◌, ◌++◌, length, map, take, drop, All}
 use Rattle.sse_frames.specs.Frames.{FrameText, Hello, SetupBegin, SetupDict, SetupArray, SetupEnd, AddFrame, DeleteFrame, SearchFrame, frame_bytes}
 use Rattle.sse_frames.specs.Replies.{ReplyText, Next, Took, Clash, NoMemory, StoreFault, InReplies, IsIdentifier, reply_bytes}
 use Rattle.sse_frames.specs.Sending.{pages}
 use Rattle.sse_model.specs.Transcript as model
 use Rattle.sse_link.specs.Events.{Event, Sent, Received}
+use Rattle.sse_link.specs.declared.mark.Mark.TheVariants.{Unknown}
 
 -- the first of the answers that came, and none where none came
 abbrev pub first_answer : List (List ℕ) → List ℕ
@@ -34,26 +35,26 @@ exchange answers [] = []
 exchange answers (frame ∷ frames) =
     model.Sent frame ∷ map model.Received (expected (first_answer answers) frame) ++ exchange (answers_behind frame answers) frames
 
--- a frame or a reply as the event that it is, of which the server's state behind it isn't told
+-- a frame or a reply as the event that it is, of whose answer nothing is told
 abbrev pub as_event : model.Passed → Event
-as_event (model.Sent frame) = Sent (frame_bytes frame) None
+as_event (model.Sent frame) = Sent (frame_bytes frame) Unknown
 as_event (model.Received reply) = Received (reply_bytes reply)
 
--- an event without the server's state behind it
+-- an event without what is known of its answer
 abbrev pub bare : Event → Event
-bare (Sent bytes behind) = Sent bytes None
+bare (Sent bytes mark) = Sent bytes Unknown
 bare (Received bytes) = Received bytes
 
 -- the frames that were sent
 abbrev pub sent_in : List Event → List (List ℕ)
 sent_in [] = []
-sent_in (Sent bytes behind ∷ events) = bytes ∷ sent_in events
+sent_in (Sent bytes mark ∷ events) = bytes ∷ sent_in events
 sent_in (Received bytes ∷ events) = sent_in events
 
 -- the replies that were received
 abbrev pub received_in : List Event → List (List ℕ)
 received_in [] = []
-received_in (Sent bytes behind ∷ events) = received_in events
+received_in (Sent bytes mark ∷ events) = received_in events
 received_in (Received bytes ∷ events) = bytes ∷ received_in events
 
 -- these replies to a frame are the first of those that it is to have, for some answer of at most 2^20 pages
@@ -88,5 +89,5 @@ EndsWith replies last = (earlier : List (List ℕ)) × (replies ≡ earlier ++ r
 -- the first of these frames was sent, and replies to it were received, whatever they are; or nothing at all
 abbrev pub IsCut : List FrameText → List Event → Type 0
 IsCut frames [] = Unit {0}
-IsCut (frame ∷ frames) (Sent bytes behind ∷ events) = (bytes ≡ frame_bytes frame) × (sent_in events ≡ [])
+IsCut (frame ∷ frames) (Sent bytes mark ∷ events) = (bytes ≡ frame_bytes frame) × (sent_in events ≡ [])
 IsCut _ _ = ⊥

@@ -11,5 +11,6 @@ pub mod Ending
 pub mod Call
 pub mod Clauses
 pub mod Progress
+pub mod Exchanges
 pub mod Carried
-pub mod Standing
+pub mod Stands

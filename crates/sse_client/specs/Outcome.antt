@@ -10,7 +10,8 @@ use Rattle.client_registry.specs.Live.{found}
 use Rattle.sse_script.specs.Lines.{Line, Empty, Key, Doc, SetupLine, AddLine, Del, Find}
 use Rattle.sse_script.specs.Shown.{Refusal, NotSetUp, SetUpAlready}
 use Rattle.sse_script.specs.Shown.{Shown, SetUp, Added, Deleted, Found, Refused}
-use Rattle.sse_client.specs.Refused.{bad_word, collect_refusal, index_refusal, add_refusal, delete_refusal}
+use Rattle.script_meaning.specs.Refused.{bad_word, collect_refusal, index_refusal}
+use Rattle.sse_client.specs.Refused.{add_refusal, delete_refusal}
 
 -- where a script stands: the documents that were collected, and the history
 pub record Place : Type 0 where

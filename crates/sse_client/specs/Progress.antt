@@ -1,9 +1,10 @@
 -- What a call over a link exchanged, and where it was cut.
 use Rattle.std.specs.Prelude.{◌≡◌, ◌⊎◌, ℕ, ◌+◌, List, [], ◌∷◌, ◌++◌, map, take, drop, All, Option, Some, None, option_map}
 use Rattle.client_registry.specs.Live.{in_order}
-use Rattle.sse_frames.specs.Frames.{FrameText, Hello, SetupBegin, SetupDict, SetupArray, SetupEnd, AddFrame, DeleteFrame, SearchFrame}
+use Rattle.sse_frames.specs.Frames.{FrameText, update_number}
 use Rattle.sse_frames.specs.Replies.{ReplyText, Next, IsIdentifier}
-use Rattle.sse_link.specs.Events.{Event, Remote, Sent, Received}
+use Rattle.sse_link.specs.Events.{Event, Sent, Received}
+use Rattle.sse_link.specs.declared.mark.Mark.{Mark}
 use Rattle.sse_script.specs.Shown.{Cause, LinkFault, NoMemory}
 use Rattle.sse_client.specs.Clauses.{ShowsInReplies}
 use Rattle.sse_client.specs.Exchange.{exchange, as_event, bare, received_in, IsCut}
@@ -18,13 +19,13 @@ Adds old new events = new ≡ option_map (λ told. told ++ events) old
 
 -- these bytes were sent, and this reply to them received
 abbrev pub IsAnswered : Told → Told → (frame reply : List ℕ) → Type 0
-IsAnswered old new frame reply = (behind : Option Remote) × Adds old new (Sent frame behind ∷ Received reply ∷ [])
+IsAnswered old new frame reply = (mark : Mark) × Adds old new (Sent frame mark ∷ Received reply ∷ [])
 
 -- these bytes were sent or not, and no reply was received, as the link failed or there was no memory
 pub record IsUnanswered (old new : Told) (frame : List ℕ) (cause : Cause) : Type 0 where
   pub events : List Event
   pub adds : Adds old new events
-  pub most : (events ≡ []) ⊎ ((behind : Option Remote) × (events ≡ Sent frame behind ∷ []))
+  pub most : (events ≡ []) ⊎ ((mark : Mark) × (events ≡ Sent frame mark ∷ []))
   pub outside : (cause ≡ LinkFault) ⊎ (cause ≡ NoMemory)
 
 -- these frames were exchanged, the searches among them with these answers
@@ -59,18 +60,7 @@ abbrev pub next_number : ReplyText → Option ℕ
 next_number (Next q) = Some q
 next_number _ = None
 
--- the number of an update frame
-abbrev pub number_in : FrameText → Option ℕ
-number_in Hello = None
-number_in (SetupBegin q b big m a) = Some q
-number_in (SetupDict q width entries) = Some q
-number_in (SetupArray q width blocks) = Some q
-number_in (SetupEnd q) = Some q
-number_in (AddFrame q entries numbers) = Some q
-number_in (DeleteFrame q numbers) = Some q
-number_in (SearchFrame token) = None
-
 -- update frames that are numbered one after the other, the first by q
 abbrev pub AreNumbered : ℕ → List FrameText → Type 0
 AreNumbered q [] = Unit {0}
-AreNumbered q (frame ∷ frames) = (number_in frame ≡ Some q) × AreNumbered (q + 1) frames
+AreNumbered q (frame ∷ frames) = (update_number frame ≡ Some q) × AreNumbered (q + 1) frames

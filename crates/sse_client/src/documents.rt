@@ -1,6 +1,6 @@
 ghost use Rattle.std.specs.Prelude.{◌≡◌, ◌≢◌, ◌≤◌, ◌^◌, None, [], ◌∷◌, ◌++◌, length, map, IfOk, IfErr, OnOk, OnErr, IsErrOf};
 ghost use Rattle.client_registry.specs.WordBytes.{word_bytes};
-ghost use Rattle.sse_client.specs.Refused.{bad_word, collect_refusal};
+ghost use Rattle.script_meaning.specs.Refused.{bad_word, collect_refusal};
 ghost use Rattle.sse_client.specs.LineFaults.{SaysRefusal};
 ghost use Rattle.sse_client.specs.Outcome.{document};
 
@@ -39,7 +39,10 @@ fn words_of(alloc: Global, mut fields: Fields<'_>) -> Result<Vec<Word>, LineFaul
     let mut words = Vec::new(alloc);
     let mut position = 0u32;
     while let Some(field) = fields.next() {
-        words.push(word_of(alloc, field, position)?)?;
+        match word_of(field, position) {
+            Ok(word) => words.push(word)?,
+            Err(fault) => return Err(fault),
+        }
         // A line has fewer fields than bytes, which are at most 2^19.
         position = position.saturating_add(1);
     }
@@ -47,13 +50,13 @@ fn words_of(alloc: Global, mut fields: Fields<'_>) -> Result<Vec<Word>, LineFaul
 }
 
 /// The word of the field at this position, from 0.
-pub(crate) fn word_of(alloc: Global, field: &[u8], position: u32) -> Result<Word, LineFault>
+pub(crate) fn word_of(field: &[u8], position: u32) -> Result<Word, LineFault>
     ensures word { IfOk result (λ word. word_bytes word ≡ field.now) }
     ensures good { OnOk result (bad_word position (field.now ∷ []) ≡ None) }
     ensures refused { IfErr result (λ fault. SaysRefusal fault (bad_word position (field.now ∷ []))) }
     ensures memory { IsErrOf result LineFault.NoMemory → bad_word position (field.now ∷ []) ≡ None }
 {
-    match Word::read(alloc, field) {
+    match Word::read(field) {
         Ok(word) => Ok(word),
         Err(fault) => Err(LineFault::of_word(fault, position)),
     }

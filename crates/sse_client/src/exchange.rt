@@ -1,9 +1,10 @@
 ghost use Rattle.std.specs.Prelude.{◌≡◌, ◌≢◌, ◌≤◌, ◌<◌, ◌^◌, ℕ, [], ◌∷◌, Some, Err, length, take, IfOk, IfErr, OnOk, IfSome, IsErrOf};
 ghost use Rattle.sse_outside.specs.Causes.{Rose};
-ghost use Rattle.sse_frames.specs.Frames.{Hello};
+ghost use Rattle.sse_frames.specs.Frames.{Hello, IsFrame};
 ghost use Rattle.sse_frames.specs.Replies.{Next, StoreFault, reply_bytes};
 ghost use Rattle.sse_frames.specs.Seen.{seen_reply};
-ghost use Rattle.sse_client.specs.Progress.{IsAnswered, IsUnanswered, IsExchanged, IsCutShort, next_number};
+ghost use Rattle.sse_client.specs.Exchanges.{HasExchanged, HasCut};
+ghost use Rattle.sse_client.specs.Progress.{IsAnswered, IsUnanswered, next_number};
 ghost use Rattle.sse_client.specs.Stops.{peer_cause};
 
 use crate::peer_stop::PeerStop;
@@ -12,13 +13,14 @@ use sse_frames::{Frame, Reply, read_reply, write_frame};
 use sse_link::Link;
 use std::alloc::Global;
 
-/// Sends a frame and receives its first reply at the front of `room`, and answers how many bytes it has.
+/// Sends a frame of the grammar and receives its first reply at the front of `room`, and answers how many bytes it has.
 pub(crate) fn exchange<L: Link>(
     link: &mut L,
     frame: &[u8],
     room: &mut [u8],
 ) -> Result<usize, PeerStop>
-    requires { 65544 ≤ length room.old }
+    requires frame { IsFrame frame.now }
+    requires room { 65544 ≤ length room.old }
     ensures answered { IfOk result (λ n. IsAnswered (L.transcript link.old) (L.transcript link.new) frame.now (take n room.new)) }
     ensures unanswered { IfErr result (λ stop. IsUnanswered (L.transcript link.old) (L.transcript link.new) frame.now (peer_cause stop)) }
     ensures size { IfOk result (λ n. n ≤ length room.new) }
@@ -35,8 +37,8 @@ pub(crate) fn exchange<L: Link>(
 /// Opens the session: sends Hello, to which a server that has taken nothing answers Next(0).
 pub(crate) fn greet<L: Link>(alloc: Global, link: &mut L, room: &mut [u8]) -> Result<(), PeerStop>
     requires { 65544 ≤ length room.old }
-    ensures greeted { OnOk result (IsExchanged (L.transcript link.old) (L.transcript link.new) [] (Hello ∷ [])) }
-    ensures cut { IfErr result (λ stop. IsCutShort (L.transcript link.old) (L.transcript link.new) (Hello ∷ []) (peer_cause stop)) }
+    ensures opened { OnOk result (HasExchanged (L.transcript link.old) (L.transcript link.new) [] (Hello ∷ [])) }
+    ensures turned_away { IfErr result (λ stop. HasCut (L.transcript link.old) (L.transcript link.new) (Hello ∷ []) (peer_cause stop)) }
     ensures later { L.faults link.old ≤ L.faults link.new }
     ensures no_label_clash { (first second : ℕ) → result ≢ Err (PeerStop.LabelClash first second) }
     ensures failed { IsErrOf result PeerStop.Link → Rose (L.faults link.old) (L.faults link.new) }

@@ -1,5 +1,5 @@
 ghost use Rattle.std.specs.Prelude.{◌≡◌, Some};
-ghost use Rattle.sse_client.specs.Refused.{word_refused, doc_refused, docs_refused};
+ghost use Rattle.script_meaning.specs.Refused.{word_refused, doc_refused, docs_refused};
 ghost use Rattle.sse_client.specs.LineFaults.{fault_shown, refusal_shown};
 
 use client_core::SetupFault;
@@ -26,7 +26,6 @@ impl LineFault {
             WordFault::Empty => LineFault::Refused(Shown::BadByte { position, place: 0 }),
             WordFault::TooLong(n) => LineFault::Refused(Shown::TooLong { position, n }),
             WordFault::BadByte(place) => LineFault::Refused(Shown::BadByte { position, place }),
-            WordFault::NoMemory => LineFault::NoMemory,
         }
     }
 }

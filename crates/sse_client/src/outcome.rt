@@ -1,4 +1,4 @@
-ghost use Rattle.std.specs.Prelude.{◌≡◌, ℕ, ◌≤◌, take, flat_map, OnOk, IsErrOf};
+ghost use Rattle.std.specs.Prelude.{◌≡◌, ◌≢◌, ℕ, ◌≤◌, [], take, flat_map, IfErr, OnOk, IsErrOf};
 ghost use Rattle.std.specs.Io.KnownBytes.{append_known};
 ghost use Rattle.sse_outside.specs.Causes.{Rose};
 ghost use Rattle.sse_script.specs.Texts.{text_of};
@@ -33,6 +33,7 @@ impl Outcome {
     pub(crate) fn print<W: Sink>(&self, alloc: Global, sink: &mut W) -> Result<(), DeviceFault>
         ensures all { OnOk result (W.written sink.new ≡ append_known (W.written sink.old) (flat_map text_of (outcome_view self.now))) }
         ensures front { (n : ℕ) × (W.written sink.new ≡ append_known (W.written sink.old) (take n (flat_map text_of (outcome_view self.now)))) }
+        ensures silent { IfErr result (λ fault. outcome_view self.now ≢ []) }
         ensures later { W.faults sink.old ≤ W.faults sink.new }
         ensures failed { IsErrOf result DeviceFault.Failed → Rose (W.faults sink.old) (W.faults sink.new) }
     {

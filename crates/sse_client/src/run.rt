@@ -1,15 +1,23 @@
-ghost use Rattle.std.specs.Prelude.{◌≡◌, ◌≢◌, ◌≤◌, ℕ, List, Bool, false, length, map, take, string_bytes, IsErrOf, IfErr, IfOk};
+ghost use Rattle.std.specs.Prelude.{◌≡◌, ◌≢◌, ◌≤◌, ◌+◌, ◌^◌, ◌||◌, ℕ, List, [], Bool, false, None, Err, length, map, take, string_bytes, IsErrOf, IfErr, IfOk, OnOk, IfSome};
 ghost use Rattle.std.specs.Io.KnownBytes.{append_known};
-ghost use Rattle.keyed_fn.specs.KeyedFn.{keyed_fn};
+ghost use Rattle.client_registry.specs.Histories.{empty};
+ghost use Rattle.keyed_fn.specs.KeyedFn.{KeyedFn, keyed_fn};
 ghost use Rattle.sse_outside.specs.Causes.{Rose};
 ghost use Rattle.sse_script.specs.Shown.{Stopped, BadWords};
-ghost use Rattle.sse_script.specs.Stops.{status_of};
 ghost use Rattle.sse_script.specs.TextLines.{bytes_to_come, lines_left};
 ghost use Rattle.sse_script.specs.Texts.{text_of};
+ghost use Rattle.sse_script.specs.Views.{line_view};
+ghost use Rattle.script_meaning.specs.Carries.{Outside};
+ghost use Rattle.script_meaning.specs.Lines as requests;
+ghost use Rattle.script_meaning.specs.Lines.{Request, line_read};
+ghost use Rattle.script_meaning.specs.Outcome.{Place};
+ghost use Rattle.script_meaning.specs.Runs.{Ended, ended, moment, OpensFrom, OpensAtKey};
+ghost use Rattle.script_meaning.specs.Stops as ends;
+ghost use Rattle.script_meaning.specs.Stops.{status_of, stop_text};
 ghost use Rattle.sse_client.specs.Call.{IsRun};
-ghost use Rattle.sse_client.specs.Ending.{stop_text};
-ghost use Rattle.sse_client.specs.Standing.{Outputs, Stands, RunsTo, EndsWell, has_refused};
-ghost use Rattle.sse_client.specs.Stops.{IsInputStop, stop_view};
+ghost use Rattle.sse_client.specs.Stages.{words_in};
+ghost use Rattle.sse_client.specs.Stands.{IsAt, seen, stop_seen, has_refused, CarriesOut, StopsRun, EndsFrom, OpensTo, HasRun, IsHonest, HasHeadline};
+ghost use Rattle.sse_client.specs.Stops.{IsInputStop};
 
 use crate::exchange::greet;
 use crate::input::Input;
@@ -20,6 +28,7 @@ use crate::words::{Mode, mode_of};
 use client_core::Client;
 use client_registry::Docs;
 use keyed_fn::Keyed;
+use server_core::Server;
 use sse_frames::REPLY_ROOM;
 use sse_link::{Link, SteadyLoopback};
 use sse_outside::{Disk, Sink, Source, SteadyDisk};
@@ -32,6 +41,15 @@ use word_keys::MasterKey;
 enum Refusals {
     None,
     Some,
+}
+
+impl Refusals {
+    /// The same with a command more, which was refused or not.
+    fn or(self, refused: bool) -> Refusals
+        ensures { has_refused result ≡ has_refused self || refused }
+    {
+        if refused { Refusals::Some } else { self }
+    }
 }
 
 /// All that a client program does with these words of its command line: `run` carries out the script
@@ -51,17 +69,40 @@ pub fn sse_run<K: Keyed, L: Link, D: Disk, S: Source, W: Sink>(
     ensures words_status { (IsRun (map (λ word. string_bytes word) words.now) → ⊥) → result ≡ 2 }
     ensures words_line { (IsRun (map (λ word. string_bytes word) words.now) → ⊥) →
         (n : ℕ) × (W.written sink.new ≡ append_known (W.written sink.old) (take n (text_of (Stopped BadWords)))) }
+    ensures runs { IsRun (map (λ word. string_bytes word) words.now) → IfSome (S.remaining source.old) (λ bytes.
+        HasRun (keyed_fn K.prf K.pad) bytes (seen (L.transcript link.old) (W.written sink.old)) (seen (L.transcript link.new) (W.written sink.new)) result) }
+    ensures honest { IsRun (map (λ word. string_bytes word) words.now) → IfSome (S.remaining source.old) (λ bytes.
+        IsHonest (keyed_fn K.prf K.pad) bytes (seen (L.transcript link.old) (W.written sink.old)) (seen (L.transcript link.new) (W.written sink.new)) result) }
+    ensures headline { IsRun (map (λ word. string_bytes word) words.now) → IfSome (S.remaining source.old) (λ bytes.
+        HasHeadline (keyed_fn K.prf K.pad) bytes (seen (L.transcript link.old) (W.written sink.old)) (seen (L.transcript link.new) (W.written sink.new)) result) }
     ensures source_failed { result ≡ 3 → Rose (S.faults source.old) (S.faults source.new) }
     ensures sink_failed { result ≡ 4 → Rose (W.faults sink.old) (W.faults sink.new) }
     ensures link_failed { result ≡ 5 → Rose (L.faults link.old) (L.faults link.new) }
     ensures disk { disk.new ≡ disk.old }
     ensures known { (result ≤ 9) × (result ≢ 6) }
 {
-    let ended = match mode_of(words) {
-        Some(Mode::Run) => run_script(alloc, keyed, link, source, sink),
-        None => Err(Stop::Words),
-    };
-    match ended {
+    match mode_of(words) {
+        Some(Mode::Run) => whole_run(alloc, keyed, link, source, sink),
+        None => finish(alloc, sink, Stop::Words),
+    }
+}
+
+/// Carries out a script, prints the last line where it stopped, and answers the run's status.
+fn whole_run<K: Keyed, L: Link, S: Source, W: Sink>(
+    alloc: Global,
+    keyed: &K,
+    link: &mut L,
+    source: &mut S,
+    sink: &mut W,
+) -> u8
+    ensures runs { IfSome (S.remaining source.old) (λ bytes.
+        HasRun (keyed_fn K.prf K.pad) bytes (seen (L.transcript link.old) (W.written sink.old)) (seen (L.transcript link.new) (W.written sink.new)) result) }
+    ensures source_failed { result ≡ 3 → Rose (S.faults source.old) (S.faults source.new) }
+    ensures sink_failed { result ≡ 4 → Rose (W.faults sink.old) (W.faults sink.new) }
+    ensures link_failed { result ≡ 5 → Rose (L.faults link.old) (L.faults link.new) }
+    ensures known { (result ≤ 9) × (result ≢ 6) }
+{
+    match run_script(alloc, keyed, link, source, sink) {
         Ok(Refusals::None) => 0,
         Ok(Refusals::Some) => 1,
         Err(stop) => finish(alloc, sink, stop),
@@ -70,8 +111,8 @@ pub fn sse_run<K: Keyed, L: Link, D: Disk, S: Source, W: Sink>(
 
 /// Prints the last line of a run that stopped, as far as the sink takes it, and answers the run's status.
 fn finish<W: Sink>(alloc: Global, sink: &mut W, stop: Stop) -> u8
-    ensures status { (refused : Bool) → result ≡ status_of refused (stop_view stop) }
-    ensures line { (n : ℕ) × (W.written sink.new ≡ append_known (W.written sink.old) (take n (stop_text (stop_view stop)))) }
+    ensures status { result ≡ status_of (stop_seen stop) }
+    ensures line { (n : ℕ) × (W.written sink.new ≡ append_known (W.written sink.old) (take n (stop_text (stop_seen stop)))) }
     ensures later { W.faults sink.old ≤ W.faults sink.new }
     ensures source { result ≡ 3 → stop ≡ Stop.Source }
     ensures sink { result ≡ 4 → stop ≡ Stop.Sink }
@@ -92,6 +133,10 @@ fn run_script<K: Keyed, L: Link, S: Source, W: Sink>(
     source: &mut S,
     sink: &mut W,
 ) -> Result<Refusals, Stop>
+    ensures ended { IfOk result (λ refusals. OpensTo (keyed_fn K.prf K.pad) (lines_left [] (S.remaining source.old)) (seen (L.transcript link.old) (W.written sink.old))
+        (seen (L.transcript link.new) (W.written sink.new)) (ends.AtEnd (has_refused refusals))) }
+    ensures stopped { IfErr result (λ stop. OpensTo (keyed_fn K.prf K.pad) (lines_left [] (S.remaining source.old)) (seen (L.transcript link.old) (W.written sink.old))
+        (seen (L.transcript link.new) (W.written sink.new)) (stop_seen stop)) }
     ensures source_later { S.faults source.old ≤ S.faults source.new }
     ensures source_failed { IsErrOf result Stop.Source → Rose (S.faults source.old) (S.faults source.new) }
     ensures sink_later { W.faults sink.old ≤ W.faults sink.new }
@@ -103,7 +148,8 @@ fn run_script<K: Keyed, L: Link, S: Source, W: Sink>(
     let key = key_line(source, &mut input)?;
     let mut room = vec![in alloc; 0u8; REPLY_ROOM]?;
     greet(alloc, link, &mut room)?;
-    let stage = Stage::Collecting(Client::fresh(key), Docs::new(alloc));
+    let docs = Docs::new(alloc, key.prepare(keyed).hash_keys(keyed));
+    let stage = Stage::Collecting(Client::fresh(key), docs);
     run_lines(
         alloc, keyed, link, &mut room, source, sink, &mut input, stage,
     )
@@ -111,6 +157,13 @@ fn run_script<K: Keyed, L: Link, S: Source, W: Sink>(
 
 /// Reads up to the key line, which is the first that isn't empty.
 fn key_line<S: Source>(source: &mut S, input: &mut Input) -> Result<MasterKey, Stop>
+    requires few { input.old.number + bytes_to_come input.old.reader (S.handed_out source.old) ≤ 2 ^ 63 }
+    ensures key { IfOk result (λ key. (f : KeyedFn) (now : Outside) (end : Ended) →
+        OpensAtKey f key input.new.number (lines_left input.new.reader (S.remaining source.new)) now end →
+        OpensFrom f (input.old.number + 1) (lines_left input.old.reader (S.remaining source.old)) now end) }
+    ensures stopped { IfErr result (λ stop. (f : KeyedFn) (now : Outside) →
+        OpensFrom f (input.old.number + 1) (lines_left input.old.reader (S.remaining source.old)) now (ended now None empty (stop_seen stop))) }
+    ensures few_left { OnOk result (input.new.number + bytes_to_come input.new.reader (S.handed_out source.new) ≤ 2 ^ 63) }
     ensures kind { IfErr result IsInputStop }
     ensures later { S.faults source.old ≤ S.faults source.new }
     ensures failed { IsErrOf result Stop.Source → Rose (S.faults source.old) (S.faults source.new) }
@@ -138,15 +191,14 @@ fn run_lines<K: Keyed, L: Link, S: Source, W: Sink>(
     input: &mut Input,
     mut stage: Stage,
 ) -> Result<Refusals, Stop>
-    requires { 65544 ≤ length room.old }
-    ensures ended { IfOk result (λ refusals. (bytes : List ℕ) (before : Outputs) →
-        Stands (keyed_fn K.prf K.pad) bytes before (record { told = L.transcript link.old; written = W.written sink.old })
-        (lines_left input.old.reader (S.remaining source.old)) stage false input.old.number (bytes_to_come input.old.reader (S.handed_out source.old)) →
-        EndsWell (keyed_fn K.prf K.pad) bytes before (record { told = L.transcript link.new; written = W.written sink.new }) (has_refused refusals)) }
-    ensures stopped { IfErr result (λ stop. (bytes : List ℕ) (before : Outputs) →
-        Stands (keyed_fn K.prf K.pad) bytes before (record { told = L.transcript link.old; written = W.written sink.old })
-        (lines_left input.old.reader (S.remaining source.old)) stage false input.old.number (bytes_to_come input.old.reader (S.handed_out source.old)) →
-        RunsTo (keyed_fn K.prf K.pad) bytes before (record { told = L.transcript link.new; written = W.written sink.new }) (stop_view stop)) }
+    requires room { 65544 ≤ length room.old }
+    requires few { input.old.number + bytes_to_come input.old.reader (S.handed_out source.old) ≤ 2 ^ 63 }
+    ensures ended { IfOk result (λ refusals. (place : Place) → IsAt (keyed_fn K.prf K.pad) stage place →
+        EndsFrom (keyed_fn K.prf K.pad) (moment place (input.old.number + 1) (lines_left input.old.reader (S.remaining source.old)) false (seen (L.transcript link.old) (W.written sink.old)))
+        (seen (L.transcript link.new) (W.written sink.new)) (ends.AtEnd (has_refused refusals))) }
+    ensures stopped { IfErr result (λ stop. (place : Place) → IsAt (keyed_fn K.prf K.pad) stage place →
+        EndsFrom (keyed_fn K.prf K.pad) (moment place (input.old.number + 1) (lines_left input.old.reader (S.remaining source.old)) false (seen (L.transcript link.old) (W.written sink.old)))
+        (seen (L.transcript link.new) (W.written sink.new)) (stop_seen stop)) }
     ensures source_later { S.faults source.old ≤ S.faults source.new }
     ensures source_failed { IsErrOf result Stop.Source → Rose (S.faults source.old) (S.faults source.new) }
     ensures sink_later { W.faults sink.old ≤ W.faults sink.new }
@@ -159,17 +211,43 @@ fn run_lines<K: Keyed, L: Link, S: Source, W: Sink>(
         if !input.advance(source)? {
             return Ok(refusals);
         }
-        let line = input.line()?;
-        if let Line::Key(_) = line {
-            return Err(Stop::Line(input.number()));
+        match input.line()? {
+            Line::Empty => {}
+            Line::Key(_) => return Err(Stop::Line(input.number())),
+            line => {
+                let (next, refused) = carry_out(alloc, keyed, link, room, sink, stage, line)?;
+                stage = next;
+                refusals = refusals.or(refused);
+            }
         }
-        let (next, outcome) = take_line(alloc, keyed, link, room, stage, line)?;
-        stage = next;
-        if outcome.is_refusal() {
-            refusals = Refusals::Some;
-        }
-        outcome.print(alloc, sink)?;
     }
+}
+
+/// Carries out a command, and prints what it comes to; answers where the session stands then, and whether it was refused.
+fn carry_out<K: Keyed, L: Link, W: Sink>(
+    alloc: Global,
+    keyed: &K,
+    link: &mut L,
+    room: &mut [u8],
+    sink: &mut W,
+    stage: Stage,
+    line: Line<'_>,
+) -> Result<(Stage, bool), Stop>
+    requires room { 65544 ≤ length room.old }
+    requires words { words_in (line_view line) ≤ 2 ^ 19 }
+    ensures carries { IfOk result (λ done. (request : Request) → line_read (line_view line.entry) ≡ requests.Command request →
+        CarriesOut (keyed_fn K.prf K.pad) stage request (seen (L.transcript link.old) (W.written sink.old)) (seen (L.transcript link.new) (W.written sink.new)) done.0 done.1) }
+    ensures stops { IfErr result (λ stop. (request : Request) → line_read (line_view line.entry) ≡ requests.Command request →
+        StopsRun (keyed_fn K.prf K.pad) stage request (seen (L.transcript link.old) (W.written sink.old)) (seen (L.transcript link.new) (W.written sink.new)) (stop_seen stop)) }
+    ensures no_source { result ≢ Err Stop.Source }
+    ensures sink_later { W.faults sink.old ≤ W.faults sink.new }
+    ensures sink_failed { IsErrOf result Stop.Sink → Rose (W.faults sink.old) (W.faults sink.new) }
+    ensures link_later { L.faults link.old ≤ L.faults link.new }
+    ensures link_failed { IsErrOf result (Stop.Peer PeerStop.Link) → Rose (L.faults link.old) (L.faults link.new) }
+{
+    let (next, outcome) = take_line(alloc, keyed, link, room, stage, line)?;
+    outcome.print(alloc, sink)?;
+    Ok((next, outcome.is_refusal()))
 }
 
 /// The same over a server in this process that begins with nothing, and a disk in memory: neither ever fails.
@@ -189,7 +267,7 @@ pub fn run_in_memory<K: Keyed + Copy, S: Source, W: Sink>(
     ensures no_link_fault { result ≢ 5 }
     ensures known { (result ≤ 9) × (result ≢ 6) }
 {
-    let mut link = SteadyLoopback::new(alloc, *keyed);
+    let mut link = SteadyLoopback::new(alloc, *keyed, Server::new(alloc));
     let mut disk = SteadyDisk::new(alloc);
     sse_run(alloc, words, keyed, &mut link, &mut disk, source, sink)
 }

@@ -4,7 +4,7 @@ ghost use Rattle.keyed_fn.specs.KeyFormulas.{token_of};
 ghost use Rattle.keyed_fn.specs.KeyedFn.{keyed_fn};
 ghost use Rattle.sse_frames.specs.Frames.{SearchFrame};
 ghost use Rattle.sse_outside.specs.Causes.{Rose};
-ghost use Rattle.sse_client.specs.Progress.{IsSearched, IsCutShort};
+ghost use Rattle.sse_client.specs.Exchanges.{HasSearched, HasCut};
 ghost use Rattle.sse_client.specs.Stops.{peer_cause};
 
 use crate::peer_stop::PeerStop;
@@ -24,9 +24,9 @@ pub(crate) fn search<K: Keyed, L: Link>(
     room: &mut [u8],
 ) -> Result<Vec<u64>, PeerStop>
     requires { 65544 ≤ length room.old }
-    ensures searched { IfOk result (λ found. IsSearched (L.transcript link.old) (L.transcript link.new)
+    ensures found { IfOk result (λ found. HasSearched (L.transcript link.old) (L.transcript link.new)
         (SearchFrame (token_of (keyed_fn K.prf K.pad) client.now.key (word_bytes word.now))) found.items) }
-    ensures cut { IfErr result (λ stop. IsCutShort (L.transcript link.old) (L.transcript link.new)
+    ensures stopped { IfErr result (λ stop. HasCut (L.transcript link.old) (L.transcript link.new)
         (SearchFrame (token_of (keyed_fn K.prf K.pad) client.now.key (word_bytes word.now)) ∷ []) (peer_cause stop)) }
     ensures later { L.faults link.old ≤ L.faults link.new }
     ensures no_label_clash { (first second : ℕ) → result ≢ Err (PeerStop.LabelClash first second) }

@@ -3,22 +3,26 @@ ghost use Rattle.std.specs.Result.{result_ok};
 ghost use Rattle.sse_outside.specs.Causes.{Rose};
 ghost use Rattle.client_registry.specs.declared.faults.SizeFault.{SizeFault};
 ghost use Rattle.index_setup.specs.Refused.{refused_by_size};
-ghost use Rattle.keyed_fn.specs.KeyedFn.{keyed_fn};
+ghost use Rattle.keyed_fn.specs.KeyedFn.{KeyedFn, keyed_fn};
 ghost use Rattle.sse_script.specs.Lines as lines;
 ghost use Rattle.sse_script.specs.Shown as says;
 ghost use Rattle.sse_script.specs.ShownViews.{shown_view};
 ghost use Rattle.sse_script.specs.Views.{line_view};
 ghost use Rattle.sse_script.specs.declared.shown.Shown.{Shown as Printed};
-ghost use Rattle.sse_client.specs.Refused.{size_refused};
-ghost use Rattle.sse_client.specs.Carried.{key_of, frames_by_result, IsCarried};
-ghost use Rattle.sse_client.specs.Progress.{IsExchanged, IsCutAt, AreNumbered};
+ghost use Rattle.script_meaning.specs.Refused.{size_refused};
+ghost use Rattle.sse_client.specs.Carried.{key_of};
+ghost use Rattle.sse_client.specs.Progress.{AreNumbered};
 ghost use Rattle.sse_client.specs.OutcomeViews.{outcome_view, refuses};
 ghost use Rattle.client_core.specs.Sending.{frame_list};
-ghost use Rattle.sse_frames.specs.Frames.{FrameText, frame_bytes};
+ghost use Rattle.std.specs.List.{AllByRecursion};
+ghost use Rattle.sse_frames.specs.Frames.{FrameText, IsFrame, frame_bytes};
 ghost use Rattle.sse_client.specs.Stops.{peer_cause};
-ghost use Rattle.sse_client.specs.Clauses.{label_clash};
-ghost use Rattle.sse_client.specs.Outcome.{Place, after};
-ghost use Rattle.sse_client.specs.Stages.{stage_view, place_view, words_in, is_alone, comes_to, DidAs};
+ghost use Rattle.script_meaning.specs.Exchange.{Told};
+ghost use Rattle.script_meaning.specs.Lines as requests;
+ghost use Rattle.script_meaning.specs.Lines.{Request, line_read};
+ghost use Rattle.sse_client.specs.Exchanges.{HasExchanged, HasCut};
+ghost use Rattle.sse_client.specs.Stands.{Takes, StopsWithin};
+ghost use Rattle.sse_client.specs.Stages.{stage_view, words_in};
 
 use crate::documents::{add_document, word_of};
 use crate::line_fault::LineFault;
@@ -51,17 +55,10 @@ pub(crate) fn take_line<K: Keyed, L: Link>(
 ) -> Result<(Stage, Outcome), PeerStop>
     requires room { 65544 ≤ length room.old }
     requires words { words_in (line_view line) ≤ 2 ^ 19 }
-    ensures carried { IfOk result (λ done. (place : Place) → stage_view stage ≡ place_view place →
-        IsCarried (keyed_fn K.prf K.pad) (key_of stage) (L.transcript link.old) (L.transcript link.new) done.0 done.1 place (comes_to place (line_view line.entry))) }
-    ensures cut { IfErr result (λ stop. (place : Place) → stage_view stage ≡ place_view place →
-        IsCutAt (L.transcript link.old) (L.transcript link.new) (frames_by_result (keyed_fn K.prf K.pad) (key_of stage) place.history (comes_to place (line_view line.entry))) (peer_cause stop)) }
-    ensures clash { (first second : ℕ) → result ≡ Err (PeerStop.LabelClash first second) → (place : Place) → stage_view stage ≡ place_view place →
-        label_clash (keyed_fn K.prf K.pad) (Some (key_of stage)) (after (comes_to place (line_view line.entry)) place).history ≡ Some (first, second) }
-    ensures clash_link { (first second : ℕ) → result ≡ Err (PeerStop.LabelClash first second) → link.new ≡ link.old }
-    ensures alone { IfOk result (λ done. (place : Place) → stage_view stage ≡ place_view place → IsTrue (is_alone (line_view line.entry)) →
-        DidAs done.0 done.1 place (comes_to place (line_view line.entry))) }
-    ensures alone_stop { IsTrue (is_alone (line_view line.entry)) → IfErr result (λ stop. stop ≡ PeerStop.Memory) }
-    ensures alone_link { IsTrue (is_alone (line_view line.entry)) → link.new ≡ link.old }
+    ensures takes { IfOk result (λ done. (request : Request) → line_read (line_view line.entry) ≡ requests.Command request →
+        Takes (keyed_fn K.prf K.pad) stage request (L.transcript link.old) (L.transcript link.new) done.0 done.1) }
+    ensures stops { IfErr result (λ stop. (request : Request) → line_read (line_view line.entry) ≡ requests.Command request →
+        StopsWithin (keyed_fn K.prf K.pad) stage request (L.transcript link.old) (L.transcript link.new) (peer_cause stop)) }
     ensures later { L.faults link.old ≤ L.faults link.new }
     ensures failed { IsErrOf result PeerStop.Link → Rose (L.faults link.old) (L.faults link.new) }
 {
@@ -82,8 +79,7 @@ fn collect(
     fields: Fields<'_>,
 ) -> Result<(Stage, Outcome), PeerStop>
     requires { length fields ≤ 2 ^ 19 }
-    ensures did { IfOk result (λ done. (place : Place) → stage_view stage ≡ place_view place →
-        DidAs done.0 done.1 place (comes_to place (lines.Doc id fields.entry))) }
+    ensures takes { IfOk result (λ done. (f : KeyedFn) (told : Told) → Takes f stage (requests.Doc id fields.entry) told told done.0 done.1) }
     ensures key { IfOk result (λ done. key_of done.0 ≡ key_of stage) }
     ensures memory { IfErr result (λ stop. stop ≡ PeerStop.Memory) }
 {
@@ -125,13 +121,8 @@ fn set_up<K: Keyed, L: Link>(
     big: u64,
 ) -> Result<(Stage, Outcome), PeerStop>
     requires { 65544 ≤ length room.old }
-    ensures carried { IfOk result (λ done. (place : Place) → stage_view stage ≡ place_view place →
-        IsCarried (keyed_fn K.prf K.pad) (key_of stage) (L.transcript link.old) (L.transcript link.new) done.0 done.1 place (comes_to place (lines.SetupLine b big))) }
-    ensures cut { IfErr result (λ stop. (place : Place) → stage_view stage ≡ place_view place →
-        IsCutAt (L.transcript link.old) (L.transcript link.new) (frames_by_result (keyed_fn K.prf K.pad) (key_of stage) place.history (comes_to place (lines.SetupLine b big))) (peer_cause stop)) }
-    ensures clash { (first second : ℕ) → result ≡ Err (PeerStop.LabelClash first second) → (place : Place) → stage_view stage ≡ place_view place →
-        label_clash (keyed_fn K.prf K.pad) (Some (key_of stage)) (after (comes_to place (lines.SetupLine b big)) place).history ≡ Some (first, second) }
-    ensures clash_link { (first second : ℕ) → result ≡ Err (PeerStop.LabelClash first second) → link.new ≡ link.old }
+    ensures takes { IfOk result (λ done. Takes (keyed_fn K.prf K.pad) stage (requests.SetupLine b big) (L.transcript link.old) (L.transcript link.new) done.0 done.1) }
+    ensures stops { IfErr result (λ stop. StopsWithin (keyed_fn K.prf K.pad) stage (requests.SetupLine b big) (L.transcript link.old) (L.transcript link.new) (peer_cause stop)) }
     ensures later { L.faults link.old ≤ L.faults link.new }
     ensures failed { IsErrOf result PeerStop.Link → Rose (L.faults link.old) (L.faults link.new) }
 {
@@ -159,11 +150,12 @@ fn send_setup<L: Link>(
     link: &mut L,
     room: &mut [u8],
 ) -> Result<(Stage, Outcome), PeerStop>
-    requires { 65544 ≤ length room.old }
-    ensures sent { (frames : List FrameText) → frame_list planned.frames ≡ map frame_bytes frames → AreNumbered 0 frames →
-        OnOk result (IsExchanged (L.transcript link.old) (L.transcript link.new) [] frames) }
-    ensures cut { (frames : List FrameText) → frame_list planned.frames ≡ map frame_bytes frames → AreNumbered 0 frames →
-        IfErr result (λ stop. IsCutAt (L.transcript link.old) (L.transcript link.new) frames (peer_cause stop)) }
+    requires frames { AllByRecursion IsFrame (frame_list planned.frames) }
+    requires room { 65544 ≤ length room.old }
+    ensures exchanged { (frames : List FrameText) → frame_list planned.frames ≡ map frame_bytes frames → AreNumbered 0 frames →
+        OnOk result (HasExchanged (L.transcript link.old) (L.transcript link.new) [] frames) }
+    ensures stopped { (frames : List FrameText) → frame_list planned.frames ≡ map frame_bytes frames → AreNumbered 0 frames →
+        IfErr result (λ stop. HasCut (L.transcript link.old) (L.transcript link.new) frames (peer_cause stop)) }
     ensures shown { IfOk result (λ done. outcome_view done.1 ≡ says.SetUp planned.words planned.blocks ∷ []) }
     ensures accepted { IfOk result (λ done. refuses done.1 ≡ false) }
     ensures set_up { IfOk result (λ done. stage_view done.0 ≡ None) }
@@ -205,10 +197,8 @@ fn find<K: Keyed, L: Link>(
     field: &[u8],
 ) -> Result<(Stage, Outcome), PeerStop>
     requires { 65544 ≤ length room.old }
-    ensures carried { IfOk result (λ done. (place : Place) → stage_view stage ≡ place_view place →
-        IsCarried (keyed_fn K.prf K.pad) (key_of stage) (L.transcript link.old) (L.transcript link.new) done.0 done.1 place (comes_to place (lines.Find field.now))) }
-    ensures cut { IfErr result (λ stop. (place : Place) → stage_view stage ≡ place_view place →
-        IsCutAt (L.transcript link.old) (L.transcript link.new) (frames_by_result (keyed_fn K.prf K.pad) (key_of stage) place.history (comes_to place (lines.Find field.now))) (peer_cause stop)) }
+    ensures takes { IfOk result (λ done. Takes (keyed_fn K.prf K.pad) stage (requests.Find field.now) (L.transcript link.old) (L.transcript link.new) done.0 done.1) }
+    ensures stops { IfErr result (λ stop. StopsWithin (keyed_fn K.prf K.pad) stage (requests.Find field.now) (L.transcript link.old) (L.transcript link.new) (peer_cause stop)) }
     ensures later { L.faults link.old ≤ L.faults link.new }
     ensures no_label_clash { (first second : ℕ) → result ≢ Err (PeerStop.LabelClash first second) }
     ensures failed { IsErrOf result PeerStop.Link → Rose (L.faults link.old) (L.faults link.new) }
@@ -219,7 +209,7 @@ fn find<K: Keyed, L: Link>(
             Outcome::Refused(Shown::NotSetUp),
         )),
         Stage::Searching(client) => {
-            let outcome = match word_of(alloc, field, 0) {
+            let outcome = match word_of(field, 0) {
                 Ok(word) => Outcome::Found(search(alloc, keyed, &client, &word, link, room)?),
                 Err(fault) => refusal_of(Err(fault))?,
             };

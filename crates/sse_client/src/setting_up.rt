@@ -1,8 +1,10 @@
 ghost use Rattle.std.specs.Prelude.{◌≡◌, ◌≢◌, ◌≤◌, ℕ, List, [], Err, map, length, IfErr, IfOk, OnOk, IsErrOf};
 ghost use Rattle.client_core.specs.Sending.{to_send};
-ghost use Rattle.sse_frames.specs.Frames.{FrameText, frame_bytes};
+ghost use Rattle.std.specs.List.{AllByRecursion};
+ghost use Rattle.sse_frames.specs.Frames.{FrameText, IsFrame, frame_bytes};
 ghost use Rattle.sse_outside.specs.Causes.{Rose};
-ghost use Rattle.sse_client.specs.Progress.{IsExchanged, IsCutAt, AreNumbered};
+ghost use Rattle.sse_client.specs.Exchanges.{HasExchanged, HasCut};
+ghost use Rattle.sse_client.specs.Progress.{AreNumbered};
 ghost use Rattle.sse_client.specs.Stops.{peer_cause};
 
 use crate::exchange::exchange;
@@ -16,12 +18,13 @@ pub(crate) fn catch_up<L: Link>(
     link: &mut L,
     room: &mut [u8],
 ) -> Result<Client<Ready>, PeerStop>
-    requires { 65544 ≤ length room.old }
+    requires frames { AllByRecursion IsFrame (to_send client.state) }
+    requires room { 65544 ≤ length room.old }
     ensures key { IfOk result (λ ready. ready.key ≡ client.key) }
-    ensures exchanged { (frames : List FrameText) → to_send client.state ≡ map frame_bytes frames → AreNumbered client.state.next frames →
-        OnOk result (IsExchanged (L.transcript link.old) (L.transcript link.new) [] frames) }
-    ensures cut { (frames : List FrameText) → to_send client.state ≡ map frame_bytes frames → AreNumbered client.state.next frames →
-        IfErr result (λ stop. IsCutAt (L.transcript link.old) (L.transcript link.new) frames (peer_cause stop)) }
+    ensures sent { (frames : List FrameText) → to_send client.state ≡ map frame_bytes frames → AreNumbered client.state.next frames →
+        OnOk result (HasExchanged (L.transcript link.old) (L.transcript link.new) [] frames) }
+    ensures unsent { (frames : List FrameText) → to_send client.state ≡ map frame_bytes frames → AreNumbered client.state.next frames →
+        IfErr result (λ stop. HasCut (L.transcript link.old) (L.transcript link.new) frames (peer_cause stop)) }
     ensures later { L.faults link.old ≤ L.faults link.new }
     ensures no_label_clash { (first second : ℕ) → result ≢ Err (PeerStop.LabelClash first second) }
     ensures failed { IsErrOf result PeerStop.Link → Rose (L.faults link.old) (L.faults link.new) }

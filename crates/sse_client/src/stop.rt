@@ -1,8 +1,10 @@
-ghost use Rattle.std.specs.Prelude.{◌≡◌, ◌≢◌, ◌≤◌, Bool, option_map};
+ghost use Rattle.std.specs.Prelude.{◌≡◌, ◌≢◌, ◌≤◌, option_map};
 ghost use Rattle.sse_script.specs.Shown as says;
 ghost use Rattle.sse_script.specs.ShownViews.{shown_view};
-ghost use Rattle.sse_script.specs.Stops.{cause_status, status_of, stop_line};
-ghost use Rattle.sse_client.specs.Stops.{peer_cause, stop_view};
+ghost use Rattle.sse_script.specs.Stops.{cause_status};
+ghost use Rattle.script_meaning.specs.Stops.{status_of, stop_line};
+ghost use Rattle.sse_client.specs.Stands.{stop_seen};
+ghost use Rattle.sse_client.specs.Stops.{peer_cause};
 
 use crate::peer_stop::PeerStop;
 use sse_outside::DeviceFault;
@@ -29,7 +31,7 @@ pub(crate) enum Stop {
 impl Stop {
     /// The exit status.
     pub(crate) fn status(&self) -> u8
-        ensures status { (refused : Bool) → result ≡ status_of refused (stop_view self.now) }
+        ensures status { result ≡ status_of (stop_seen self.now) }
         ensures source { result ≡ 3 → self.now ≡ Stop.Source }
         ensures sink { result ≡ 4 → self.now ≡ Stop.Sink }
         ensures link { result ≡ 5 → self.now ≡ Stop.Peer PeerStop.Link }
@@ -47,7 +49,7 @@ impl Stop {
 
     /// The last line of the run; none where the sink is what failed.
     pub(crate) fn shown(&self) -> Option<Shown<'_>>
-        ensures { option_map shown_view result ≡ stop_line (stop_view self.now) }
+        ensures { option_map shown_view result ≡ stop_line (stop_seen self.now) }
     {
         match self {
             Stop::Words => Some(Shown::BadWords),

@@ -1,16 +1,19 @@
 //! A client and its server in one process: the script comes from standard input, and what its lines come to
 //! goes to standard output. The words of the command line are those of `sse_run`: `run`. It ends with the
-//! status of the run.
+//! status of the run, and with `stopped: memory` and 7 where there is no memory to read the words in.
 #![tactic(auto)]
 
 use keyed_fn::Real;
 use sse_client::run_in_memory;
-use sse_outside::{StdSink, StdSource};
+use sse_outside::{StdSink, StdSource, print_all};
 use std::process::ExitCode;
 use std::{env, io};
 
 /// The status of a run that found no memory.
 const NO_MEMORY: u8 = 7;
+
+/// Its last line, which is written without taking memory.
+const NO_MEMORY_LINE: &[u8] = b"stopped: memory\n";
 
 fn main(rt: HostRuntime) -> ExitCode {
     let mut source = StdSource::new(rt.stdin());
@@ -18,7 +21,10 @@ fn main(rt: HostRuntime) -> ExitCode {
     let alloc = rt.alloc();
     match words_of(&rt) {
         Ok(words) => ExitCode::from(run_in_memory(alloc, &words, &Real, &mut source, &mut sink)),
-        Err(_) => ExitCode::from(NO_MEMORY),
+        Err(_) => {
+            let _ = print_all(&mut sink, NO_MEMORY_LINE);
+            ExitCode::from(NO_MEMORY)
+        }
     }
 }
 

@@ -1,5 +1,6 @@
 use crate::running::{SCRIPT, run_over};
 use keyed_fn::Real;
+use server_core::Server;
 use sse_link::{Fail as FailingCall, Loopback};
 use std::test::Fail;
 
@@ -34,7 +35,12 @@ const ROWS: [(&[u64], &[u64], &[FailingCall], u8, &[u8]); 5] = [
 fn failing_devices(rt: HostRuntime) -> Result<(), Fail> {
     let alloc = rt.alloc();
     for (source, sink, link, status, printed) in ROWS {
-        let mut link = Loopback::new(alloc, Real, Vec::from_slice(alloc, link)?);
+        let mut link = Loopback::new(
+            alloc,
+            Real,
+            Server::new(alloc),
+            Vec::from_slice(alloc, link)?,
+        );
         let ended = run_over(alloc, &Real, &mut link, SCRIPT, source, sink)?;
         assert_eq!(rt; ended.printed.as_slice(), printed);
         assert_eq!(rt; ended.status, status);

@@ -1,5 +1,6 @@
 use crate::running::run_over;
 use keyed_fn::Toy;
+use server_core::Server;
 use sse_link::SteadyLoopback;
 use std::test::Fail;
 
@@ -13,7 +14,7 @@ find da
 #[test]
 fn equal_labels_stop_the_run_before_anything_is_sent(rt: HostRuntime) -> Result<(), Fail> {
     let alloc = rt.alloc();
-    let mut link = SteadyLoopback::new(alloc, Toy);
+    let mut link = SteadyLoopback::new(alloc, Toy, Server::new(alloc));
     let ended = run_over(alloc, &Toy, &mut link, SCRIPT, &[], &[])?;
     assert_eq!(rt;
         ended.printed.as_slice(),

@@ -1,5 +1,6 @@
 use crate::running::{SCRIPT, run_over};
 use keyed_fn::Real;
+use server_core::Server;
 use sse_link::{Passed, SteadyLoopback};
 use std::alloc::{AllocError, Global};
 use std::test::Fail;
@@ -22,7 +23,7 @@ const TRANSCRIPT: [&str; 10] = [
 #[test]
 fn the_worked_example(rt: HostRuntime) -> Result<(), Fail> {
     let alloc = rt.alloc();
-    let mut link = SteadyLoopback::new(alloc, Real);
+    let mut link = SteadyLoopback::new(alloc, Real, Server::new(alloc));
     let ended = run_over(alloc, &Real, &mut link, SCRIPT, &[], &[])?;
     assert_eq!(rt; ended.status, 0);
     assert_eq!(rt; link.transcript().len(), TRANSCRIPT.len());
@@ -34,7 +35,7 @@ fn the_worked_example(rt: HostRuntime) -> Result<(), Fail> {
 
 fn line_of(alloc: Global, passed: &Passed) -> Result<String, AllocError> {
     let (way, bytes) = match passed {
-        Passed::Sent(bytes) => ("sent", bytes),
+        Passed::Sent { bytes, .. } => ("sent", bytes),
         Passed::Received(bytes) => ("received", bytes),
     };
     let hexadecimal = hex::encode(alloc, bytes.as_slice())?;

@@ -1,6 +1,6 @@
 use Rattle.std.proofs.Common.{◌≡◌, ◌+◌, ◌++◌, length, map}
 use Rattle.client_registry.specs.WordBytes.{word_bytes}
-use Rattle.sse_client.specs.Refused.{bad_word}
+use Rattle.script_meaning.specs.Refused.{bad_word}
 use Rattle.sse_client.proofs.documents.words_of.Given as goal
 
 abbrev pub invariant-loop-field : goal.invariant-loop-field

@@ -1,21 +1,36 @@
-use Rattle.std.proofs.Common.{◌≡◌, false, Some, refl, ap, ◌∙◌}
-use Rattle.sse_script.specs.Stops.{status_of}
-use Rattle.sse_client.specs.Stops.{stop_view}
-use Rattle.sse_client.specs.declared.stop.Stop.TheVariants.{Words}
-use Rattle.sse_client.specs.declared.words.Mode.{Mode}
-use Rattle.sse_client.specs.declared.words.Mode.TheVariants.{Run}
+use Rattle.keyed_fn.specs.KeyedFn.{IsKeyedFn, keyed_fn}
+use Rattle.sse_client.specs.Stands.{seen, HasRun, IsHonest, HasHeadline}
+use Rattle.sse_client.proofs.Opening.{IfSome-then, run-honest, run-headline}
 use Rattle.sse_client.proofs.run.sse_run.Goals as goal
-use Rattle.sse_client.proofs.run.sse_run.Goals.{in-Some-Run, in-None}
 
--- there is one mode
-is_run : (mode : Mode) → mode ≡ Run
-is_run Run = refl
+pub returns-in-Some-Run-clause-honest : goal.returns-in-Some-Run-clause-honest
+returns-in-Some-Run-clause-honest g c = λ asked.
+    let f = keyed_fn g.K.Keyed.prf g.K.Keyed.pad in
+    let laws : IsKeyedFn f = record {
+      prf_length = g.met.K.Keyed.prf_length;
+      prf_bytes = g.met.K.Keyed.prf_bytes;
+      pad_length = g.met.K.Keyed.pad_length;
+      pad_bytes = g.met.K.Keyed.pad_bytes;
+      pad_prefix = g.met.K.Keyed.pad_prefix;
+    } in
+    let now = seen (g.L.Link.transcript c.args.link.now) (g.W.Sink.written c.args.sink.now) in
+    let last = seen (g.L.Link.transcript c.whole_run.new.link) (g.W.Sink.written c.whole_run.new.sink) in
+    IfSome-then (g.S.Source.remaining c.args.source.now) (λ bytes. HasRun f bytes now last c.whole_run.result) (λ bytes. IsHonest f bytes now last c.whole_run.result)
+    (λ bytes run. record { run = run; stopped = λ state honest free. run-honest f laws bytes now last c.whole_run.result state run honest free })
+    c.whole_run.ensures.runs
 
--- a run whose words are refused stopped for them
-pub returns-in-Err-clause-words_status : goal.returns-in-Err-clause-words_status
-returns-in-Err-clause-words_status g c = λ other. elim c.match-mode_of.branch [
-  | in-Some-Run w ↦ absurd (other (c.mode_of.ensures.others (w.in-Some-Run.is ∙ ap (λ mode. Some mode) (is_run w.in-Some-Run.field-0))))
-  | in-None w ↦
-      let stopped : c.in-Err.stop ≡ Words = cc (c.in-Err.is, w.ended-is) in
-      c.finish.ensures.status false ∙ ap (λ stop. status_of false (stop_view stop)) stopped
-]
+pub returns-in-Some-Run-clause-headline : goal.returns-in-Some-Run-clause-headline
+returns-in-Some-Run-clause-headline g c = λ asked.
+    let f = keyed_fn g.K.Keyed.prf g.K.Keyed.pad in
+    let laws : IsKeyedFn f = record {
+      prf_length = g.met.K.Keyed.prf_length;
+      prf_bytes = g.met.K.Keyed.prf_bytes;
+      pad_length = g.met.K.Keyed.pad_length;
+      pad_bytes = g.met.K.Keyed.pad_bytes;
+      pad_prefix = g.met.K.Keyed.pad_prefix;
+    } in
+    let now = seen (g.L.Link.transcript c.args.link.now) (g.W.Sink.written c.args.sink.now) in
+    let last = seen (g.L.Link.transcript c.whole_run.new.link) (g.W.Sink.written c.whole_run.new.sink) in
+    IfSome-then (g.S.Source.remaining c.args.source.now) (λ bytes. HasRun f bytes now last c.whole_run.result) (λ bytes. HasHeadline f bytes now last c.whole_run.result)
+    (λ bytes run state honest free calm. run-headline f laws bytes now last c.whole_run.result state run honest free calm)
+    c.whole_run.ensures.runs

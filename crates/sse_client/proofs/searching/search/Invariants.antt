@@ -11,6 +11,7 @@ invariant-pages g l = record {
   room : 65544 ≤ length l.room;
   due : g.L.Link.reply_due l.link ≡ true;
   later : g.L.Link.faults l.fn.link ≤ g.L.Link.faults l.link;
+  few : l.found.pages ≤ MAX_PAGES;
   reading : IsReading (g.L.Link.transcript l.fn.link) (g.L.Link.transcript l.link)
       (token_of (keyed_fn g.K.Keyed.prf g.K.Keyed.pad) l.fn.client.key (word_bytes l.fn.word)) l.found.ids.items l.found.pages;
 }

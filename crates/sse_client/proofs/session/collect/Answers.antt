@@ -1,12 +1,23 @@
-use Rattle.std.proofs.Common.{refl, ap, sym, ◌∙◌}
-use Rattle.sse_client.specs.Stages.{stage_view}
-use Rattle.sse_client.proofs.Collected.{did_collect}
+use Rattle.std.proofs.Common.{◌≡◌, refl, ap, sym, ◌∙◌, subst}
+use Rattle.std.proofs.Common.{false}
+use Rattle.client_registry.specs.Histories.{is_set_up}
+use Rattle.script_meaning.specs.Outcome.{Place}
+use Rattle.sse_client.specs.Stands.{IsAt}
+use Rattle.sse_client.proofs.Taking.{takes-doc, takes-doc_behind}
+use Rattle.sse_client.specs.declared.session.Stage.{Stage}
+use Rattle.sse_client.specs.declared.session.Stage.TheVariants.{Collecting, Searching}
 use Rattle.sse_client.proofs.session.collect.Goals as goal
 
-pub returns-in_ok-refusal_of-in-Collecting-clause-did :
-    goal.returns-in_ok-refusal_of-in-Collecting-clause-did
-returns-in_ok-refusal_of-in-Collecting-clause-did c = λ place at.
-    did_collect c.args.id c.args.fields c.in-Collecting.docs c.add_document-added.new.docs _ _ c.add_document-added.result refl
+pub returns-in_ok-refusal_of-in-Collecting-clause-takes :
+    goal.returns-in_ok-refusal_of-in-Collecting-clause-takes
+returns-in_ok-refusal_of-in-Collecting-clause-takes c = λ f told place a.
+    let here : IsAt f (Collecting c.in-Collecting.client c.in-Collecting.docs) place = subst (λ (s : Stage). IsAt f s place) c.in-Collecting.is a in
+    takes-doc f told c.args.id c.args.fields c.in-Collecting.docs c.add_document-added.new.docs _ _ c.add_document-added.result place here.stands.1 here.stands.0
+    (λ ds after e is. record { key = here.key ∙ sym (ap (λ (p : Place). p.key) is); stands = (e ∙ sym (ap (λ (p : Place). p.documents) is), subst (λ (p : Place). is_set_up p.history ≡ false) (sym is) here.stands.1) })
     (record { added = c.add_document-added.ensures.added; accepted = c.add_document-added.ensures.accepted; refused = c.add_document-added.ensures.refused; kept = c.add_document-added.ensures.kept })
     (record { nothing = c.in_ok-refusal_of-in-Collecting.ensures.nothing; refused = c.in_ok-refusal_of-in-Collecting.ensures.refused; memory = c.in_ok-refusal_of-in-Collecting.ensures.memory })
-    place (ap stage_view (sym c.in-Collecting.is) ∙ at)
+
+pub returns-in-Searching-clause-takes : goal.returns-in-Searching-clause-takes
+returns-in-Searching-clause-takes c = λ f told place a.
+    let here : IsAt f (Searching c.in-Searching.client) place = subst (λ (s : Stage). IsAt f s place) c.in-Searching.is a in
+    takes-doc_behind f told _ _ place c.args.id c.args.fields here.stands refl refl here

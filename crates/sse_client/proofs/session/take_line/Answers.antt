@@ -1,55 +1,63 @@
-use Rattle.std.proofs.Common.{◌≡◌, Some, inl, inr, refl, sym, subst}
-use Rattle.std.specs.Prelude.{IfOk}
+use Rattle.std.proofs.Common.{◌≡◌, inl, inr, refl, sym, ap, ◌∙◌}
 use Rattle.keyed_fn.specs.KeyedFn.{keyed_fn}
-use Rattle.sse_script.specs.Lines as lines
 use Rattle.sse_script.specs.Views.{line_view}
-use Rattle.sse_client.specs.Carried.{key_of, IsCarried}
-use Rattle.sse_client.specs.Clauses.{label_clash}
-use Rattle.sse_client.specs.Outcome.{Place, after}
-use Rattle.sse_client.specs.Stages.{stage_view, place_view, comes_to}
 use Rattle.sse_client.specs.declared.outcome.Outcome.{Outcome as Came}
 use Rattle.sse_client.specs.declared.outcome.Outcome.TheVariants as comings
 use Rattle.sse_script.specs.declared.line.Line.{Line}
 use Rattle.sse_script.specs.declared.shown.Shown.TheVariants as printed
-use Rattle.sse_client.proofs.Carrying.{carried-empty, carried-key, carried-not_built, carried_if_did, cut_if_memory}
+use Rattle.script_meaning.specs.Lines as requests
+use Rattle.script_meaning.specs.Lines.{line_read}
+use Rattle.sse_client.proofs.Taking.{takes_own, stops_own, takes_under, stops_if_memory, takes-not_built}
 use Rattle.sse_client.proofs.session.take_line.Goals as goal
 
-pub returns-in-Doc-clause-carried : goal.returns-in-Doc-clause-carried
-returns-in-Doc-clause-carried g c =
+pub returns-in-Empty-clause-takes : goal.returns-in-Empty-clause-takes
+returns-in-Empty-clause-takes g c = λ request e. elim c.in-Empty.is [
+  | inl is ↦ absurd (let no : requests.Empty ≡ requests.Command request = sym (ap (λ (line : Line). line_read (line_view line)) is) ∙ e in cc)
+  | inr is ↦ absurd (let no : requests.Key is.0 ≡ requests.Command request = sym (ap (λ (line : Line). line_read (line_view line)) is.1) ∙ e in cc)
+]
+
+pub returns-in-Doc-clause-takes : goal.returns-in-Doc-clause-takes
+returns-in-Doc-clause-takes g c =
     let f = keyed_fn g.K.Keyed.prf g.K.Keyed.pad in
     let told = g.L.Link.transcript c.args.link.now in
-    subst
-    (λ line. IfOk c.collect.result (λ done. (place : Place) → stage_view c.args.stage ≡ place_view place → IsCarried f (key_of c.args.stage) told told done.0 done.1 place (comes_to place (line_view line))))
-    (sym c.in-Doc.is)
-    (carried_if_did f told c.args.stage (lines.Doc c.in-Doc.id c.in-Doc.words) refl c.collect.result c.collect.ensures.did c.collect.ensures.key)
+    let own = requests.Doc c.in-Doc.id c.in-Doc.words in
+    takes_own f c.args.stage told told (line_read (line_view c.args.line)) own (ap (λ (line : Line). line_read (line_view line)) c.in-Doc.is) c.collect.result
+    (takes_under f told c.args.stage own c.collect.result c.collect.ensures.takes)
 
-pub returns-in-Doc-clause-cut : goal.returns-in-Doc-clause-cut
-returns-in-Doc-clause-cut g c =
-    cut_if_memory (keyed_fn g.K.Keyed.prf g.K.Keyed.pad) (g.L.Link.transcript c.args.link.now) c.args.stage (line_view c.args.line) c.collect.result c.collect.ensures.memory
-
-pub returns-in-Empty-clause-carried : goal.returns-in-Empty-clause-carried
-returns-in-Empty-clause-carried g c = λ place at.
+pub returns-in-Doc-clause-stops : goal.returns-in-Doc-clause-stops
+returns-in-Doc-clause-stops g c =
     let f = keyed_fn g.K.Keyed.prf g.K.Keyed.pad in
     let told = g.L.Link.transcript c.args.link.now in
-    let Carries : Line → Type 0 = λ line. IsCarried f (key_of c.args.stage) told told c.args.stage comings.Nothing place (comes_to place (line_view line)) in
-    elim c.in-Empty.is [
-      | inl is ↦ subst Carries (sym is) (carried-empty f told c.args.stage place at)
-      | inr is ↦ subst Carries (sym is.1) (carried-key f told c.args.stage is.0 place at)
-    ]
+    let own = requests.Doc c.in-Doc.id c.in-Doc.words in
+    stops_own f c.args.stage told told (line_read (line_view c.args.line)) own (ap (λ (line : Line). line_read (line_view line)) c.in-Doc.is) c.collect.result
+    (stops_if_memory f told c.args.stage own c.collect.result c.collect.ensures.memory)
 
-pub returns-in-Add-clause-carried : goal.returns-in-Add-clause-carried
-returns-in-Add-clause-carried g c = λ place at.
+pub returns-in-Setup-clause-takes : goal.returns-in-Setup-clause-takes
+returns-in-Setup-clause-takes g c =
+    takes_own (keyed_fn g.K.Keyed.prf g.K.Keyed.pad) c.args.stage (g.L.Link.transcript c.args.link.now) (g.L.Link.transcript c.set_up.new.link) (line_read (line_view c.args.line)) (requests.SetupLine c.in-Setup.b c.in-Setup.big)
+    (ap (λ (line : Line). line_read (line_view line)) c.in-Setup.is) c.set_up.result c.set_up.ensures.takes
+
+pub returns-in-Setup-clause-stops : goal.returns-in-Setup-clause-stops
+returns-in-Setup-clause-stops g c =
+    stops_own (keyed_fn g.K.Keyed.prf g.K.Keyed.pad) c.args.stage (g.L.Link.transcript c.args.link.now) (g.L.Link.transcript c.set_up.new.link) (line_read (line_view c.args.line)) (requests.SetupLine c.in-Setup.b c.in-Setup.big)
+    (ap (λ (line : Line). line_read (line_view line)) c.in-Setup.is) c.set_up.result c.set_up.ensures.stops
+
+pub returns-in-Find-clause-takes : goal.returns-in-Find-clause-takes
+returns-in-Find-clause-takes g c =
+    takes_own (keyed_fn g.K.Keyed.prf g.K.Keyed.pad) c.args.stage (g.L.Link.transcript c.args.link.now) (g.L.Link.transcript c.find.new.link) (line_read (line_view c.args.line)) (requests.Find c.in-Find.word.now)
+    (ap (λ (line : Line). line_read (line_view line)) c.in-Find.is) c.find.result c.find.ensures.takes
+
+pub returns-in-Find-clause-stops : goal.returns-in-Find-clause-stops
+returns-in-Find-clause-stops g c =
+    stops_own (keyed_fn g.K.Keyed.prf g.K.Keyed.pad) c.args.stage (g.L.Link.transcript c.args.link.now) (g.L.Link.transcript c.find.new.link) (line_read (line_view c.args.line)) (requests.Find c.in-Find.word.now)
+    (ap (λ (line : Line). line_read (line_view line)) c.in-Find.is) c.find.result c.find.ensures.stops
+
+pub returns-in-Add-clause-takes : goal.returns-in-Add-clause-takes
+returns-in-Add-clause-takes g c = λ request e.
     let f = keyed_fn g.K.Keyed.prf g.K.Keyed.pad in
     let told = g.L.Link.transcript c.args.link.now in
     let came : Came = comings.Refused printed.NotBuilt in
-    let Carries : Line → Type 0 = λ line. IsCarried f (key_of c.args.stage) told told c.args.stage came place (comes_to place (line_view line)) in
-    let refused = carried-not_built f told c.args.stage came refl refl place at in
     elim c.in-Add.is [
-      | inl is ↦ subst Carries (sym is.2) refused
-      | inr is ↦ subst Carries (sym is.1) refused
+      | inl is ↦ takes-not_built f told c.args.stage came (line_read (line_view c.args.line)) (requests.AddLine is.0 is.1) request refl refl (λ place. refl) (ap (λ (line : Line). line_read (line_view line)) is.2) e
+      | inr is ↦ takes-not_built f told c.args.stage came (line_read (line_view c.args.line)) (requests.Del is.0) request refl refl (λ place. refl) (ap (λ (line : Line). line_read (line_view line)) is.1) e
     ]
-
-pub returns-in-Setup-clause-clash : goal.returns-in-Setup-clause-clash
-returns-in-Setup-clause-clash g c = λ first second e place at.
-    subst (λ (line : Line). label_clash (keyed_fn g.K.Keyed.prf g.K.Keyed.pad) (Some (key_of c.args.stage)) (after (comes_to place (line_view line)) place).history ≡ Some (first, second)) (sym c.in-Setup.is)
-    (c.set_up.ensures.clash first second e place at)

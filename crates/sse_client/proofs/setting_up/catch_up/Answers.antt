@@ -1,18 +1,15 @@
 use Rattle.std.proofs.Common.{take, rules, sym, subst, arith}
-use Rattle.sse_client.specs.Progress.{IsAnswered, IsCutAt}
+use Rattle.sse_client.specs.Progress.{IsAnswered}
 use Rattle.sse_client.specs.Stops.{peer_cause}
 use Rattle.sse_client.proofs.Passing.{IsAnswered-same, IfErr-from}
-use Rattle.sse_client.proofs.UnderWay.{IsUnderWay-next, IsUnderWay-last, IsCutAt-unanswered, IsCutAt-answered}
+use Rattle.client_core.specs.Sending.{to_send}
+use Rattle.sse_client.specs.Exchanges.{HasCut}
+use Rattle.sse_client.proofs.Sending.{IsSending-next, IsSending-last, HasCut-unanswered, HasCut-answered}
+use Rattle.sse_client.proofs.UnderWay.{first_frame, frames_behind}
 use Rattle.sse_client.proofs.setting_up.catch_up.Goals as goal
 
-pub returns-in_err-size-clause-cut : goal.returns-in_err-size-clause-cut
-returns-in_err-size-clause-cut g c frames owed numbered =
-    let old = g.L.Link.transcript c.args.link.now in
-    let now = g.L.Link.transcript c.frames.link in
-    let new = g.L.Link.transcript c.exchange.new.link in
-    let stop = c.in_err-size.field-0.0 in
-    IfErr-from c.from_residual.result stop (λ e. IsCutAt old new frames (peer_cause e)) c.from_residual.ensures.1
-    (IsCutAt-unanswered old now new c.frames.client.state frames c.frame.result.now (peer_cause stop) (c.frames.invariant.way frames (owed, numbered)) c.frame.ensures c.in_err-size.ensures.unanswered)
+pub exchange-requires-clause-frame : goal.exchange-requires-clause-frame
+exchange-requires-clause-frame g c = first_frame (to_send c.frames.client.state) c.frame.result.now c.frame.ensures c.frames.invariant.grammar
 
 pub frames-preserved : goal.frames-preserved
 frames-preserved g c =
@@ -24,28 +21,38 @@ frames-preserved g c =
     record {
       room = search rules;
       later = omega (arith, c.frames.invariant.later, c.exchange.ensures.later);
+      grammar = frames_behind (to_send c.frames.client.state) (to_send c.in-Behind.next.state) c.in-Behind.ensures.after.3 c.frames.invariant.grammar;
       key = search rules;
-      way = λ frames owed.
-          IsUnderWay-next old now new c.frames.client.state c.in-Behind.next.state frames c.frame.result.now reply (c.frames.invariant.way frames owed) c.frame.ensures answered
+      sending = λ frames owed.
+          IsSending-next old now new c.frames.client.state c.in-Behind.next.state frames c.frame.result.now reply (c.frames.invariant.sending frames owed) c.frame.ensures answered
           c.in-Behind.ensures.after.0 c.in-Behind.ensures.after.3 c.in-Behind.ensures.after.2;
     }
 
-pub returns-in-Ready-clause-exchanged : goal.returns-in-Ready-clause-exchanged
-returns-in-Ready-clause-exchanged g c frames owed numbered =
+pub returns-in_err-size-clause-unsent : goal.returns-in_err-size-clause-unsent
+returns-in_err-size-clause-unsent g c frames owed numbered =
     let old = g.L.Link.transcript c.args.link.now in
     let now = g.L.Link.transcript c.frames.link in
     let new = g.L.Link.transcript c.exchange.new.link in
-    let reply = c.split_at.result.0.now in
-    let answered : IsAnswered now new c.frame.result.now reply = IsAnswered-same now new c.frame.result.now (take c.in_ok-size.size c.exchange.new.room) reply c.split_at.ensures.front c.in_ok-size.ensures.answered in
-    IsUnderWay-last old now new c.frames.client.state frames c.frame.result.now reply (c.frames.invariant.way frames (owed, numbered)) c.frame.ensures answered c.in-Ready.ensures.after.0 c.in-Ready.ensures.after.2
+    let stop = c.in_err-size.field-0.0 in
+    IfErr-from c.from_residual.result stop (λ e. HasCut old new frames (peer_cause e)) c.from_residual.ensures.1
+    (HasCut-unanswered old now new c.frames.client.state frames c.frame.result.now (peer_cause stop) (c.frames.invariant.sending frames (owed, numbered)) c.frame.ensures c.in_err-size.ensures.unanswered)
 
-pub returns-in-Stopped-clause-cut : goal.returns-in-Stopped-clause-cut
-returns-in-Stopped-clause-cut g c frames owed numbered =
+pub returns-in-Ready-clause-sent : goal.returns-in-Ready-clause-sent
+returns-in-Ready-clause-sent g c frames owed numbered =
     let old = g.L.Link.transcript c.args.link.now in
     let now = g.L.Link.transcript c.frames.link in
     let new = g.L.Link.transcript c.exchange.new.link in
     let reply = c.split_at.result.0.now in
     let answered : IsAnswered now new c.frame.result.now reply = IsAnswered-same now new c.frame.result.now (take c.in_ok-size.size c.exchange.new.room) reply c.split_at.ensures.front c.in_ok-size.ensures.answered in
-    subst (IsCutAt old new frames) (sym c.of_fault.ensures.cause)
-    (IsCutAt-answered old now new c.frames.client.state frames c.frame.result.now reply c.in-Stopped.fault (c.frames.invariant.way frames (owed, numbered)) c.frame.ensures answered
+    IsSending-last old now new c.frames.client.state frames c.frame.result.now reply (c.frames.invariant.sending frames (owed, numbered)) c.frame.ensures answered c.in-Ready.ensures.after.0 c.in-Ready.ensures.after.2
+
+pub returns-in-Stopped-clause-unsent : goal.returns-in-Stopped-clause-unsent
+returns-in-Stopped-clause-unsent g c frames owed numbered =
+    let old = g.L.Link.transcript c.args.link.now in
+    let now = g.L.Link.transcript c.frames.link in
+    let new = g.L.Link.transcript c.exchange.new.link in
+    let reply = c.split_at.result.0.now in
+    let answered : IsAnswered now new c.frame.result.now reply = IsAnswered-same now new c.frame.result.now (take c.in_ok-size.size c.exchange.new.room) reply c.split_at.ensures.front c.in_ok-size.ensures.answered in
+    subst (HasCut old new frames) (sym c.of_fault.ensures.cause)
+    (HasCut-answered old now new c.frames.client.state frames c.frame.result.now reply c.in-Stopped.fault (c.frames.invariant.sending frames (owed, numbered)) c.frame.ensures answered
     c.in-Stopped.ensures.after.0 c.in-Stopped.ensures.after.2)

@@ -1,5 +1,5 @@
-use Rattle.std.proofs.Common.{◌≡◌, ℕ, List, flat_map, sym, ap, subst, ◌∙◌}
-use Rattle.std.specs.Prelude.{Option, take}
+use Rattle.std.proofs.Common.{◌≡◌, ℕ, List, [], ◌∷◌, flat_map, sym, ap, subst, ◌∙◌}
+use Rattle.std.specs.Prelude.{Option, OnOk, take}
 use Rattle.std.specs.Io.KnownBytes.{append_known}
 use Rattle.std.proofs.lemmas.List.{append-nil}
 use Rattle.sse_script.specs.Shown as says
@@ -11,11 +11,22 @@ use Rattle.sse_client.proofs.outcome.Outcome.print.Goals as goal
 front_same : (known new : Option (List ℕ)) (a b : List ℕ) → a ≡ b → ((n : ℕ) × (new ≡ append_known known (take n a))) → (n : ℕ) × (new ≡ append_known known (take n b))
 front_same known new a b e h = subst (λ (text : List ℕ). (n : ℕ) × (new ≡ append_known known (take n text))) e h
 
--- the one line that was found
+-- the text of an outcome that is one line of found identifiers
+found_text : (shown found : List ℕ) (came : Outcome) → shown ≡ found
+    → flat_map text_of (outcome_view came) ≡ flat_map text_of (says.Found found ∷ [])
+    → text_of (says.Found shown) ≡ flat_map text_of (outcome_view came)
+found_text shown found came same is =
+    ap (λ (ids : List ℕ). text_of (says.Found ids)) same ∙ sym (append-nil (text_of (says.Found found))) ∙ sym is
+
+pub returns-in-Found-clause-all : goal.returns-in-Found-clause-all
+returns-in-Found-clause-all g c =
+    subst
+    (λ (text : List ℕ). OnOk c.print-in-Found.result (g.W.Sink.written c.print-in-Found.new.sink ≡ append_known (g.W.Sink.written c.args.sink.now) text))
+    (found_text _ _ _ c.as_slice.ensures.value (ap (λ (came : Outcome). flat_map text_of (outcome_view came)) c.in-Found.is))
+    c.print-in-Found.ensures.all
+
 pub returns-in-Found-clause-front : goal.returns-in-Found-clause-front
 returns-in-Found-clause-front g c =
     front_same _ _ _ _
-    (ap (λ (ids : List ℕ). text_of (says.Found ids)) c.as_slice.ensures.value
-    ∙ sym (append-nil (text_of (says.Found c.in-Found.ids.items)))
-    ∙ ap (λ (came : Outcome). flat_map text_of (outcome_view came)) (sym c.in-Found.is))
+    (found_text _ _ _ c.as_slice.ensures.value (ap (λ (came : Outcome). flat_map text_of (outcome_view came)) c.in-Found.is))
     c.print-in-Found.ensures.front

@@ -1,0 +1,25 @@
+-- What a call over a link exchanged, and where it was cut.
+use Rattle.std.specs.Prelude.{◌≡◌, ℕ, List, [], ◌∷◌}
+use Rattle.client_registry.specs.Live.{in_order}
+use Rattle.sse_frames.specs.Frames.{FrameText}
+use Rattle.sse_link.specs.Events.{Event}
+use Rattle.sse_script.specs.Shown.{Cause}
+use Rattle.script_meaning.specs.Exchange.{Told, Adds, AreExchanged, AreCut}
+
+-- these frames were exchanged, the searches among them with these answers
+pub record HasExchanged (old new : Told) (answers : List (List ℕ)) (frames : List FrameText) : Type 0 where
+  pub events : List Event
+  pub adds : Adds old new events
+  pub exchanged : AreExchanged answers frames events
+
+-- this search was exchanged, and these are the identifiers of its answer, rising
+pub record HasSearched (old new : Told) (frame : FrameText) (found : List ℕ) : Type 0 where
+  pub answer : List ℕ
+  pub exchanged : HasExchanged old new (answer ∷ []) (frame ∷ [])
+  pub rising : found ≡ in_order answer
+
+-- a front of these frames was exchanged, and of the next one at most a part, as shows in the cause
+pub record HasCut (old new : Told) (frames : List FrameText) (cause : Cause) : Type 0 where
+  pub events : List Event
+  pub adds : Adds old new events
+  pub cut : AreCut frames events cause

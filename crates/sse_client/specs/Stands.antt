@@ -1,0 +1,116 @@
+-- Where a session stands in its script, what it does with a command there, and how a run ends.
+use Rattle.std.specs.Prelude.{◌≡◌, ◌≤◌, Bool, true, false, List, ℕ, map, Option, Some}
+use Rattle.client_registry.specs.Histories.{is_set_up}
+use Rattle.client_registry.specs.Live.{in_order}
+use Rattle.client_registry.specs.Run.{History}
+use Rattle.keyed_fn.specs.KeyedFn.{KeyedFn}
+use Rattle.server_core.specs.State.{ServerState}
+use Rattle.script_meaning.specs.Headline.{IsOverHonest, IsCalm, Headline}
+use Rattle.script_meaning.specs.Meaning.{meaning}
+use Rattle.script_meaning.specs.Session.{IsFree}
+use Rattle.sse_script.specs.Shown.{Cause, BadWords, BadLine, SourceFault, NoMemory}
+use Rattle.script_meaning.specs.Built.{is_built, comes_to}
+use Rattle.script_meaning.specs.Carries.{Outside, with_answers, IsSent, Carries, StopsIn}
+use Rattle.script_meaning.specs.Exchange.{Told}
+use Rattle.script_meaning.specs.Lines.{Request, script_lines}
+use Rattle.script_meaning.specs.Outcome.{Place, Outcome, after, shown_by, is_refusal}
+use Rattle.script_meaning.specs.Runs.{Ended, ended, Opens, Ends, Moment, RunsFrom, OpensFrom}
+use Rattle.script_meaning.specs.Stops as ends
+use Rattle.script_meaning.specs.Stops.{status_of}
+use Rattle.sse_client.specs.Carried.{key_of}
+use Rattle.sse_client.specs.OutcomeViews.{outcome_view, refuses}
+use Rattle.sse_client.specs.Stops.{peer_cause}
+use Rattle.sse_client.specs.declared.outcome.Outcome.{Outcome as Came}
+use Rattle.sse_client.specs.declared.run.Refusals.{Refusals}
+use Rattle.sse_client.specs.declared.run.Refusals.TheVariants as refusals
+use Rattle.sse_client.specs.declared.session.Stage.{Stage}
+use Rattle.sse_client.specs.declared.session.Stage.TheVariants.{Collecting, Searching}
+use Rattle.sse_client.specs.declared.stop.Stop.{Stop}
+use Rattle.sse_client.specs.declared.stop.Stop.TheVariants as stops
+
+-- a session collects the documents of a place that isn't set up, and searches where one is
+abbrev pub IsStage : Stage → Place → Type 0
+IsStage (Collecting client docs) place = (docs ≡ place.documents) × (is_set_up place.history ≡ false)
+IsStage (Searching client) place = is_set_up place.history ≡ true
+
+-- a session stands at a place of its script, under its key
+pub record IsAt (f : KeyedFn) (stage : Stage) (place : Place) : Type 0 where
+  pub key : key_of stage ≡ place.key
+  pub stands : IsStage stage place
+
+-- a session goes on at this stage, with this outcome of a command: it exchanged all frames of what the command comes to at
+-- this place, and shows that with the answers that came to its searches
+pub record GoesOn (f : KeyedFn) (old new : Told) (next : Stage) (came : Came) (place : Place) (result : Outcome) : Type 0 where
+  pub answers : List (List ℕ)
+  pub sent : IsSent f place result old new answers
+  pub shown : outcome_view came ≡ with_answers (map in_order answers) (shown_by result)
+  pub refuses : refuses came ≡ is_refusal result
+  pub stands : IsAt f next (after result place)
+
+-- wherever a session may stand, it does with a command what is to be done there
+abbrev pub Takes : KeyedFn → Stage → Request → Told → Told → Stage → Came → Type 0
+Takes f stage request old new next came = (place : Place) → IsAt f stage place → GoesOn f old new next came place (comes_to is_built place request)
+
+-- what is seen of a run
+abbrev pub seen : Told → Option (List ℕ) → Outside
+seen told written = record { told = told; written = written }
+
+-- wherever a session may stand, a command stops the run there, for this cause, and prints nothing
+abbrev pub StopsWithin : KeyedFn → Stage → Request → Told → Told → Cause → Type 0
+StopsWithin f stage request old new cause =
+    (place : Place) → IsAt f stage place → (written : Option (List ℕ)) → StopsIn f place (comes_to is_built place request) (seen old written) (seen new written) (ends.At cause)
+
+-- what stopped a run before the end of its script
+abbrev pub stop_seen : Stop → ends.Stop
+stop_seen stops.Words = ends.At BadWords
+stop_seen (stops.Line number) = ends.At (BadLine number)
+stop_seen stops.Source = ends.At SourceFault
+stop_seen stops.Sink = ends.SinkFault
+stop_seen stops.Memory = ends.At NoMemory
+stop_seen (stops.Peer stop) = ends.At (peer_cause stop)
+
+-- a command is carried out: all its frames were exchanged and its lines printed, and the session goes on behind it
+pub record HasCarried (f : KeyedFn) (place : Place) (result : Outcome) (now next : Outside) (stage : Stage) (refused : Bool) : Type 0 where
+  pub carries : Carries f place result now next
+  pub stands : IsAt f stage (after result place)
+  pub refuses : refused ≡ is_refusal result
+
+-- wherever a session may stand, a command is carried out there
+abbrev pub CarriesOut : KeyedFn → Stage → Request → Outside → Outside → Stage → Bool → Type 0
+CarriesOut f stage request now next went refused = (place : Place) → IsAt f stage place → HasCarried f place (comes_to is_built place request) now next went refused
+
+-- wherever a session may stand, a command stops the run there
+abbrev pub StopsRun : KeyedFn → Stage → Request → Outside → Outside → ends.Stop → Type 0
+StopsRun f stage request now end stop = (place : Place) → IsAt f stage place → StopsIn f place (comes_to is_built place request) now end stop
+
+-- whether a command was refused
+abbrev pub has_refused : Refusals → Bool
+has_refused refusals.None = false
+has_refused refusals.Some = true
+
+-- a run from this moment ends so, with the history up to there
+abbrev pub EndsFrom : KeyedFn → Moment → Outside → ends.Stop → Type 0
+EndsFrom f start end stop = (h : History) × RunsFrom f start (ended end (Some start.place.key) h stop)
+
+-- a run over these lines, from before its key line, ends so, with the key and the history up to there
+abbrev pub OpensTo : KeyedFn → Option (List (List ℕ)) → Outside → Outside → ends.Stop → Type 0
+OpensTo f left now end stop = (key : Option (List ℕ)) × (h : History) × OpensFrom f 1 left now (ended end key h stop)
+
+-- a whole run over a script of these bytes, with its last line and this status
+pub record HasRun (f : KeyedFn) (bytes : List ℕ) (now last : Outside) (status : ℕ) : Type 0 where
+  pub end : Ended
+  pub opens : Opens f 1 (script_lines bytes) now end
+  pub ends : Ends end last
+  pub status_is : status ≡ status_of end.stop
+
+-- a whole run that, over an honest link from a server that had taken nothing, no collision and no reply stopped, where its
+-- history up to its stop has no collision
+pub record IsHonest (f : KeyedFn) (bytes : List ℕ) (now last : Outside) (status : ℕ) : Type 0 where
+  pub run : HasRun f bytes now last status
+  pub stopped : (state : ServerState) → IsOverHonest f now.told last.told state → IsFree f run.end.key run.end.history → status ≤ 7
+
+-- where nothing disturbed a run, it did what its script means
+abbrev pub HasHeadline : KeyedFn → List ℕ → Outside → Outside → ℕ → Type 0
+HasHeadline f bytes now last status =
+    (state : ServerState) → IsOverHonest f now.told last.told state → IsFree f (meaning bytes).key (meaning bytes).history → IsCalm status
+    → Headline f (meaning bytes) now last status state
