@@ -1,10 +1,13 @@
 # make        proves the crates, then builds the programs into bin/
 # make demo   the same, then runs examples/first.sse, and searches a folder of letters
 # make check  the whole gate: every proof, test, must-fail edit and end-to-end check
-# make bench  times bin/sse_local on made-up scripts
+# make bench  times bin/sse_local on made-up scripts, and the rows of bin/sse_bench
 # make clean  forgets what was proved and built in this checkout
 
 PROGRAMS = sse_local
+# the words that a program is first run with, once it is built
+words_sse_local = run
+words_sse_bench = prepared 1
 LAST = bin/.seconds
 
 .PHONY: all demo check bench clean
@@ -20,7 +23,7 @@ bin/%: FORCE
 	@if [ -f $(LAST) ]; then echo "The last time this took $$(cat $(LAST)) seconds."; else echo "The first time this takes some minutes for each core."; fi
 	@start=$$(date +%s); \
 	rm -f crates/$*/out/$*; \
-	(cd crates/$* && rt run -- run < ../../examples/first.sse > ../../bin/$*.log 2>&1) || { cat bin/$*.log; exit 1; }; \
+	(cd crates/$* && rt run -- $(words_$*) < ../../examples/first.sse > ../../bin/$*.log 2>&1) || { cat bin/$*.log; exit 1; }; \
 	cp crates/$*/out/$* bin/$* && \
 	echo $$(( $$(date +%s) - start )) > $(LAST)
 
@@ -28,7 +31,7 @@ demo: all
 	bin/sse_local run < examples/first.sse
 	examples/search examples/letters wall deed
 
-bench: all
+bench: all bin/sse_bench
 	bench/run
 
 check:

@@ -1,0 +1,35 @@
+//! The rows of the bench: the words of the command line name what is done and how often, as `prepared 1000000`. It
+//! prints a number that each turn goes into, so that none can be left out. It takes no time itself: bench/run does,
+//! round the whole process. It stands on the crates whose calls it makes, and proves nothing of them.
+#![tactic(auto)]
+
+mod row;
+
+use row::Row;
+use std::process::ExitCode;
+use std::{env, io};
+
+/// The status of a run whose words name no row, or no count of turns.
+const NO_ROW: u8 = 2;
+
+fn main(rt: HostRuntime) -> io::Result<ExitCode> {
+    let words: Vec<String> = env::args(&rt)?.skip(1).collect(rt.alloc())?;
+    let Some((row, turns)) = row_of(&words) else {
+        println!(rt;
+            "usage: sse_bench ROW TURNS, where ROW is one of: {}",
+            row::NAMES
+        )?;
+        return Ok(ExitCode::from(NO_ROW));
+    };
+    let sum = row.run(turns);
+    println!(rt; "{sum}")?;
+    Ok(ExitCode::SUCCESS)
+}
+
+/// The row and the count of turns that the words name.
+fn row_of(words: &[String]) -> Option<(Row, u64)> {
+    match words {
+        [row, turns] => Some((Row::named(row)?, turns.parse().ok()?)),
+        _ => None,
+    }
+}
