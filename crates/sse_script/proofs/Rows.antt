@@ -1,10 +1,11 @@
 -- Literal lines and texts, computed by the checker.
-use Rattle.std.proofs.Common.{◌≡◌, ◌∷◌, [], ◌++◌, codes, Some, None, refl, true}
+use Rattle.std.proofs.Common.{◌≡◌, ◌∷◌, [], ◌++◌, codes, Some, None, refl}
 use Rattle.std.specs.Fmt.{digits}
 use Rattle.hex.proofs.OnLiterals.{hex_on_literals}
 use Rattle.sse_script.specs.Lines.{line_of, Empty, Key, Doc, SetupLine, AddLine, Find}
 use Rattle.sse_script.specs.Shown as shown
-use Rattle.sse_script.specs.Stops as stops
+use Rattle.sse_script.specs.declared.refusal.Refusal.TheVariants as refusals
+use Rattle.sse_script.specs.Stops.{cause_status}
 use Rattle.sse_script.specs.Texts.{text_of}
 
 -- lines of the grammar
@@ -54,7 +55,7 @@ found_none_text : text_of (shown.Found []) ≡ codes "found 0:" ++ 10 ∷ []
 unfolding digits
 found_none_text = refl
 
-refused_text : text_of (shown.Refused (shown.BadParameter 1 257)) ≡ codes "refused: B is 257" ++ 10 ∷ []
+refused_text : text_of (shown.Refused (refusals.BadParameter 1 257)) ≡ codes "refused: B is 257" ++ 10 ∷ []
 unfolding digits
 refused_text = refl
 
@@ -66,9 +67,6 @@ reply_text : text_of (shown.Stopped (shown.BadReply (0 ∷ 0 ∷ 0 ∷ 5 ∷ 131
 unfolding hex_on_literals
 reply_text = refl
 
--- how a run ends
-refused_status : stops.status_of true stops.AtEnd ≡ 1
-refused_status = refl
-
-stopped_line : stops.stop_line (stops.At (shown.BadLine 3)) ≡ Some (shown.Stopped (shown.BadLine 3))
-stopped_line = refl
+-- the status of a cause
+stopped_status : cause_status (shown.BadLine 3) ≡ 2
+stopped_status = refl

@@ -1,25 +1,6 @@
--- The lines that a run prints, by what they say.
+-- The lines that a run prints, by what they say. Why a command was refused is an enum of the code, which borrows nothing.
 use Rattle.std.specs.Prelude.{ℕ, List}
-
--- why a command was refused
-pub data Refusal : Type 0 where
-  NotSetUp : Refusal
-  SetUpAlready : Refusal
-  Zero : Refusal
-  TooLong : (position n : ℕ) → Refusal
-  BadByte : (position place : ℕ) → Refusal
-  TooManyWords : (n : ℕ) → Refusal
-  RepeatedWord : (position : ℕ) → Refusal
-  AlreadyLive : (id : ℕ) → Refusal
-  UnknownDocument : (id : ℕ) → Refusal
-  TooManyDocuments : (n : ℕ) → Refusal
-  TooManyPairs : (n : ℕ) → Refusal
-  TooManyBytes : (n : ℕ) → Refusal
-  BadParameter : (which value : ℕ) → Refusal
-  ListTooLong : (word n : ℕ) → Refusal
-  CounterFull : (position : ℕ) → Refusal
-  HistoryFull : Refusal
-  NotBuilt : Refusal
+use Rattle.sse_script.specs.declared.refusal.Refusal.{Refusal}
 
 -- why a run stopped before the end of its script
 pub data Cause : Type 0 where

@@ -2,7 +2,8 @@
 use Rattle.std.specs.Prelude.{ℕ, List, [], ◌∷◌, ◌++◌, length, take, flat_map, codes, decimal, ◌==◌, if◌then◌else◌}
 use Rattle.std.specs.List.{concat}
 use Rattle.hex.specs.Hex.{encode_lower}
-use Rattle.sse_script.specs.Shown.{Refusal, NotSetUp, SetUpAlready, Zero, TooLong, BadByte, TooManyWords, RepeatedWord, AlreadyLive, UnknownDocument, TooManyDocuments, TooManyPairs, TooManyBytes, BadParameter, ListTooLong, CounterFull, HistoryFull, NotBuilt}
+use Rattle.sse_script.specs.declared.refusal.Refusal.{Refusal}
+use Rattle.sse_script.specs.declared.refusal.Refusal.TheVariants.{NotSetUp, SetUpAlready, Zero, TooLong, BadByte, TooManyWords, RepeatedWord, AlreadyLive, UnknownDocument, TooManyDocuments, TooManyPairs, TooManyBytes, BadParameter, ListTooLong, CounterFull, HistoryFull, NotBuilt}
 use Rattle.sse_script.specs.Shown.{Cause, BadWords, BadLine, SourceFault, LinkFault, DiskFault, NoMemory, LabelClash, PlaceClash, NumberClash, Clash, PeerElsewhere, BadReply}
 use Rattle.sse_script.specs.Shown.{Shown, SetUp, Added, Deleted, Found, Refused, Stopped}
 
@@ -62,8 +63,3 @@ line_text (Stopped cause) = codes "stopped: " ∷ cause_text cause
 -- a line as it is printed: its pieces and the end, byte 0a
 abbrev pub text_of : Shown → List ℕ
 text_of shown = concat (line_text shown ++ (10 ∷ []) ∷ [])
-
--- the same of a line that refuses a command, and nothing for any other line
-abbrev pub text_if_refused : Shown → List ℕ
-text_if_refused (Refused refusal) = text_of (Refused refusal)
-text_if_refused _ = []

@@ -7,6 +7,7 @@
 #![tactic(auto)]
 
 mod bad_line;
+mod cause;
 mod fields;
 mod key;
 mod line;
@@ -22,6 +23,7 @@ mod shown;
 mod text;
 
 pub use bad_line::BadLine;
+pub use cause::Cause;
 pub use fields::Fields;
 pub use line::Line;
 pub use line_reader::{LineReader, MAX_LINE};
@@ -29,6 +31,7 @@ pub use next_line::NextLine;
 pub use printing::print;
 pub use read_stop::ReadStop;
 pub use reading::read_line;
+pub use refusal::Refusal;
 pub use shown::Shown;
 pub use std::alloc::AllocError as NoMemory;
 

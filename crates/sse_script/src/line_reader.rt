@@ -65,6 +65,7 @@ impl LineReader {
             (lines_left self.new (S.remaining source.new)) next line.new.items) }
         ensures short { OnOk result (length line.new.items ≤ MAX_LINE) }
         ensures nothing { IfOk result (λ next. next ≢ NextLine.Line → line.new.items ≡ []) }
+        ensures at_end { IfOk result (λ next. next ≡ NextLine.End → IsAtEnd (S.remaining source.new)) }
 
         // What makes a loop over the lines end.
         ensures less { IfOk result (λ next. next ≢ NextLine.End →

@@ -1,45 +1,38 @@
-ghost use Rattle.std.specs.Prelude.{◌≡◌, IfOk, string_bytes};
-ghost use Rattle.sse_script.specs.ShownViews.{shown_view};
-ghost use Rattle.sse_script.specs.Texts.{text_if_refused};
-
-use crate::Shown;
-use crate::pieces::{one, word};
-use std::alloc::{AllocError, Global};
-
-/// The bytes of a line that refuses a command, its end included; none of any other line.
-pub fn refusal_text(alloc: Global, shown: &Shown<'_>) -> Result<String, AllocError>
-    ensures { IfOk result (λ text. string_bytes text ≡ text_if_refused (shown_view shown.now)) }
-{
-    match *shown {
-        Shown::NotSetUp => String::from_str(alloc, "refused: not set up\n"),
-        Shown::SetUpAlready => String::from_str(alloc, "refused: set up already\n"),
-        Shown::Zero => String::from_str(alloc, "refused: identifier zero\n"),
-        Shown::TooLong { position, n } => word(alloc, position, " is too long: ", n),
-        Shown::BadByte { position, place } => word(alloc, position, " has a bad byte at ", place),
-        Shown::TooManyWords { n } => one(alloc, "refused: too many words: ", n, "\n"),
-        Shown::RepeatedWord { position } => {
-            one(alloc, "refused: word ", position as u64, " is repeated\n")
-        }
-        Shown::AlreadyLive { id } => one(alloc, "refused: document ", id, " is live\n"),
-        Shown::UnknownDocument { id } => one(alloc, "refused: unknown document ", id, "\n"),
-        Shown::TooManyDocuments { n } => one(alloc, "refused: too many documents: ", n, "\n"),
-        Shown::TooManyPairs { n } => one(alloc, "refused: too many pairs: ", n, "\n"),
-        Shown::TooManyBytes { n } => one(alloc, "refused: too many bytes: ", n, "\n"),
-        Shown::BadParameter { which: 0, value } => one(alloc, "refused: b is ", value, "\n"),
-        Shown::BadParameter { which: _, value } => one(alloc, "refused: B is ", value, "\n"),
-        Shown::ListTooLong { word, n } => {
-            format!(in alloc; "refused: list of word {word} has {n} identifiers\n")
-        }
-        Shown::CounterFull { position } => {
-            one(
-                alloc,
-                "refused: counter of word ",
-                position as u64,
-                " is full\n",
-            )
-        }
-        Shown::HistoryFull => String::from_str(alloc, "refused: history is full\n"),
-        Shown::NotBuilt => String::from_str(alloc, "refused: not built yet\n"),
-        _ => Ok(String::new(alloc)),
-    }
+/// Why a command is refused. Positions of words and numbers of words count from 0.
+#[derive(Clone, Copy, Debug)]
+pub enum Refusal {
+    /// There is no setup yet.
+    NotSetUp,
+    /// There is a setup already.
+    SetUpAlready,
+    /// The identifier is zero.
+    Zero,
+    /// The word at this position has `n` bytes, more than 64.
+    TooLong { position: u32, n: u64 },
+    /// The word at this position has a byte at `place` that no word has there.
+    BadByte { position: u32, place: u64 },
+    /// A document of `n` words, more than 4,096.
+    TooManyWords { n: u64 },
+    /// The word at this position stands in the document before.
+    RepeatedWord { position: u32 },
+    /// A document with this identifier is live.
+    AlreadyLive { id: u64 },
+    /// No document with this identifier is live.
+    UnknownDocument { id: u64 },
+    /// A setup of `n` documents, more than 2^18.
+    TooManyDocuments { n: u64 },
+    /// A setup of `n` pairs of a word and a document, more than 2^20.
+    TooManyPairs { n: u64 },
+    /// An index of `n` bytes, more than 2^28.
+    TooManyBytes { n: u64 },
+    /// A parameter of the setup that isn't possible: 0 is b, the identifiers in a cell, and 1 is B, those in a block.
+    BadParameter { which: u8, value: u64 },
+    /// The list of the word with this number has `n` identifiers, more than the parameters allow.
+    ListTooLong { word: u32, n: u64 },
+    /// The word at this position was added as often as its counter can count.
+    CounterFull { position: u32 },
+    /// There were as many updates as can be numbered.
+    HistoryFull,
+    /// The command needs what isn't built yet.
+    NotBuilt,
 }

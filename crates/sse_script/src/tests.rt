@@ -1,4 +1,4 @@
-use crate::{BadLine, Fields, Line, Shown, print, read_line};
+use crate::{BadLine, Cause, Fields, Line, Refusal, Shown, print, read_line};
 use sse_outside::{DeviceFault, MemSink, SteadySink};
 use std::alloc::{AllocError, Global};
 use std::test::Fail;
@@ -121,7 +121,7 @@ fn a_line_has_at_most_2_to_19_bytes(rt: HostRuntime) -> Result<(), Fail> {
 /// Lines to be printed, and their texts, which are those of an independent program.
 const PRINTED: [(Shown<'static>, &str); 36] = [
     (
-        Shown::Setup {
+        Shown::SetUp {
             words: 2,
             blocks: 0,
         },
@@ -134,118 +134,130 @@ const PRINTED: [(Shown<'static>, &str); 36] = [
     (Shown::Deleted { id: 5 }, "deleted 5\n"),
     (Shown::Found { ids: &[] }, "found 0:\n"),
     (Shown::Found { ids: &[3, 9] }, "found 2: 3 9\n"),
-    (Shown::NotSetUp, "refused: not set up\n"),
-    (Shown::SetUpAlready, "refused: set up already\n"),
-    (Shown::Zero, "refused: identifier zero\n"),
+    (Shown::Refused(Refusal::NotSetUp), "refused: not set up\n"),
     (
-        Shown::TooLong { position: 0, n: 65 },
+        Shown::Refused(Refusal::SetUpAlready),
+        "refused: set up already\n",
+    ),
+    (Shown::Refused(Refusal::Zero), "refused: identifier zero\n"),
+    (
+        Shown::Refused(Refusal::TooLong { position: 0, n: 65 }),
         "refused: word 0 is too long: 65\n",
     ),
     (
-        Shown::BadByte {
+        Shown::Refused(Refusal::BadByte {
             position: 1,
             place: 63,
-        },
+        }),
         "refused: word 1 has a bad byte at 63\n",
     ),
     (
-        Shown::TooManyWords { n: 4097 },
+        Shown::Refused(Refusal::TooManyWords { n: 4097 }),
         "refused: too many words: 4097\n",
     ),
     (
-        Shown::RepeatedWord { position: 1 },
+        Shown::Refused(Refusal::RepeatedWord { position: 1 }),
         "refused: word 1 is repeated\n",
     ),
     (
-        Shown::AlreadyLive { id: 1 },
+        Shown::Refused(Refusal::AlreadyLive { id: 1 }),
         "refused: document 1 is live\n",
     ),
     (
-        Shown::UnknownDocument { id: 3 },
+        Shown::Refused(Refusal::UnknownDocument { id: 3 }),
         "refused: unknown document 3\n",
     ),
     (
-        Shown::TooManyDocuments { n: 262145 },
+        Shown::Refused(Refusal::TooManyDocuments { n: 262145 }),
         "refused: too many documents: 262145\n",
     ),
     (
-        Shown::TooManyPairs { n: 1048577 },
+        Shown::Refused(Refusal::TooManyPairs { n: 1048577 }),
         "refused: too many pairs: 1048577\n",
     ),
     (
-        Shown::TooManyBytes { n: 268435457 },
+        Shown::Refused(Refusal::TooManyBytes { n: 268435457 }),
         "refused: too many bytes: 268435457\n",
     ),
     (
-        Shown::BadParameter { which: 0, value: 0 },
+        Shown::Refused(Refusal::BadParameter { which: 0, value: 0 }),
         "refused: b is 0\n",
     ),
     (
-        Shown::BadParameter {
+        Shown::Refused(Refusal::BadParameter {
             which: 1,
             value: 257,
-        },
+        }),
         "refused: B is 257\n",
     ),
     (
-        Shown::ListTooLong { word: 0, n: 9 },
+        Shown::Refused(Refusal::ListTooLong { word: 0, n: 9 }),
         "refused: list of word 0 has 9 identifiers\n",
     ),
     (
-        Shown::CounterFull { position: 2 },
+        Shown::Refused(Refusal::CounterFull { position: 2 }),
         "refused: counter of word 2 is full\n",
     ),
-    (Shown::HistoryFull, "refused: history is full\n"),
-    (Shown::NotBuilt, "refused: not built yet\n"),
-    (Shown::BadWords, "stopped: words\n"),
-    (Shown::BadLine { number: 2 }, "stopped: line 2\n"),
-    (Shown::SourceFault, "stopped: source\n"),
-    (Shown::LinkFault, "stopped: link\n"),
-    (Shown::DiskFault, "stopped: disk\n"),
-    (Shown::NoMemory, "stopped: memory\n"),
     (
-        Shown::LabelClash {
+        Shown::Refused(Refusal::HistoryFull),
+        "refused: history is full\n",
+    ),
+    (
+        Shown::Refused(Refusal::NotBuilt),
+        "refused: not built yet\n",
+    ),
+    (Shown::Stopped(Cause::BadWords), "stopped: words\n"),
+    (
+        Shown::Stopped(Cause::BadLine { number: 2 }),
+        "stopped: line 2\n",
+    ),
+    (Shown::Stopped(Cause::SourceFault), "stopped: source\n"),
+    (Shown::Stopped(Cause::LinkFault), "stopped: link\n"),
+    (Shown::Stopped(Cause::DiskFault), "stopped: disk\n"),
+    (Shown::Stopped(Cause::NoMemory), "stopped: memory\n"),
+    (
+        Shown::Stopped(Cause::LabelClash {
             first: 0,
             second: 1,
-        },
+        }),
         "stopped: labels of words 0 and 1 are equal\n",
     ),
     (
-        Shown::PlaceClash {
+        Shown::Stopped(Cause::PlaceClash {
             first: 1,
             second: 2,
-        },
+        }),
         "stopped: places of blocks 1 and 2 are equal\n",
     ),
     (
-        Shown::NumberClash {
+        Shown::Stopped(Cause::NumberClash {
             first: 3,
             second: 4,
-        },
+        }),
         "stopped: numbers of words 3 and 4 are equal\n",
     ),
     (
-        Shown::Clash { what: 2, place: 7 },
+        Shown::Stopped(Cause::Clash { what: 2, place: 7 }),
         "stopped: clash 2 at 7\n",
     ),
     (
-        Shown::PeerElsewhere {
+        Shown::Stopped(Cause::PeerElsewhere {
             low: 0,
             high: 1,
             got: 9,
-        },
+        }),
         "stopped: server is at 9, wanted 0 to 1\n",
     ),
     (
-        Shown::BadReply {
+        Shown::Stopped(Cause::BadReply {
             reply: b"\x00\x00\x00\x01\x86",
-        },
+        }),
         "stopped: reply 0000000186\n",
     ),
     (
-        Shown::BadReply {
+        Shown::Stopped(Cause::BadReply {
             reply: b"\x00\x00\x00\x0c\x85\x01\x00\x01\x00\x00\x00\x00\x00\x00\x00\xff\x4d",
-        },
+        }),
         "stopped: reply 0000000c8501000100000000000000ff\n",
     ),
 ];
@@ -281,7 +293,7 @@ fn a_failing_sink_has_the_lines_before(rt: HostRuntime) -> Result<(), Fail> {
         Ok(())
     );
     assert_eq!(rt;
-        print(rt.alloc(), &mut sink, &Shown::BadWords),
+        print(rt.alloc(), &mut sink, &Shown::Stopped(Cause::BadWords)),
         Err(DeviceFault::Failed)
     );
     assert_eq!(rt; sink.bytes(), b"deleted 5\n".as_slice());

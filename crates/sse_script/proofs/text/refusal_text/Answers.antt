@@ -1,4 +1,4 @@
-use Rattle.sse_script.proofs.refusal.refusal_text.Goals as goal
+use Rattle.sse_script.proofs.text.refusal_text.Goals as goal
 
 pub returns-in-TooLong : goal.returns-in-TooLong
 returns-in-TooLong c = rw c.in-TooLong.is c.word.ensures
