@@ -1,4 +1,4 @@
 mod BucketLemmas
-mod Places
+pub mod Places
 mod SlotLemmas
 mod TableLemmas

@@ -1,6 +1,6 @@
 -- Labels with what their values stand for, labels as a set, and pieces behind one another.
 use Rattle.std.proofs.Common.{◌≡◌, ℕ, Bool, true, false, cond, ◌||◌, ◌&&◌, not, List, [], ◌∷◌, ◌++◌, length, map, Option, Some, None, Bor, refl, sym, ap, subst, ◌∙◌, arith}
-use Rattle.std.specs.Prelude.{T}
+use Rattle.std.specs.Prelude.{T, ◌↔◌}
 use Rattle.std.specs.List.{All}
 use Rattle.std.specs.Option.{option_map, option_copied, ForSome, is_some}
 use Rattle.std.specs.Ordering.{is_lt, eq_by_cmp, nat_cmp}
@@ -108,6 +108,21 @@ label_set-remove m label = same_numbers _ _ (λ q.
 
 pub label_set-empty : label_set finmap.empty ≡ set.empty
 label_set-empty = same_numbers _ _ (λ q. contains-label_set finmap.empty q ∙ ap is_some (finmap.get-empty by_bytes q) ∙ sym (set.contains-empty by_bytes q))
+
+-- of no label exactly where there is none
+pub label_set-none : (m : Labelled (Unit {0})) → (finmap.len m ≡ 0) ↔ (label_set m ≡ set.empty)
+label_set-none m = (none, some) where
+  none : finmap.len m ≡ 0 → label_set m ≡ set.empty
+  none is = ap label_set (finmap.empty_of_len m is) ∙ label_set-empty
+
+  absent : (o : Option (Unit {0})) → is_some o ≡ false → o ≡ None
+  absent None h = refl
+  absent (Some x) h = cc
+
+  some : label_set m ≡ set.empty → finmap.len m ≡ 0
+  some is =
+      ap finmap.len (same_labelled m finmap.empty (λ q. absent (finmap.get m q) (sym (contains-label_set m q) ∙ ap (λ s. set.contains s q) is ∙ set.contains-empty by_bytes q) ∙ sym (finmap.get-empty by_bytes q)))
+      ∙ finmap.len-empty by_bytes (Unit {0})
 
 -- a piece more leaves what the labels stand for
 kept_pieces : (old new piece : List ℕ) (place : Place) → IsAppended old new piece place → (o : Option Place) → ForSome o (IsPlace (length old)) → option_map (piece_at new) o ≡ option_map (piece_at old) o

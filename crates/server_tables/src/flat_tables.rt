@@ -129,6 +129,10 @@ impl<C: LabelMap<Value = Place>, P: LabelMap<Value = [u8; 8]>, R: LabelMap<Value
         self.revoked.get(number).is_some()
     }
 
+    fn revokes_none(&self) -> bool {
+        self.revoked.len() == 0
+    }
+
     fn revoke(&mut self, number: &[u8; 16]) -> Result<(), TableFault> {
         self.revoked.insert(number, ())
     }

@@ -1,4 +1,4 @@
-ghost use Rattle.std.specs.Prelude.{◌≡◌, ◌≢◌, ◌↔◌, ◌∷◌, [], ◌++◌, ℕ, length, slice_get, false, IsTrue, IsOk, OnOk, OnErr, Err, None};
+ghost use Rattle.std.specs.Prelude.{◌≡◌, ◌≢◌, ◌↔◌, ◌∷◌, [], ◌++◌, ℕ, length, slice_get, true, false, IsTrue, IsOk, OnOk, OnErr, Err, None};
 ghost use Rattle.std.specs.Option.{option_copied};
 ghost use Rattle.std.specs.FinMap as map;
 ghost use Rattle.std.specs.FinSet as set;
@@ -81,6 +81,10 @@ pub trait Tables: Drop {
     /// Whether a revocation number is there.
     fn is_revoked(&self, number: &[u8; 16]) -> bool
         ensures { result ≡ set.contains (contents self.now).revoked number.now };
+
+    /// Whether no revocation number is there.
+    fn revokes_none(&self) -> bool
+        ensures { (result ≡ true) ↔ ((contents self.now).revoked ≡ set.empty) };
 
     /// Adds a revocation number.
     ///

@@ -38,10 +38,12 @@ fn keeps_what_it_is_given<T: Tables>(rt: &impl Abort, tables: &mut T) -> Result<
     assert_eq!(rt; tables.revoke(&B), Ok(()));
     assert_eq!(rt; tables.revoke(&B), Err(TableFault::Taken));
     assert!(rt; tables.is_revoked(&B));
+    assert!(rt; !tables.revokes_none());
     assert!(rt; !tables.is_revoked(&A));
     assert_eq!(rt; tables.restore(&A), Err(TableFault::Missing));
     assert_eq!(rt; tables.restore(&B), Ok(()));
     assert!(rt; !tables.is_revoked(&B));
+    assert!(rt; tables.revokes_none());
 
     tables.clear();
     assert!(rt; tables.entry(&A).is_none());
