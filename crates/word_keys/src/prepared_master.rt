@@ -2,17 +2,19 @@ ghost use Rattle.std.specs.Prelude.{◌≡◌, ◌≤◌, ◌∷◌, length};
 ghost use Rattle.client_registry.specs.HashNumbers.{hash_numbers};
 ghost use Rattle.client_registry.specs.WordBytes.{word_bytes};
 ghost use Rattle.keyed_fn.specs.KeyedFn.{keyed_fn};
-ghost use Rattle.keyed_fn.specs.KeyFormulas.{mark_of, part_key, plain_key};
+ghost use Rattle.keyed_fn.specs.KeyFormulas.{list_label, mark_of, part_key, plain_key};
 ghost use Rattle.search_token.specs.TokenKeys.{token_keys};
 ghost use Rattle.word_keys.specs.HashNumbers.{numbers_of_key};
 ghost use Rattle.word_keys.specs.KeyPair.{list_keys, plus_keys};
+ghost use Rattle.word_keys.specs.PadName.{cell_name};
 
 use crate::list_keys::ListKeys;
+use crate::list_pads::ListPads;
 use crate::place_key::PlaceKey;
 use crate::plus_keys::PlusKeys;
 use crate::revocation_key::RevocationKey;
 use client_registry::{HashKeys, Word};
-use keyed_fn::{Keyed, PreparedKey, front_of};
+use keyed_fn::{Keyed, PreparedKey, front_at, front_of};
 use search_token::Token;
 use std::marker::Model;
 
@@ -93,6 +95,20 @@ impl<K: Keyed> PreparedMaster<K> {
         let label_key = self.key_of_part(keyed, LIST_LABEL, word.bytes());
         let pad_key = self.key_of_part(keyed, LIST_PADS, word.bytes());
         ListKeys::new(label_key, pad_key)
+    }
+
+    /// The 16-byte label of a word's list alone: one of the two keys of [`PreparedMaster::list_keys`], and its value.
+    pub fn list_label(&self, keyed: &K, word: &Word) -> [u8; 16]
+        ensures { result ≡ list_label (keyed_fn K.prf K.pad) (part_key (keyed_fn K.prf K.pad) self.now 1 (word_bytes word.now)) }
+    {
+        front_at(keyed, &self.key_of_part(keyed, LIST_LABEL, word.bytes()), 0)
+    }
+
+    /// The pads of a word's list alone, from that of the cell on: the other of the two keys.
+    pub fn list_pads(&self, keyed: &K, word: &Word) -> ListPads
+        ensures { result ≡ cell_name (part_key (keyed_fn K.prf K.pad) self.now 2 (word_bytes word.now)) }
+    {
+        ListPads::begin(self.key_of_part(keyed, LIST_PADS, word.bytes()))
     }
 
     /// The keys of a word's additions: its keys of the parts 3 and 4.
