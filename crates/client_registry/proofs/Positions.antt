@@ -1,5 +1,5 @@
-use Rattle.std.proofs.Common.{◌≡◌, ℕ, suc, ◌+◌, Bool, true, false, not, cond, ◌||◌, inl, inr, List, [], ◌∷◌, length, Option, None, Some, is_some, nat_lt, position, map, ap, refl, sym, ◌∙◌, arith}
-use Rattle.std.specs.List.{list_any, position_or_len, prefix_len}
+use Rattle.std.proofs.Common.{◌≡◌, ℕ, suc, ◌+◌, Bool, true, false, not, cond, ◌||◌, ◌&&◌, inl, inr, List, [], ◌∷◌, length, Option, None, Some, is_some, nat_lt, position, map, ap, refl, sym, ◌∙◌, arith}
+use Rattle.std.specs.List.{list_all, list_any, position_or_len, prefix_len}
 use Rattle.std.specs.Option.{option_map}
 use Rattle.std.proofs.lemmas.List.{length-map}
 use Rattle.std.proofs.lemmas.Bool.{lt-ltb, le-ltb, cases_lt}
@@ -56,3 +56,13 @@ position-cons p y ys = by (p y)
           | inl lt ↦ ap (λ b. at b (1 + n)) (lt-ltb (1 + n) (suc (length ys)) (omega arith)) ∙ ap (λ k. at true k) next ∙ sym (ap (λ b. option_map (λ k. suc k) (at b n)) (lt-ltb n (length ys) lt))
           | inr ge ↦ ap (λ b. at b (1 + n)) (le-ltb (1 + n) (suc (length ys)) (omega arith)) ∙ sym (ap (λ b. option_map (λ k. suc k) (at b n)) (le-ltb n (length ys) ge))
         ]
+
+-- where no element fails a test, all pass it
+pub all_pass : {X : Type 0} (p : X → Bool) (xs : List X) → position (λ x. not (p x)) xs ≡ None → list_all p xs ≡ true
+all_pass p [] none = refl
+all_pass p (x ∷ xs) none = by (p x) (position (λ y. not (p y)) xs) (sym (position-cons (λ y. not (p y)) x xs) ∙ none) (all_pass p xs)
+  where
+    by : (b : Bool) (o : Option ℕ) → cond (not b) (Some 0) (option_map (λ n. suc n) o) ≡ None → (o ≡ None → list_all p xs ≡ true) → (b && list_all p xs) ≡ true
+    by true None h rest = rest refl
+    by true (Some n) h rest = absurd (cc)
+    by false o h rest = absurd (cc)

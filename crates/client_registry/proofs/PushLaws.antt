@@ -40,7 +40,8 @@ IsDistinct-push eq symm (x ∷ ks) k d new =
     let parts = or_false (eq k x) (list_any (eq k) ks) new in
     (AllByRecursion-push (λ y. eq x y ≡ false) ks k d.0 (symm x k ∙ parts.0), IsDistinct-push eq symm ks k d.1 parts.1)
 
-list_any-map : {X Y : Type 0} (p : Y → Bool) (f : X → Y) (xs : List X) → list_any p (map f xs) ≡ list_any (λ x. p (f x)) xs
+-- a test of a mapped list
+pub list_any-map : {X Y : Type 0} (p : Y → Bool) (f : X → Y) (xs : List X) → list_any p (map f xs) ≡ list_any (λ x. p (f x)) xs
 list_any-map p f [] = refl
 list_any-map p f (x ∷ xs) = ap (λ b. p (f x) || b) (list_any-map p f xs)
 

@@ -17,5 +17,9 @@ pub mod Over
 pub mod Command
 pub mod Run
 pub mod Live
+pub mod Facts
+pub mod Registered
+pub mod CommandView
+pub mod RegistryView
 pub mod Sized
 pub mod Histories

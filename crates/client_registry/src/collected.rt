@@ -7,8 +7,9 @@ use crate::hash_keys::HashKeys;
 use crate::limits::{MAX_DOCUMENTS, MAX_PAIRS};
 use crate::listed::Listed;
 use crate::numbered::Numbered;
-use crate::numbering::{Words, count_all};
+use crate::numbering::count_all;
 use crate::word::Word;
+use crate::word_table::Words;
 use indexmap::IndexMap;
 use std::alloc::Global;
 use std::marker::Model;
@@ -19,9 +20,9 @@ use std::marker::Model;
 /// of words. Both tables hash under the keys that [`Docs::new`] is given.
 #[derive(Drop)]
 pub struct Docs {
-    documents: IndexMap<DocId, Listed, HashKeys>,
-    words: Words,
-    pairs: usize,
+    pub(crate) documents: IndexMap<DocId, Listed, HashKeys>,
+    pub(crate) words: Words,
+    pub(crate) pairs: usize,
 }
 
 impl Model for Docs {

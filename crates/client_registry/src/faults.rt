@@ -38,6 +38,19 @@ pub enum DocsFault {
     NoMemory,
 }
 
+/// Why a document isn't added.
+#[derive(Clone, Copy, Debug, PartialEq, Eq)]
+pub enum AddFault {
+    /// A document has this identifier already.
+    AlreadyLive(u64),
+    /// There is no memory for the document.
+    NoMemory,
+}
+
+/// No document has this identifier.
+#[derive(Clone, Copy, Debug, PartialEq, Eq)]
+pub struct UnknownDocument(pub u64);
+
 /// Why there is no index of the documents.
 #[derive(Clone, Copy, Debug, PartialEq, Eq)]
 pub enum SizeFault {
@@ -86,5 +99,15 @@ impl<T: Drop> From<AllocFailed<T>> for DocsFault {
 
     fn from(_e: AllocFailed<T>) -> DocsFault {
         DocsFault::NoMemory
+    }
+}
+
+impl From<AllocError> for AddFault {
+    ghost use Rattle.client_registry.specs.declared.faults.AddFault.TheVariants.{NoMemory};
+
+    ghost from_gives = { λ _ e. e ≡ NoMemory };
+
+    fn from(_e: AllocError) -> AddFault {
+        AddFault::NoMemory
     }
 }

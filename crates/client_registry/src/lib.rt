@@ -7,6 +7,7 @@
 #![tactic(auto)]
 
 mod collected;
+mod command;
 mod doc_id;
 mod document;
 mod faults;
@@ -15,18 +16,23 @@ mod limits;
 mod listed;
 mod numbered;
 mod numbering;
+mod registry;
 mod size;
 #[cfg(test)]
 mod tests;
+mod updates;
 mod word;
+mod word_table;
 
 pub use collected::Docs;
+pub use command::Command;
 pub use doc_id::{DocId, Zero};
 pub use document::Doc;
-pub use faults::{DocFault, DocsFault, SizeFault, WordFault};
+pub use faults::{AddFault, DocFault, DocsFault, SizeFault, UnknownDocument, WordFault};
 pub use hash_keys::HashKeys;
 pub use limits::{MAX_DOCUMENTS, MAX_INDEX_BYTES, MAX_PAIRS, MAX_WORD_BYTES, MAX_WORDS};
 pub use numbered::Numbered;
+pub use registry::Registry;
 pub use size::{Size, size_of};
 pub use std::alloc::AllocError as NoMemory;
 pub use word::Word;

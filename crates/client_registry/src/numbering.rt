@@ -5,12 +5,8 @@ ghost use Rattle.client_registry.specs.Tally.{counted_up, counts_of};
 ghost use Rattle.client_registry.specs.WordBytes.{word_bytes};
 ghost use Rattle.client_registry.specs.WordTable.{table_words};
 
-use crate::hash_keys::HashKeys;
 use crate::word::Word;
-use indexmap::IndexMap;
-
-/// The word table: each word once, at the place that is its number, with how many documents hold it.
-pub(crate) type Words = IndexMap<Word, u32, HashKeys>;
+use crate::word_table::Words;
 
 /// The number of a word, for which one document more is counted. A new word goes last.
 fn count_up(words: &mut Words, word: Word) -> u32

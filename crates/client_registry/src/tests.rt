@@ -1,6 +1,6 @@
 use crate::{
-    Doc, DocFault, DocId, Docs, DocsFault, HashKeys, Size, SizeFault, Word, WordFault, Zero,
-    size_of,
+    Doc, DocFault, DocId, Docs, DocsFault, HashKeys, Registry, Size, SizeFault, Word, WordFault,
+    Zero, size_of,
 };
 use std::alloc::Global;
 use std::test::Fail;
@@ -157,5 +157,47 @@ fn blocks_of_one_word(rt: HostRuntime) -> Result<(), Fail> {
         size_of(&nine, 64, 0),
         Err(SizeFault::BadParameter { which: 1, value: 0 })
     );
+    Ok(())
+}
+
+/// Adds the document, where none of its counters is at its end.
+fn add(registry: &mut Registry, doc: Doc) -> Result<(), Fail> {
+    registry.reserve(&doc)?;
+    match registry.full_counter(&doc) {
+        Some(_) => Err(Fail::from("a counter is at its end")),
+        None => Ok(registry.add(doc)?),
+    }
+}
+
+/// Document 5 is added, deleted, and added again with a new word before the one that it had.
+#[test]
+fn a_pair_is_counted_once(rt: HostRuntime) -> Result<(), Fail> {
+    let alloc = rt.alloc();
+    let id = DocId::new(5)?;
+    let mut registry = Registry::from_docs(with_a(alloc, 1)?);
+    add(&mut registry, doc(alloc, 5, &[b"a"])?)?;
+    registry.delete(id)?;
+    add(&mut registry, doc(alloc, 5, &[b"c", b"a"])?)?;
+    let rows: [(&[u8], u32, bool); 3] = [(b"a", 1, true), (b"c", 1, true), (b"z", 0, false)];
+    for (text, counter, listed) in rows {
+        let word = Word::read(text)?;
+        assert_eq!(rt; registry.counter(&word), counter);
+        assert_eq!(rt; registry.is_listed(&word, id), listed);
+    }
+    let numbers = registry.get(id).map(|doc| doc.numbers);
+    assert_eq!(rt; numbers, Some([1, 0].as_slice()));
+    Ok(())
+}
+
+#[test]
+fn words_keep_their_numbers(rt: HostRuntime) -> Result<(), Fail> {
+    let registry = Registry::from_docs(two_documents(rt.alloc())?);
+    assert_eq!(rt; registry.words(), 3);
+    let word = registry.word(2);
+    assert_eq!(rt; word.bytes(), b"c".as_slice());
+    assert_eq!(rt; registry.number_of(word), Some(2));
+    assert_eq!(rt; registry.counter_at(2), 0);
+    assert!(rt; registry.is_pair(2, DocId::new(9)?));
+    assert!(rt; !registry.is_pair(2, DocId::new(3)?));
     Ok(())
 }

@@ -1,0 +1,14 @@
+use crate::doc_id::DocId;
+use crate::document::Doc;
+use crate::word::Word;
+
+/// A command after the setup.
+#[derive(Debug, Drop)]
+pub enum Command {
+    /// A document becomes live.
+    Add(Doc),
+    /// The live document of this identifier is no more.
+    Delete(DocId),
+    /// The live documents with this word are asked for.
+    Search(Word),
+}

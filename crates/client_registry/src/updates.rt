@@ -1,0 +1,138 @@
+ghost use Rattle.std.specs.Prelude.{◌≡◌, ◌≢◌, ◌<◌, ◌≤◌, ◌^◌, ◌++◌, ◌∷◌, [], All, IfOk, IsNone, IsOk, IsOkUnless, IsSome, List, None, OnErr, OnOk, Some, bytes_eq, length, map, true};
+ghost use Rattle.std.specs.List.{list_any};
+ghost use Rattle.client_registry.specs.Command.{Command as Meant, Add as adds, Delete as deletes};
+ghost use Rattle.client_registry.specs.Facts.{facts_after, has_counters};
+ghost use Rattle.client_registry.specs.IdNumber.{id_number};
+ghost use Rattle.client_registry.specs.Registered.{facts, kept_of, known_words, HasRoom, KeepsNumbers, Kept, Represents};
+ghost use Rattle.client_registry.specs.Setup.{Setup};
+ghost use Rattle.client_registry.specs.WordBytes.{word_bytes};
+
+use crate::doc_id::DocId;
+use crate::document::Doc;
+use crate::faults::{AddFault, UnknownDocument};
+use crate::listed::Listed;
+use crate::registry::Registry;
+use crate::word::Word;
+use crate::word_table::{append_numbers, count_new, number_all};
+use std::alloc::AllocError;
+
+impl Registry {
+    /// Takes the memory of a following [`Registry::add`] of this document, and numbers its words.
+    ///
+    /// What is live, listed and counted stays as it is, also after an error.
+    pub fn reserve(&mut self, doc: &Doc) -> Result<(), AllocError>
+        ensures facts { facts self.new ≡ facts self.old }
+        ensures words { KeepsNumbers self.old self.new }
+        ensures room { OnOk result (HasRoom self.new doc.now) }
+        ensures succeeds { HasRoom self.old doc.now → IsOk result }
+    {
+        self.number_words(doc.words())?;
+        let kept = self.make_entry(doc.id())?;
+        self.make_room(doc.words().len() + kept)
+    }
+
+    /// Adds a document. None of its words whose pair would be new is at its last counter.
+    ///
+    /// Errors: `AlreadyLive(id)` exactly where a document of this identifier is live; else `NoMemory` where there is no
+    /// memory, which never comes after [`Registry::reserve`] for this document. After an error what is live, listed and
+    /// counted is as before, and `doc` is dropped.
+    pub fn add(&mut self, doc: Doc) -> Result<(), AddFault>
+        requires { has_counters (facts self.old) doc ≡ true }
+        ensures ok { OnOk result (facts self.new ≡ facts_after (facts self.old) (adds doc)) }
+        ensures err { OnErr result (facts self.new ≡ facts self.old) }
+        ensures words { KeepsNumbers self.old self.new }
+        ensures already { IsSome ((facts self.old).live doc.id) → result ≡ Err (AddFault.AlreadyLive doc.id) }
+        ensures accepted { IsNone ((facts self.old).live doc.id) → IsOkUnless result AddFault.NoMemory }
+        ensures room { HasRoom self.old doc → result ≢ Err AddFault.NoMemory }
+        ensures history { (s : Setup) (past : List Meant) → Represents self.old s past → OnOk result (Represents self.new s (past ++ adds doc ∷ [])) }
+    {
+        if self.is_live(doc.id()) {
+            return Err(AddFault::AlreadyLive(doc.id().get()));
+        }
+        self.reserve(&doc)?;
+        self.put(&doc);
+        Ok(())
+    }
+
+    /// Deletes the document of this identifier. Its pairs stay listed. It takes no memory.
+    ///
+    /// Error: `UnknownDocument(id)` exactly where no document of this identifier is live; nothing has changed then.
+    pub fn delete(&mut self, id: DocId) -> Result<(), UnknownDocument>
+        ensures ok { OnOk result (facts self.new ≡ facts_after (facts self.old) (deletes (id_number id))) }
+        ensures err { OnErr result (self.new ≡ self.old) }
+        ensures words { known_words self.new ≡ known_words self.old }
+        ensures unknown { IsNone ((facts self.old).live (id_number id)) → result ≡ Err (record { 0 = id_number id }) }
+        ensures accepted { IsSome ((facts self.old).live (id_number id)) → IsOk result }
+        ensures history { (s : Setup) (past : List Meant) → Represents self.old s past → OnOk result (Represents self.new s (past ++ deletes (id_number id) ∷ [])) }
+    {
+        if !self.is_live(id) {
+            return Err(UnknownDocument(id.get()));
+        }
+        let place = self.documents.get_index_of(&id).unwrap();
+        self.documents[place].retire();
+        Ok(())
+    }
+
+    /// Gives each of these words a number.
+    fn number_words(&mut self, words: &[Word]) -> Result<(), AllocError>
+        ensures facts { facts self.new ≡ facts self.old }
+        ensures words { KeepsNumbers self.old self.new }
+        ensures kept { self.new.kept ≡ self.old.kept }
+        ensures room { self.new.room ≡ self.old.room }
+        ensures numbered { OnOk result (All (λ word. list_any (bytes_eq word) (known_words self.new) ≡ true) (map word_bytes words.now)) }
+        ensures succeeds { All (λ word. list_any (bytes_eq word) (known_words self.old) ≡ true) (map word_bytes words.now) → IsOk result }
+    {
+        number_all(&mut self.words, words)
+    }
+
+    /// Makes an entry for an identifier that has none, and says how many numbers are kept of it.
+    fn make_entry(&mut self, id: DocId) -> Result<usize, AllocError>
+        ensures facts { facts self.new ≡ facts self.old }
+        ensures counts { self.new.counts ≡ self.old.counts }
+        ensures room { self.new.room ≡ self.old.room }
+        ensures entry { IfOk result (λ n. (k : Kept) × (kept_of self.new (id_number id) ≡ Some k) × (length k.numbers ≡ n)) }
+        ensures small { IfOk result (λ n. n < 2 ^ 63) }
+        ensures stays { IsSome (kept_of self.old (id_number id)) → kept_of self.new (id_number id) ≡ kept_of self.old (id_number id) }
+        ensures succeeds { IsSome (kept_of self.old (id_number id)) → IsOk result }
+    {
+        if let Some(listed) = self.documents.get(&id) {
+            return Ok(listed.numbers.len());
+        }
+        let numbers = Vec::new(*self.words.allocator());
+        self.documents.insert(
+            id,
+            Listed {
+                numbers,
+                live: None,
+            },
+        )?;
+        Ok(0)
+    }
+
+    /// Makes room for so many numbers.
+    fn make_room(&mut self, count: usize) -> Result<(), AllocError>
+        ensures counts { self.new.counts ≡ self.old.counts }
+        ensures kept { self.new.kept ≡ self.old.kept }
+        ensures room { OnOk result (count ≤ self.new.room) }
+        ensures succeeds { count ≤ self.old.room → IsOk result }
+    {
+        self.next.reserve_exact(count)?;
+        self.again.reserve_exact(count)?;
+        Ok(())
+    }
+
+    /// Adds a document whose identifier isn't live, and for which there is room.
+    fn put(&mut self, doc: &Doc)
+        requires room { HasRoom self.old doc.now }
+        requires dead { (facts self.old).live doc.now.id ≡ None }
+        requires counters { has_counters (facts self.old) doc.now ≡ true }
+        ensures facts { facts self.new ≡ facts_after (facts self.old) (adds doc.now) }
+        ensures words { known_words self.new ≡ known_words self.old }
+    {
+        append_numbers(&self.words, doc.words(), &mut self.next);
+        let place = self.documents.get_index_of(&doc.id()).unwrap();
+        let listed = &mut self.documents[place];
+        count_new(&mut self.words, &self.next, &listed.numbers);
+        listed.revive(&mut self.next, &mut self.again);
+    }
+}
