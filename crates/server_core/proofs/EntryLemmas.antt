@@ -1,21 +1,22 @@
 -- The entries of a frame, one by one, and what adding them makes of a map.
-use Rattle.std.proofs.Common.{◌≡◌, ℕ, zero, suc, ◌+◌, ◌*◌, ◌-◌, ◌/◌, ◌%◌, ◌<◌, ◌≤◌, Bool, true, false, cond, List, [], ◌∷◌, length, get_or, map, take, drop, Option, Some, None, refl, sym, ap, ◌∙◌, arith}
+use Rattle.std.proofs.Common.{◌≡◌, ℕ, zero, suc, ◌+◌, ◌*◌, ◌-◌, ◌/◌, ◌%◌, ◌<◌, ◌≤◌, Bool, true, false, cond, not, ◌&&◌, ◌||◌, List, [], ◌∷◌, length, get_or, map, take, drop, Option, Some, None, refl, sym, ap, ◌∙◌, arith}
 use Rattle.std.specs.List.{position_from, AllByRecursion}
 use Rattle.std.specs.List.Sorted.{IsStrictlySortedBy}
 use Rattle.std.specs.Simd.{first_chunks}
-use Rattle.std.specs.Ordering.{is_eq, nat_cmp}
+use Rattle.std.specs.Ordering.{is_eq, nat_cmp, eq_by_cmp}
 use Rattle.std.specs.declared.cmp.Ordering.TheVariants.{Less}
 use Rattle.std.specs.Cmp.Lexicographic.{slice_cmp}
 use Rattle.std.specs.FinMap as finmap
+use Rattle.std.specs.FinSet as set
 use Rattle.std.specs.Option.{is_some}
 use Rattle.std.proofs.lemmas.Cmp.{nat_list_cmp_total}
 use Rattle.std.proofs.lemmas.Nat.{div-mul-add, div-add-mod'}
 use Rattle.std.proofs.lemmas.List.{length-map, length-drop, drop-drop, drop-take, take-take}
 use Rattle.sse_frames.specs.Frames.{Entry, Rises, labels_of}
-use Rattle.sse_frames.specs.Seen.{entry_in, entries_in}
-use Rattle.server_core.specs.Dictionary.{CellMap}
+use Rattle.sse_frames.specs.Seen.{entry_in, entries_in, items_in}
+use Rattle.server_tables.specs.Contents.{CellMap, NumberSet}
 use Rattle.server_core.specs.Refusal.{first_known}
-use Rattle.server_core.proofs.Places.{turned}
+use Rattle.server_tables.proofs.Places.{turned}
 
 -- one item less in the number, one less in the quotient
 div_less : (n k : ℕ) → 0 < k → k ≤ n → n / k ≡ suc ((n - k) / k)
@@ -27,15 +28,21 @@ div_less n k pos le =
 div_none : (n k : ℕ) → n < k → n / k ≡ 0
 div_none n k lt = let none : n ≡ 0 * k + n = omega arith in ap (λ m. m / k) none ∙ div-mul-add 0 k n lt
 
--- bytes that are fewer than an entry's hold none
-pub entries_in-few : (width : ℕ) (bytes : List ℕ) → length bytes < 16 + width → entries_in width bytes ≡ []
-entries_in-few width bytes few = ap (λ n. map entry_in (first_chunks (16 + width) n bytes)) (div_none (length bytes) (16 + width) few)
+-- bytes that are fewer than an item's hold none
+pub items_in-few : (size : ℕ) (bytes : List ℕ) → length bytes < size → items_in size bytes ≡ []
+items_in-few size bytes few = ap (λ n. first_chunks size n bytes) (div_none (length bytes) size few)
 
--- the first entry, and those behind it
+-- the first item, and those behind it
+pub items_in-more : (size : ℕ) (bytes : List ℕ) → 0 < size → size ≤ length bytes → items_in size bytes ≡ take size bytes ∷ items_in size (drop size bytes)
+items_in-more size bytes some enough =
+    let one_less = div_less (length bytes) size some enough ∙ ap (λ n. suc (n / size)) (sym (length-drop size bytes)) in
+    ap (λ n. first_chunks size n bytes) one_less
+
+pub entries_in-few : (width : ℕ) (bytes : List ℕ) → length bytes < 16 + width → entries_in width bytes ≡ []
+entries_in-few width bytes few = ap (map entry_in) (items_in-few (16 + width) bytes few)
+
 pub entries_in-more : (width : ℕ) (bytes : List ℕ) → 16 + width ≤ length bytes → entries_in width bytes ≡ entry_in (take (16 + width) bytes) ∷ entries_in width (drop (16 + width) bytes)
-entries_in-more width bytes enough =
-    let one_less = div_less (length bytes) (16 + width) (omega arith) enough ∙ ap (λ n. suc (n / (16 + width))) (sym (length-drop (16 + width) bytes)) in
-    ap (λ n. map entry_in (first_chunks (16 + width) n bytes)) one_less
+entries_in-more width bytes enough = ap (map entry_in) (items_in-more (16 + width) bytes (omega arith) enough)
 
 -- the first entry as its label, its cell and the bytes behind it
 pub entries_in-parts : (width : ℕ) (bytes label behind cell rest : List ℕ) → 16 ≤ length bytes → label ≡ take 16 bytes → behind ≡ drop 16 bytes → width ≤ length behind → cell ≡ take width behind → rest ≡ drop width behind → entries_in width bytes ≡ record { label = label; text = cell } ∷ entries_in width rest
@@ -71,7 +78,31 @@ rises_apart : (x : List ℕ) (xs : List (List ℕ)) → Rises (x ∷ xs) → All
 unfolding IsStrictlySortedBy
 rises_apart x xs rises = rises
 
-is_none : {A : Type 0} (o : Option A) → is_some o ≡ false → o ≡ None
+-- a number differs from all those that rise behind it
+apart_later : (n : List ℕ) (ns : List (List ℕ)) → AllByRecursion (λ y. slice_cmp nat_cmp n y ≡ Less) ns → (k : ℕ) (d : List ℕ) → k < length ns → eq_by_cmp (slice_cmp nat_cmp) (get_or ns k d) n ≡ false
+apart_later n [] below k d lt = absurd (omega arith)
+apart_later n (x ∷ xs) below zero d lt = ap is_eq (turned nat_list_cmp_total n x Less below.0)
+apart_later n (x ∷ xs) below (suc k) d lt = apart_later n xs below.1 k d (omega arith)
+
+-- of numbers that rise and aren't in a set, the later ones aren't in it either once the first is
+pub none_revoked_behind : (s : NumberSet) (n : List ℕ) (ns : List (List ℕ)) → position_from (λ x. set.contains s x) 0 (n ∷ ns) ≡ None → Rises (n ∷ ns) → (set.contains s n ≡ false) × (position_from (λ x. set.contains (set.insert s n) x) 0 ns ≡ None) × Rises ns
+none_revoked_behind s n ns none rises =
+    let apart = rises_apart n ns rises in
+    let parts = none_known (λ x. set.contains s x) 0 n ns none in
+    let later = none_from (λ x. set.contains s x) (λ x. set.contains (set.insert s n) x) (0 + 1) 0 ns (λ (k : ℕ) (d : List ℕ) (lt : k < length ns) unknown.
+    set.contains-insert nat_list_cmp_total s n (get_or ns k d) ∙ ap (λ b. b || set.contains s (get_or ns k d)) (apart_later n ns apart.0 k d lt) ∙ unknown) parts.1 in
+    (parts.0, later, apart.1)
+
+-- of numbers that rise and are in a set, the later ones still are once the first is taken out
+pub none_missing_behind : (s : NumberSet) (n : List ℕ) (ns : List (List ℕ)) → position_from (λ x. not (set.contains s x)) 0 (n ∷ ns) ≡ None → Rises (n ∷ ns) → (not (set.contains s n) ≡ false) × (position_from (λ x. not (set.contains (set.remove s n) x)) 0 ns ≡ None) × Rises ns
+none_missing_behind s n ns none rises =
+    let apart = rises_apart n ns rises in
+    let parts = none_known (λ x. not (set.contains s x)) 0 n ns none in
+    let later = none_from (λ x. not (set.contains s x)) (λ x. not (set.contains (set.remove s n) x)) (0 + 1) 0 ns (λ (k : ℕ) (d : List ℕ) (lt : k < length ns) unknown.
+    ap not (set.contains-remove nat_list_cmp_total s n (get_or ns k d) ∙ ap (λ b. not b && set.contains s (get_or ns k d)) (apart_later n ns apart.0 k d lt)) ∙ unknown) parts.1 in
+    (parts.0, later, apart.1)
+
+pub is_none : {A : Type 0} (o : Option A) → is_some o ≡ false → o ≡ None
 is_none None h = refl
 is_none (Some x) h = cc
 
@@ -88,6 +119,10 @@ none_known_behind m e es none rises =
 length-first_chunks : {A : Type 0} (size n : ℕ) (xs : List A) → length (first_chunks size n xs) ≡ n
 length-first_chunks size zero xs = refl
 length-first_chunks size (suc n) xs = ap suc (length-first_chunks size n (drop size xs))
+
+-- as many items as their size goes into the bytes
+pub length-items_in : (size : ℕ) (bytes : List ℕ) → length (items_in size bytes) ≡ length bytes / size
+length-items_in size bytes = length-first_chunks size (length bytes / size) bytes
 
 -- as many entries as their size goes into the bytes
 pub length-entries_in : (width : ℕ) (bytes : List ℕ) → length (entries_in width bytes) ≡ length bytes / (16 + width)

@@ -12,7 +12,7 @@ use Rattle.std.proofs.lemmas.List.Elements.{All-head, All-tail}
 use Rattle.keyed_fn.specs.KeyedFn.{KeyedFn}
 use Rattle.sse_frames.specs.Frames.{Entry, FrameText, Hello, SetupBegin, SetupDict, SetupArray, SetupEnd, AddFrame, DeleteFrame, SearchFrame, update_number, Rises, labels_of}
 use Rattle.sse_frames.specs.Replies.{ReplyText, Number}
-use Rattle.server_core.specs.Dictionary.{CellMap}
+use Rattle.server_tables.specs.Contents.{CellMap}
 use Rattle.server_core.specs.State.{ServerState}
 use Rattle.server_core.specs.Refusal.{first_known, refusal}
 use Rattle.server_core.specs.Step.{with_entries, taken, step, steps}

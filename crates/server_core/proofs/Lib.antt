@@ -1,6 +1,6 @@
 pub mod EntryLemmas
+mod CellLemmas
 pub mod Laws
-mod Places
 mod Rows
 mod SearchLemmas
-mod SlotLemmas
+pub mod WayLaws

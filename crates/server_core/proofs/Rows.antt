@@ -1,6 +1,6 @@
 -- Rows that compute: the steps of a server under the toy keyed function, which adds bytes up, for one document `1 a` and
 -- cells of one identifier; and what cells are lists.
-use Rattle.std.proofs.Common.{◌≡◌, ℕ, zero, suc, ◌+◌, ◌*◌, ◌-◌, true, List, [], ◌∷◌, ◌++◌, cond, ltb, Some, None, refl}
+use Rattle.std.proofs.Common.{◌≡◌, ℕ, zero, suc, ◌+◌, ◌*◌, ◌-◌, true, List, [], Option, ◌∷◌, ◌++◌, cond, ltb, Some, None, refl}
 use Rattle.std.specs.Prelude.{codes}
 use Rattle.std.specs.FinMap as map
 use Rattle.std.specs.FinSet as set
@@ -11,7 +11,7 @@ use Rattle.sse_frames.specs.Replies.{Next, Took, Number, Clash, Page, OutOfPlace
 use Rattle.search_token.specs.TokenKeys.{keys_of_bytes}
 use Rattle.server_core.specs.declared.stage.Stage.TheVariants.{Filling, Ready}
 use Rattle.server_core.specs.State.{ServerState, at_first}
-use Rattle.server_core.specs.Search.{listed, no_block, found}
+use Rattle.server_core.specs.Search.{block_at, listed, found}
 use Rattle.server_core.specs.Refusal.{clash}
 use Rattle.server_core.specs.Step.{step, taken}
 
@@ -101,6 +101,9 @@ clash_row : step toy (record filled { words = 2 }) (SetupDict 2 9 (entry ∷ [])
 clash_row = simp (map.gets)
 
 -- a cell of identifiers; one with a number behind a zero; one of an unknown kind; pointers without blocks, and none
+abbrev no_block : (number pointer : ℕ) → Option (List ℕ)
+no_block number pointer = None
+
 list_row : listed no_block (hex (codes "000000000000000007ffffffffffffffff")) ≡ Some (7 ∷ 18446744073709551615 ∷ [])
 list_row = refl
 
@@ -145,6 +148,15 @@ deleted = taken added (DeleteFrame 4 (number ∷ []))
 
 abbrev added_again : ServerState
 added_again = taken deleted (AddFrame 5 (other_addition ∷ []) (number ∷ []))
+
+add_row : step toy whole (AddFrame 3 (addition ∷ []) []) ≡ (added, Took 3 ∷ [])
+add_row = simp (map.gets, set.members)
+
+delete_row : step toy added (DeleteFrame 4 (number ∷ [])) ≡ (deleted, Took 4 ∷ [])
+delete_row = simp (map.gets, set.members)
+
+add_again_row : step toy deleted (AddFrame 5 (other_addition ∷ []) (number ∷ [])) ≡ (added_again, Took 5 ∷ [])
+add_again_row = simp (map.gets, set.members)
 
 added_row : found toy added (keys_of_bytes of_a) ≡ Some (1 ∷ 5 ∷ [])
 added_row = simp (map.gets, set.members)

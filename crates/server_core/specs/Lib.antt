@@ -1,7 +1,7 @@
-pub mod Dictionary
+pub mod Holds
 pub mod Refusal
 pub mod Search
-pub mod Slots
 pub mod State
 pub mod Step
 pub mod Views
+pub mod Way

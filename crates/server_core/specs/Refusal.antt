@@ -6,39 +6,25 @@ use Rattle.std.specs.FinMap as map
 use Rattle.std.specs.FinSet as set
 use Rattle.sse_frames.specs.Frames.{Entry, FrameText, Hello, SetupBegin, SetupDict, SetupArray, SetupEnd, AddFrame, DeleteFrame, SearchFrame, update_number}
 use Rattle.sse_frames.specs.Replies.{ReplyText, Number, Clash, OutOfPlace}
-use Rattle.server_core.specs.Dictionary.{CellMap}
+use Rattle.server_tables.specs.Contents.{CellMap}
 use Rattle.server_core.specs.State.{ServerState, is_empty, is_filling, is_ready}
-
--- the frames that this server takes: it has no blocks, additions or deletions
-abbrev pub is_built : FrameText → Bool
-is_built Hello = true
-is_built (SetupBegin q b big m a) = true
-is_built (SetupDict q width entries) = true
-is_built (SetupArray q width blocks) = false
-is_built (SetupEnd q) = true
-is_built (AddFrame q entries numbers) = false
-is_built (DeleteFrame q numbers) = false
-is_built (SearchFrame token) = true
 
 abbrev pub is_nil : {A : Type 0} → List A → Bool
 is_nil [] = true
 is_nil (x ∷ xs) = false
 
 -- whether the frame fits the stage, and what the setup still lacks
-abbrev pub fits_stage : ServerState → FrameText → Bool
-fits_stage s Hello = true
-fits_stage s (SetupBegin q b big m a) = is_empty s.stage
-fits_stage s (SetupDict q width entries) =
-    is_filling s.stage && (width == 1 + 8 * s.shape.b) && is_nil s.array && nat_le (map.len s.dictionary + length entries) s.words
-fits_stage s (SetupArray q width blocks) =
-    is_filling s.stage && (width == 8 * s.shape.big) && (map.len s.dictionary == s.words) && nat_le (length s.array + length blocks) s.blocks
-fits_stage s (SetupEnd q) = is_filling s.stage && (map.len s.dictionary == s.words) && (length s.array == s.blocks)
-fits_stage s (AddFrame q entries numbers) = is_ready s.stage
-fits_stage s (DeleteFrame q numbers) = is_ready s.stage
-fits_stage s (SearchFrame token) = is_ready s.stage
-
 abbrev pub in_place : ServerState → FrameText → Bool
-in_place s frame = is_built frame && fits_stage s frame
+in_place s Hello = true
+in_place s (SetupBegin q b big m a) = is_empty s.stage
+in_place s (SetupDict q width entries) =
+    is_filling s.stage && (width == 1 + 8 * s.shape.b) && is_nil s.array && nat_le (map.len s.dictionary + length entries) s.words
+in_place s (SetupArray q width blocks) =
+    is_filling s.stage && (width == 8 * s.shape.big) && (map.len s.dictionary == s.words) && nat_le (length s.array + length blocks) s.blocks
+in_place s (SetupEnd q) = is_filling s.stage && (map.len s.dictionary == s.words) && (length s.array == s.blocks)
+in_place s (AddFrame q entries numbers) = is_ready s.stage
+in_place s (DeleteFrame q numbers) = is_ready s.stage
+in_place s (SearchFrame token) = is_ready s.stage
 
 -- the place of the first entry whose label is in the map
 abbrev pub first_known : CellMap → List Entry → Option ℕ

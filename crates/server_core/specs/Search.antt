@@ -5,7 +5,8 @@ use Rattle.std.specs.List.{slice_get}
 use Rattle.std.specs.Int.{w64, from_be_bytes}
 use Rattle.std.specs.FinMap as map
 use Rattle.std.specs.FinSet as set
-use Rattle.two_level.specs.Opened.{numbers_of, kind_of, opened}
+use Rattle.two_level.specs.Opened.{numbers_of}
+pub use Rattle.two_level.specs.Opened.{listed}
 use Rattle.search_token.specs.KeyedFn.{KeyedFn}
 use Rattle.search_token.specs.KeyFormulas.{list_label, cell_pad, block_pad, plus_label, plus_pad, revocation}
 use Rattle.search_token.specs.Xored.{xored}
@@ -18,15 +19,6 @@ abbrev pub block_at : KeyedFn → TokenKeys → List (List ℕ) → (number poin
 block_at f keys array number zero = None
 block_at f keys array number (suc place) =
     option_map (λ text. numbers_of (xored text (block_pad f keys.pad_key number (length text)))) (slice_get array place)
-
--- an array without blocks
-abbrev pub no_block : (number pointer : ℕ) → Option (List ℕ)
-no_block number pointer = None
-
--- the list behind a decrypted cell: a byte that says what its numbers are, and the numbers
-abbrev pub listed : (block : (number pointer : ℕ) → Option (List ℕ)) → List ℕ → Option (List ℕ)
-listed block [] = None
-listed block (kind ∷ numbers) = option_and_then (λ k. opened block k (numbers_of numbers)) (kind_of kind)
 
 -- the identifiers of setup: none where the word's label is missing
 abbrev pub setup_ids : KeyedFn → TokenKeys → (cell : List ℕ → Option (List ℕ)) → (array : List (List ℕ)) → Option (List ℕ)

@@ -1,18 +1,13 @@
 -- What a server holds, as a value.
 use Rattle.std.specs.Prelude.{◌≡◌, ℕ, zero, suc, Bool, true, false, List, [], refl}
-use Rattle.std.specs.Ordering.{nat_cmp}
-use Rattle.std.specs.Cmp.Lexicographic.{slice_cmp}
-use Rattle.std.specs.Coded.{Coded, code_by, coded×, coded_list, coded_ℕ}
+use Rattle.std.specs.Coded.{Coded, code_by, coded×, coded_ℕ}
 use Rattle.std.specs.FinMap as map
 use Rattle.std.specs.FinSet as set
 use Rattle.two_level.specs.Shape.{Shape}
 use Rattle.server_core.specs.declared.stage.Stage.{Stage}
 use Rattle.server_core.specs.declared.stage.Stage.TheVariants.{Empty, Filling, Ready}
-use Rattle.server_core.specs.Dictionary.{CellMap, bytes_code}
-
--- revocation numbers of 16 bytes
-abbrev pub NumberSet : Type 0
-NumberSet = set.FinSet (slice_cmp nat_cmp)
+use Rattle.server_tables.specs.Contents.{CellMap, NumberSet, Contents, contents_code}
+use Rattle.server_tables.specs.Room.{Room, room_code}
 
 pub record ServerState : Type 0 where
   pub stage : Stage
@@ -43,12 +38,21 @@ at_first = record {
   revoked = set.empty;
 }
 
--- for how much more there is memory: entries of the dictionary, and bytes of their cells
-pub record Room : Type 0 where
-  pub entries : ℕ
-  pub bytes : ℕ
+-- the same of a server that holds this
+abbrev pub holding : Stage → (next words blocks : ℕ) → Shape → Contents → ServerState
+holding stage next words blocks shape contents = record {
+  stage = stage;
+  next = next;
+  words = words;
+  blocks = blocks;
+  shape = shape;
+  dictionary = contents.dictionary;
+  array = contents.array;
+  additions = contents.additions;
+  revoked = contents.revoked;
+}
 
--- a server's state, and beside it its room, which no rule reads
+-- a server's state, and beside it the room of its tables, which no rule reads
 pub record ServerView : Type 0 where
   pub state : ServerState
   pub room : Room
@@ -91,24 +95,15 @@ stage_code = code_by ℕ coded_ℕ stage_number stage_at stage_at-stage_number
 abbrev shape_code : Coded Shape
 shape_code = code_by (ℕ × ℕ) (coded× coded_ℕ coded_ℕ) (λ s. (s.b, s.big)) (λ p. record { b = p.0; big = p.1 }) (λ _. refl)
 
-abbrev room_code : Coded Room
-room_code = code_by (ℕ × ℕ) (coded× coded_ℕ coded_ℕ) (λ r. (r.entries, r.bytes)) (λ p. record { entries = p.0; bytes = p.1 }) (λ _. refl)
-
 abbrev Numbers : Type 0
 Numbers = Stage × (ℕ × (ℕ × (ℕ × Shape)))
-
-abbrev Tables : Type 0
-Tables = CellMap × (List (List ℕ) × (CellMap × NumberSet))
 
 abbrev numbers_code : Coded Numbers
 numbers_code = coded× stage_code (coded× coded_ℕ (coded× coded_ℕ (coded× coded_ℕ shape_code)))
 
-abbrev tables_code : Coded Tables
-tables_code = coded× (map.code bytes_code bytes_code) (coded× (coded_list bytes_code) (coded× (map.code bytes_code bytes_code) (set.code bytes_code)))
-
 abbrev pub state_code : Coded ServerState
 state_code =
-    code_by (Numbers × Tables) (coded× numbers_code tables_code) (λ s. ((s.stage, (s.next, (s.words, (s.blocks, s.shape)))), (s.dictionary, (s.array, (s.additions, s.revoked))))) (λ p. record { stage = p.0.0; next = p.0.1.0; words = p.0.1.1.0; blocks = p.0.1.1.1.0; shape = p.0.1.1.1.1; dictionary = p.1.0; array = p.1.1.0; additions = p.1.1.1.0; revoked = p.1.1.1.1 }) (λ _. refl)
+    code_by (Numbers × Contents) (coded× numbers_code contents_code) (λ s. ((s.stage, (s.next, (s.words, (s.blocks, s.shape)))), record { dictionary = s.dictionary; array = s.array; additions = s.additions; revoked = s.revoked })) (λ p. record { stage = p.0.0; next = p.0.1.0; words = p.0.1.1.0; blocks = p.0.1.1.1.0; shape = p.0.1.1.1.1; dictionary = p.1.dictionary; array = p.1.array; additions = p.1.additions; revoked = p.1.revoked }) (λ _. refl)
 
 abbrev pub view_code : Coded ServerView
 view_code =

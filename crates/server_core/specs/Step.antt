@@ -9,10 +9,10 @@ use Rattle.sse_frames.specs.Sending.{pages}
 use Rattle.search_token.specs.KeyedFn.{KeyedFn}
 use Rattle.search_token.specs.TokenKeys.{keys_of_bytes}
 use Rattle.server_core.specs.declared.stage.Stage.TheVariants.{Filling, Ready}
-use Rattle.server_core.specs.Dictionary.{CellMap}
+use Rattle.server_tables.specs.Contents.{CellMap, NumberSet}
 use Rattle.server_core.specs.Refusal.{refusal}
 use Rattle.server_core.specs.Search.{found}
-use Rattle.server_core.specs.State.{ServerState, NumberSet}
+use Rattle.server_core.specs.State.{ServerState}
 
 -- the map with these entries too
 abbrev pub with_entries : CellMap → List Entry → CellMap

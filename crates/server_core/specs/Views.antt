@@ -1,5 +1,5 @@
 -- What a contract sees of the answers of the code, and of the memory that a frame needs.
-use Rattle.std.specs.Prelude.{ℕ, ◌*◌, ◌≤◌, List, [], ◌∷◌, length}
+use Rattle.std.specs.Prelude.{ℕ, List, [], ◌∷◌, length}
 use Rattle.sse_frames.specs.Frames.{FrameText, Hello, SetupBegin, SetupDict, SetupArray, SetupEnd, AddFrame, DeleteFrame, SearchFrame}
 use Rattle.sse_frames.specs.Replies as replies
 use Rattle.sse_frames.specs.Replies.{ReplyText, InReplies}
@@ -8,7 +8,8 @@ use Rattle.server_core.specs.declared.refuse.Refuse.TheVariants.{Number, OutOfPl
 use Rattle.server_core.specs.declared.answer.Answer.{Answer}
 use Rattle.server_core.specs.declared.answer.Answer.TheVariants as answers
 use Rattle.sse_frames.specs.Sending.{pages}
-use Rattle.server_core.specs.State.{Room}
+use Rattle.server_tables.specs.Room as tables
+use Rattle.server_tables.specs.Room.{Room, no_room, pieces}
 
 abbrev pub refuse_reply : Refuse → ReplyText
 refuse_reply (Number next) = replies.Number next
@@ -42,18 +43,17 @@ HasRange _ = Unit {0}
 
 -- the room that a frame needs
 abbrev pub room_of : FrameText → Room
-room_of Hello = record { entries = 0; bytes = 0 }
-room_of (SetupBegin q b big m a) = record { entries = 0; bytes = 0 }
-room_of (SetupDict q width entries) = record { entries = length entries; bytes = length entries * width }
-room_of (SetupArray q width blocks) = record { entries = 0; bytes = 0 }
-room_of (SetupEnd q) = record { entries = 0; bytes = 0 }
-room_of (AddFrame q entries numbers) = record { entries = 0; bytes = 0 }
-room_of (DeleteFrame q numbers) = record { entries = 0; bytes = 0 }
-room_of (SearchFrame token) = record { entries = 0; bytes = 0 }
+room_of Hello = no_room
+room_of (SetupBegin q b big m a) = no_room
+room_of (SetupDict q width entries) = record no_room { entries = pieces (length entries) width }
+room_of (SetupArray q width blocks) = record no_room { blocks = pieces (length blocks) width }
+room_of (SetupEnd q) = no_room
+room_of (AddFrame q entries numbers) = record no_room { additions = pieces (length entries) 8 }
+room_of (DeleteFrame q numbers) = record no_room { revoked = pieces (length numbers) 16 }
+room_of (SearchFrame token) = no_room
 
-pub record HasRoom (room : Room) (frame : FrameText) : Type 0 where
-  pub entries : (room_of frame).entries ≤ room.entries
-  pub bytes : (room_of frame).bytes ≤ room.bytes
+abbrev pub HasRoom : Room → FrameText → Type 0
+HasRoom room frame = tables.HasRoom room (room_of frame)
 
 -- the frames for which a server takes memory: neither Hello nor those that begin and end a setup
 abbrev pub TakesMemory : FrameText → Type 0

@@ -1,20 +1,23 @@
 //! The server's step: takes one frame, changes the tables, answers. It holds labels, encrypted cells and revocation
 //! numbers, never a word or the master key, and stands on no crate that knows them: `sse_frames` has the frames,
-//! `search_token` what a token opens, `two_level` how a list is laid out. `Server::handle` is `step` of specs/Step.antt,
-//! or answers `NoMemory` and changes nothing. Reading frames out of bytes is for `sse_frames`, carrying them for
-//! `sse_link`; nothing here is kept on a disk.
+//! `server_tables` what is kept, over any representation of it, `search_token` what a token opens, `two_level` how a
+//! list is laid out. `Server::handle` is `step` of specs/Step.antt, or answers `NoMemory` and changes nothing. Reading
+//! frames out of bytes is for `sse_frames`, carrying them for `sse_link`; nothing here is kept on a disk.
 
 #![tactic(auto)]
 
+mod adding;
 mod answer;
-mod cell;
+mod blocks;
 mod entries;
+mod filling;
+mod numbers;
 mod refuse;
+mod revoking;
 mod search;
 mod search_fault;
 mod server;
 mod stage;
-mod tables;
 
 pub use answer::Answer;
 pub use refuse::Refuse;

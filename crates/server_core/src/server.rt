@@ -1,68 +1,65 @@
-ghost use Rattle.std.specs.Prelude.{◌≡◌, ◌≢◌, ℕ, List, ◌∷◌, true, ◌↔◌, [], All, Some, false, ◌==◌, ◌&&◌, nat_le, ◌+◌, ◌*◌, ◌/◌, ◌-◌, ◌<◌, ◌≤◌, length, IsSome, IfSome, IsErrAnd, IsOkUnless, OnOk, OnErr, Err, None};
+ghost use Rattle.std.specs.Prelude.{◌≡◌, ◌≢◌, ℕ, List, ◌∷◌, true, ◌↔◌, [], All, Some, false, ◌==◌, ◌&&◌, nat_le, ◌+◌, ◌*◌, ◌/◌, ◌-◌, ◌^◌, ◌<◌, ◌≤◌, length, IsSome, IfSome, IsErrAnd, IsOkUnless, OnOk, OnErr, Err, None};
 ghost use Rattle.std.specs.FinMap as map;
 ghost use Rattle.std.specs.Option.{option_map};
 ghost use Rattle.sse_frames.specs.Frames.{InGrammar, SearchFrame, update_number};
-ghost use Rattle.sse_frames.specs.Seen.{seen, entries_in};
+ghost use Rattle.sse_frames.specs.Seen.{seen, entries_in, items_in};
 ghost use Rattle.keyed_fn.specs.KeyedFn.{keyed_fn};
+ghost use Rattle.server_tables.specs.Contents.{no_contents};
 ghost use Rattle.server_core.specs.Search.{found};
 ghost use Rattle.server_core.specs.State.{at_first, is_ready};
-ghost use Rattle.server_core.specs.Refusal.{in_place, clash, refusal};
+ghost use Rattle.server_core.specs.Refusal.{is_nil, in_place, clash, clash_at, refusal};
 ghost use Rattle.server_core.specs.Step.{taken, answers, step};
 ghost use Rattle.server_core.specs.Views.{refuse_reply, answer_replies, HasRange, HasRoom, TakesMemory};
 
-use crate::entries::entry_count;
-use crate::search::open_list;
-use crate::tables::Dictionary;
+use crate::adding::{add_all, first_added};
+use crate::entries::{entry_count, item_count};
+use crate::filling::{first_known, push_blocks, put_all};
+use crate::revoking::{first_missing, first_revoked, restore_all, revoke_all};
+use crate::search::find;
 use crate::{Answer, Refuse, SearchFault, Stage};
 use keyed_fn::Keyed;
 use search_token::Token;
+use server_tables::Tables;
 use sse_frames::Frame;
-use std::alloc::{AllocError, Global};
+use std::alloc::AllocError;
 use std::marker::Model;
 
 /// A server: its stage, the number that it expects next, and its tables.
 ///
-/// A contract sees its state, and beside it its room: for how much more of the tables there is memory.
+/// A contract sees its state, and beside it the room of its tables. What a cell looks like is known here, and not to
+/// the tables.
 #[derive(Drop)]
-pub struct Server {
+pub struct Server<T: Tables> {
     stage: Stage,
     next: u32,
     words: u32,
     blocks: u32,
     b: u16,
     big: u16,
-    dictionary: Dictionary,
+    tables: T,
 }
 
-impl Model for Server {
-    ghost use Rattle.std.specs.Prelude.{[]};
-    ghost use Rattle.std.specs.FinMap as map;
-    ghost use Rattle.std.specs.FinSet as set;
-    ghost use Rattle.server_core.specs.State.{ServerView, view_code};
+impl<T: Tables> Model for Server<T> {
+    ghost use Rattle.server_core.specs.State.{ServerView, view_code, holding};
 
     ghost Value = { ServerView };
 
     ghost coded = { view_code };
 
+    ghost use Rattle.server_core.specs.Holds.{IsHeld};
+
     ghost view = { λ s. record {
-      state = record {
-        stage = s.stage;
-        next = s.next;
-        words = s.words;
-        blocks = s.blocks;
-        shape = record { b = s.b; big = s.big };
-        dictionary = s.dictionary.cells;
-        array = [];
-        additions = map.empty;
-        revoked = set.empty;
-      };
-      room = record { entries = s.dictionary.free; bytes = s.dictionary.free_bytes };
+      state = holding s.stage s.next s.words s.blocks (record { b = s.b; big = s.big }) (T.contents s.tables);
+      room = T.room s.tables;
     } };
+
+    ghost invariant = { λ s. IsHeld (T.contents s.tables) };
 }
 
-impl Server {
-    /// A server that has taken nothing. Takes no memory.
-    pub fn new(alloc: Global) -> Server
+impl<T: Tables> Server<T> {
+    /// A server that has taken nothing, with these tables of nothing. Takes no memory.
+    pub fn new(tables: T) -> Server<T>
+        requires { T.contents tables ≡ no_contents }
         ensures { result.state ≡ at_first }
     {
         Server {
@@ -72,7 +69,7 @@ impl Server {
             blocks: 0,
             b: 0,
             big: 0,
-            dictionary: Dictionary::new(alloc),
+            tables,
         }
     }
 
@@ -119,19 +116,35 @@ impl Server {
                 self.blocks = a;
                 self.b = b;
                 self.big = big;
-                self.dictionary.clear();
+                self.tables.clear();
                 self.next += 1;
             }
             Frame::SetupDict { width, entries, .. } => {
-                self.dictionary.put_all(entries, usize::from(width));
+                put_all(&mut self.tables, entries, usize::from(width));
                 self.next += 1;
             }
             Frame::SetupEnd { .. } => {
                 self.stage = Stage::Ready;
                 self.next += 1;
             }
-            // None of these is in place, or an update frame.
-            Frame::SetupArray { .. } | Frame::Add { .. } | Frame::Delete { .. } => {}
+            Frame::SetupArray { width, blocks, .. } => {
+                push_blocks(&mut self.tables, blocks, usize::from(width));
+                self.next += 1;
+            }
+            Frame::Add {
+                entries,
+                numbers,
+                ..
+            } => {
+                add_all(&mut self.tables, entries);
+                restore_all(&mut self.tables, numbers);
+                self.next += 1;
+            }
+            Frame::Delete { numbers, .. } => {
+                revoke_all(&mut self.tables, numbers);
+                self.next += 1;
+            }
+            // Neither is an update frame.
             Frame::Hello | Frame::Search { .. } => {}
         }
     }
@@ -157,9 +170,12 @@ impl Server {
         if !self.stage.is_ready() {
             return Err(SearchFault::OutOfPlace);
         }
-        match self.dictionary.cell(&token.list_label(keyed)) {
-            None => Ok(()),
-            Some(cell) => open_list(keyed, token, cell, out),
+        match find(&self.tables, keyed, token, out) {
+            Ok(()) => Ok(()),
+            Err(fault) => {
+                out.clear();
+                Err(fault)
+            }
         }
     }
 
@@ -246,6 +262,7 @@ impl Server {
 
     // Whether the frame is one for this stage.
     fn is_in_place(&self, frame: &Frame<'_>) -> bool
+        requires { InGrammar (seen frame.now) }
         ensures { result ≡ in_place self.now.state (seen frame.now) }
     {
         match *frame {
@@ -254,28 +271,50 @@ impl Server {
             Frame::SetupDict { width, entries, .. } => self.stage.is_filling()
                 && self.has_place(width, entries),
             Frame::SetupEnd { .. } => self.stage.is_filling() && self.is_whole(),
-            Frame::SetupArray { .. } | Frame::Add { .. } | Frame::Delete { .. } => false,
+            Frame::SetupArray { width, blocks, .. } => self.stage.is_filling()
+                && self.has_place_behind(width, blocks),
+            Frame::Add { .. } | Frame::Delete { .. } => self.stage.is_ready(),
             Frame::Search { .. } => self.stage.is_ready(),
         }
     }
 
     // Whether the entries are cells of this setup, and no more than it still lacks.
     fn has_place(&self, width: u16, entries: &[u8]) -> bool
-        ensures { result ≡ ((width == 1 + 8 * self.now.state.shape.b) && nat_le (map.len self.now.state.dictionary + length (entries_in width entries.now)) self.now.state.words) }
+        ensures { result ≡ ((width == 1 + 8 * self.now.state.shape.b) && is_nil self.now.state.array && nat_le (map.len self.now.state.dictionary + length (entries_in width entries.now)) self.now.state.words) }
     {
         let words = self.words as usize;
-        let held = self.dictionary.len();
-        if usize::from(width) != 1 + 8 * usize::from(self.b) || held > words {
+        let held = self.tables.entry_len();
+        if usize::from(width) != 1 + 8 * usize::from(self.b)
+            || self.tables.block_len() != 0
+            || held > words
+        {
             return false;
         }
         entry_count(entries, width) <= words - held
     }
 
+    // Whether the blocks are blocks of this setup, which has all its entries, and no more than it still lacks.
+    fn has_place_behind(&self, width: u16, blocks: &[u8]) -> bool
+        requires { 0 < width }
+        ensures { result ≡ ((width == 8 * self.now.state.shape.big) && (map.len self.now.state.dictionary == self.now.state.words) && nat_le (length self.now.state.array + length (items_in width blocks.now)) self.now.state.blocks) }
+    {
+        let most = self.blocks as usize;
+        let held = self.tables.block_len();
+        if usize::from(width) != 8 * usize::from(self.big)
+            || self.tables.entry_len() != self.words as usize
+            || held > most
+        {
+            return false;
+        }
+        item_count(blocks, width) <= most - held
+    }
+
     // Whether the setup has all its entries and blocks.
     fn is_whole(&self) -> bool
-        ensures { result ≡ ((map.len self.now.state.dictionary == self.now.state.words) && (0 == self.now.state.blocks)) }
+        ensures { result ≡ ((map.len self.now.state.dictionary == self.now.state.words) && (length self.now.state.array == self.now.state.blocks)) }
     {
-        self.dictionary.len() == self.words as usize && self.blocks == 0
+        self.tables.entry_len() == self.words as usize
+            && self.tables.block_len() == self.blocks as usize
     }
 
     // The first collision of a frame that is in place with what the server holds.
@@ -285,26 +324,63 @@ impl Server {
         ensures cause { option_map refuse_reply result ≡ clash self.now.state (seen frame.now) }
         ensures no_memory { result ≢ Some Refuse.NoMemory }
     {
-        let Frame::SetupDict { width, entries, .. } = *frame else {
-            return None;
-        };
-        let place = self.dictionary.first_known(entries, usize::from(width))?;
-        Some(Refuse::Clash {
-            what: 1,
-            place: place as u32,
-        })
+        match *frame {
+            Frame::SetupDict { width, entries, .. } => clash_at(
+                1,
+                first_known(&self.tables, entries, usize::from(width)),
+            ),
+            Frame::Add {
+                entries,
+                numbers,
+                ..
+            } => {
+                let added = first_added(&self.tables, entries);
+                if added.is_some() {
+                    return clash_at(2, added);
+                }
+                clash_at(3, first_missing(&self.tables, numbers))
+            }
+            Frame::Delete { numbers, .. } => clash_at(3, first_revoked(&self.tables, numbers)),
+            _ => None,
+        }
     }
 
     // Takes the memory that `apply` needs for a frame.
     fn make_room(&mut self, frame: &Frame<'_>) -> Result<(), AllocError>
+        requires { InGrammar (seen frame.now) }
         ensures kept { self.new.state ≡ self.old.state }
         ensures room { OnOk result (HasRoom self.new.room (seen frame.now)) }
         ensures err { OnErr result (TakesMemory (seen frame.now)) }
     {
-        if let Frame::SetupDict { width, entries, .. } = *frame {
-            let count = entry_count(entries, width);
-            self.dictionary.reserve(count, count * usize::from(width))?;
+        match *frame {
+            Frame::SetupDict { width, entries, .. } => {
+                let count = entry_count(entries, width);
+                self.tables.reserve(count, usize::from(width), 0, 0, 0, 0)
+            }
+            Frame::SetupArray { width, blocks, .. } => {
+                let count = item_count(blocks, width);
+                self.tables.reserve(0, 0, count, usize::from(width), 0, 0)
+            }
+            Frame::Add { entries, .. } => {
+                let count = entry_count(entries, 8);
+                self.tables.reserve(0, 0, 0, 0, count, 0)
+            }
+            Frame::Delete { numbers, .. } => {
+                let count = item_count(numbers, 16);
+                self.tables.reserve(0, 0, 0, 0, 0, count)
+            }
+            _ => Ok(()),
         }
-        Ok(())
     }
+}
+
+// The collision at this place of a frame's list, where there is one: of labels of lists (1), of labels of additions (2),
+// or of revocation numbers (3).
+fn clash_at(what: u8, place: Option<usize>) -> Option<Refuse>
+    requires { IfSome place (λ at. at < 2 ^ 32) }
+    ensures cause { option_map refuse_reply result ≡ clash_at what place }
+    ensures no_memory { result ≢ Some Refuse.NoMemory }
+{
+    let place = place? as u32;
+    Some(Refuse::Clash { what, place })
 }

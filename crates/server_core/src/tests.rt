@@ -1,9 +1,12 @@
 use super::*;
 use keyed_fn::Toy;
+use server_tables::SortedTables;
 use sse_frames::read_frame;
+use std::alloc::Global;
+use std::process::Abort;
 
 // The frames of a setup of the document `1 a` with cells of one identifier and blocks of one, under the key of
-// 32 zero bytes and the toy keyed function, and of a search for `a`: computed by hand.
+// 32 zero bytes and the toy keyed function, and of a search for `a`: computed by an independent model.
 
 const HELLO: &[u8] = b"\x00\x00\x00\x01\x01";
 
@@ -18,80 +21,110 @@ const END: &[u8] = b"\x00\x00\x00\x05\x05\x00\x00\x00\x02";
 const SEARCH: &[u8] =
     b"\x00\x00\x00\xa1\x08\xc3\xc4\xc5\xc6\xc7\xc8\xc9\xca\xcb\xcc\xcd\xce\xcf\xd0\xd1\xd2\xd3\xd4\xd5\xd6\xd7\xd8\xd9\xda\xdb\xdc\xdd\xde\xdf\xe0\xe1\xe2\xc4\xc5\xc6\xc7\xc8\xc9\xca\xcb\xcc\xcd\xce\xcf\xd0\xd1\xd2\xd3\xd4\xd5\xd6\xd7\xd8\xd9\xda\xdb\xdc\xdd\xde\xdf\xe0\xe1\xe2\xe3\xc5\xc6\xc7\xc8\xc9\xca\xcb\xcc\xcd\xce\xcf\xd0\xd1\xd2\xd3\xd4\xd5\xd6\xd7\xd8\xd9\xda\xdb\xdc\xdd\xde\xdf\xe0\xe1\xe2\xe3\xe4\xc6\xc7\xc8\xc9\xca\xcb\xcc\xcd\xce\xcf\xd0\xd1\xd2\xd3\xd4\xd5\xd6\xd7\xd8\xd9\xda\xdb\xdc\xdd\xde\xdf\xe0\xe1\xe2\xe3\xe4\xe5\xc7\xc8\xc9\xca\xcb\xcc\xcd\xce\xcf\xd0\xd1\xd2\xd3\xd4\xd5\xd6\xd7\xd8\xd9\xda\xdb\xdc\xdd\xde\xdf\xe0\xe1\xe2\xe3\xe4\xe5\xe6";
 
-// The same entry with its cell's kind byte changed to 3, which is no kind.
-const BAD_DICT: &[u8] =
-    b"\x00\x00\x00\x22\x03\x00\x00\x00\x01\x00\x09\x00\x01\xc3\xc5\xc7\xc9\xcb\xcd\xcf\xd1\xd3\xd5\xd7\xd9\xdb\xdd\xdf\xe1\xc7\xc5\xc6\xc7\xc8\xc9\xca\xcb\xcd";
-
-// A block, an addition and a deletion.
-const ARRAY: &[u8] =
-    b"\x00\x00\x00\x11\x04\x00\x00\x00\x01\x00\x08\x00\x01\xc5\xc6\xc7\xc8\xc9\xca\xcb\xcd";
-
+// Document 5 of `a` is added, deleted, and added again with `c` too.
 const ADD: &[u8] =
     b"\x00\x00\x00\x21\x06\x00\x00\x00\x03\x00\x01\x00\x00\xc5\xc7\xc9\xcb\xcd\xcf\xd1\xd3\xd5\xd7\xd9\xdb\xdd\xdf\xe1\xe3\xc6\xc7\xc8\xc9\xca\xcb\xcc\xc8";
 
 const DELETE: &[u8] =
     b"\x00\x00\x00\x17\x07\x00\x00\x00\x04\x00\x01\xef\xf1\xf3\xf5\xf7\xf9\xfb\xfd\xff\x01\x03\x05\x07\x09\x0b\x0d";
 
+const ADD_AGAIN: &[u8] =
+    b"\x00\x00\x00\x31\x06\x00\x00\x00\x05\x00\x01\x00\x01\xc9\xcb\xcd\xcf\xd1\xd3\xd5\xd7\xd9\xdb\xdd\xdf\xe1\xe3\xe5\xe7\xca\xcb\xcc\xcd\xce\xcf\xd0\xd4\xef\xf1\xf3\xf5\xf7\xf9\xfb\xfd\xff\x01\x03\x05\x07\x09\x0b\x0d";
+
+// The first addition and the deletion again, under the next numbers.
+const ADD_TAKEN: &[u8] =
+    b"\x00\x00\x00\x21\x06\x00\x00\x00\x06\x00\x01\x00\x00\xc5\xc7\xc9\xcb\xcd\xcf\xd1\xd3\xd5\xd7\xd9\xdb\xdd\xdf\xe1\xe3\xc6\xc7\xc8\xc9\xca\xcb\xcc\xc8";
+
+const DELETE_ONCE: &[u8] =
+    b"\x00\x00\x00\x17\x07\x00\x00\x00\x06\x00\x01\xef\xf1\xf3\xf5\xf7\xf9\xfb\xfd\xff\x01\x03\x05\x07\x09\x0b\x0d";
+
+const DELETE_TAKEN: &[u8] =
+    b"\x00\x00\x00\x17\x07\x00\x00\x00\x07\x00\x01\xef\xf1\xf3\xf5\xf7\xf9\xfb\xfd\xff\x01\x03\x05\x07\x09\x0b\x0d";
+
 // What a new server answers to frames in a row.
-const SETUP: [(&[u8], Answer); 10] = [
+const WHOLE: [(&[u8], Answer); 16] = [
     (SEARCH, Answer::OutOfPlace),
     (HELLO, Answer::Next(0)),
     (BEGIN, Answer::Took(0)),
-    (ARRAY, Answer::OutOfPlace),
+    (ARRAY_EARLY, Answer::OutOfPlace),
     (DICT, Answer::Took(1)),
     (END, Answer::Took(2)),
     (BEGIN, Answer::Number(3)),
-    (ADD, Answer::OutOfPlace),
     (DELETE, Answer::Number(3)),
+    (ADD, Answer::Took(3)),
+    (ADD, Answer::Number(4)),
+    (DELETE, Answer::Took(4)),
+    (ADD_AGAIN, Answer::Took(5)),
+    (ADD_TAKEN, Answer::Clash { what: 2, place: 0 }),
+    (DELETE_ONCE, Answer::Took(6)),
+    (DELETE_TAKEN, Answer::Clash { what: 3, place: 0 }),
     (SEARCH, Answer::Found),
 ];
 
-const BAD_CELL: [(&[u8], Answer); 4] = [
-    (BEGIN, Answer::Took(0)),
-    (BAD_DICT, Answer::Took(1)),
-    (END, Answer::Took(2)),
-    (SEARCH, Answer::BadList),
+// A setup with one block, and the block: it points to itself once it is decrypted as the list's first block.
+const BEGIN_BLOCK: &[u8] =
+    b"\x00\x00\x00\x11\x02\x00\x00\x00\x00\x00\x01\x00\x01\x00\x00\x00\x01\x00\x00\x00\x01";
+
+const ARRAY_EARLY: &[u8] =
+    b"\x00\x00\x00\x11\x04\x00\x00\x00\x01\x00\x08\x00\x01\xc5\xc6\xc7\xc8\xc9\xca\xcb\xcd";
+
+const ARRAY: &[u8] =
+    b"\x00\x00\x00\x11\x04\x00\x00\x00\x02\x00\x08\x00\x01\xc5\xc6\xc7\xc8\xc9\xca\xcb\xcd";
+
+const END_BLOCK: &[u8] = b"\x00\x00\x00\x05\x05\x00\x00\x00\x03";
+
+// Cells of an unknown kind, of pointers without blocks, of no identifiers, and of a pointer to a block of pointers.
+const UNKNOWN: &[u8] =
+    b"\x00\x00\x00\x22\x03\x00\x00\x00\x01\x00\x09\x00\x01\xc3\xc5\xc7\xc9\xcb\xcd\xcf\xd1\xd3\xd5\xd7\xd9\xdb\xdd\xdf\xe1\xc7\xc5\xc6\xc7\xc8\xc9\xca\xcb\xcd";
+
+const NO_BLOCK: &[u8] =
+    b"\x00\x00\x00\x22\x03\x00\x00\x00\x01\x00\x09\x00\x01\xc3\xc5\xc7\xc9\xcb\xcd\xcf\xd1\xd3\xd5\xd7\xd9\xdb\xdd\xdf\xe1\xc5\xc5\xc6\xc7\xc8\xc9\xca\xcb\xcd";
+
+const NOTHING: &[u8] =
+    b"\x00\x00\x00\x22\x03\x00\x00\x00\x01\x00\x09\x00\x01\xc3\xc5\xc7\xc9\xcb\xcd\xcf\xd1\xd3\xd5\xd7\xd9\xdb\xdd\xdf\xe1\xc4\xc5\xc6\xc7\xc8\xc9\xca\xcb\xcc";
+
+const TO_ITSELF: &[u8] =
+    b"\x00\x00\x00\x22\x03\x00\x00\x00\x01\x00\x09\x00\x01\xc3\xc5\xc7\xc9\xcb\xcd\xcf\xd1\xd3\xd5\xd7\xd9\xdb\xdd\xdf\xe1\xc6\xc5\xc6\xc7\xc8\xc9\xca\xcb\xcd";
+
+fn setup(dict: &'static [u8], answer: Answer) -> [(&'static [u8], Answer); 4] {
+    [
+        (BEGIN, Answer::Took(0)),
+        (dict, Answer::Took(1)),
+        (END, Answer::Took(2)),
+        (SEARCH, answer),
+    ]
+}
+
+const SELF: [(&[u8], Answer); 5] = [
+    (BEGIN_BLOCK, Answer::Took(0)),
+    (TO_ITSELF, Answer::Took(1)),
+    (ARRAY, Answer::Took(2)),
+    (END_BLOCK, Answer::Took(3)),
+    (SEARCH, Answer::Found),
 ];
 
-#[test]
-fn answers_a_setup_and_a_search(rt: HostRuntime) {
-    let mut server = Server::new(rt.alloc());
-    let mut found = Vec::new(rt.alloc());
-    for (bytes, want) in SETUP {
+// Whether a new server gives these answers to frames in a row, and has found these at the end.
+fn answers(rt: &impl Abort, alloc: Global, frames: &[(&[u8], Answer)], wanted: &[u64]) {
+    let mut server = Server::new(SortedTables::new(alloc));
+    let mut found = Vec::new(alloc);
+    for (bytes, answer) in frames {
         let Ok(Some((frame, _))) = read_frame(bytes) else {
             panic!(rt; "no frame")
         };
-        assert_eq!(rt; server.handle(&Toy, &frame, &mut found), want);
+        assert_eq!(rt; server.handle(&Toy, &frame, &mut found), *answer);
     }
-    assert_eq!(rt; server.next(), 3);
-    assert_eq!(rt; found.as_slice(), [1].as_slice());
+    assert_eq!(rt; found.as_slice(), wanted);
 }
 
 #[test]
-fn answers_a_search_of_a_bad_cell(rt: HostRuntime) {
-    let mut server = Server::new(rt.alloc());
-    let mut found = Vec::new(rt.alloc());
-    for (bytes, want) in BAD_CELL {
-        let Ok(Some((frame, _))) = read_frame(bytes) else {
-            panic!(rt; "no frame")
-        };
-        assert_eq!(rt; server.handle(&Toy, &frame, &mut found), want);
-    }
-    assert_eq!(rt; found.is_empty(), true);
+fn a_whole_connection_is_answered(rt: HostRuntime) {
+    answers(&rt, rt.alloc(), &WHOLE, &[1]);
 }
 
 #[test]
-fn keeps_labels_in_any_order(rt: HostRuntime) -> Result<(), std::test::Fail> {
-    let mut dictionary = tables::Dictionary::new(rt.alloc());
-    for label in [[3u8; 16], [1; 16], [2; 16]] {
-        dictionary.reserve(1, 9)?;
-        if dictionary.cell(&label).is_none() {
-            dictionary.put(&label, &[label[0]; 9]);
-        }
-    }
-    for n in [1u8, 2, 3] {
-        assert_eq!(rt; dictionary.cell(&[n; 16]), Some([n; 9].as_slice()));
-    }
-    assert_eq!(rt; dictionary.cell(&[4; 16]), None);
-    Ok(())
+fn cells_that_nobody_made_are_answered(rt: HostRuntime) {
+    answers(&rt, rt.alloc(), &setup(UNKNOWN, Answer::BadList), &[]);
+    answers(&rt, rt.alloc(), &setup(NO_BLOCK, Answer::BadList), &[]);
+    answers(&rt, rt.alloc(), &setup(NOTHING, Answer::Found), &[]);
+    answers(&rt, rt.alloc(), &SELF, &[0x0301_0f01_0301_0700]);
 }

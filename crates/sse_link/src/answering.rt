@@ -14,6 +14,7 @@ use crate::due::due_of;
 use crate::whole::whole_frame;
 use keyed_fn::Keyed;
 use server_core::Server;
+use server_tables::Tables;
 use sse_frames::Reply;
 
 /// What a server replies to bytes that came: where they are one whole frame, what it answers to that frame, by its
@@ -21,9 +22,9 @@ use sse_frames::Reply;
 /// for a length that is out of range or isn't that of the bytes, 2 for an unknown kind, 3 for another field.
 ///
 /// `found` has the identifiers that the replies to a search are made of.
-pub fn answer_bytes<K: Keyed>(
+pub fn answer_bytes<K: Keyed, T: Tables>(
     keyed: &K,
-    server: &mut Server,
+    server: &mut Server<T>,
     bytes: &[u8],
     found: &mut Vec<u64>,
 ) -> Due

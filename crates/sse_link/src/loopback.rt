@@ -14,6 +14,7 @@ use crate::counts::one_more;
 use crate::{Fail, Link, LinkFault, Passed, SteadyLoopback};
 use keyed_fn::Keyed;
 use server_core::Server;
+use server_tables::Tables;
 use std::alloc::Global;
 use std::marker::Model;
 
@@ -24,15 +25,15 @@ use std::marker::Model;
 /// hasn't. A receive that fails loses the reply. The count of faults rises with each call that fails, and with no
 /// other. A call without memory isn't counted.
 #[derive(Drop)]
-pub struct Loopback<K: Keyed> {
-    steady: SteadyLoopback<K>,
+pub struct Loopback<K: Keyed, T: Tables> {
+    steady: SteadyLoopback<K, T>,
     fails: Vec<Fail>,
     calls: u64,
     cut: bool,
     faults: u64,
 }
 
-impl<K: Keyed> Model for Loopback<K> {
+impl<K: Keyed, T: Tables> Model for Loopback<K, T> {
     ghost use Rattle.std.specs.Prelude.{[], if◌then◌else◌};
     ghost use Rattle.sse_link.specs.Failing.{FailingTold, failing_code};
 
@@ -48,9 +49,9 @@ impl<K: Keyed> Model for Loopback<K> {
     } };
 }
 
-impl<K: Keyed> Loopback<K> {
+impl<K: Keyed, T: Tables> Loopback<K, T> {
     /// A link to this server, over which nothing has passed, with the calls that fail. Takes no memory.
-    pub fn new(alloc: Global, keyed: K, server: Server, fails: Vec<Fail>) -> Loopback<K>
+    pub fn new(alloc: Global, keyed: K, server: Server<T>, fails: Vec<Fail>) -> Loopback<K, T>
         ensures { result ≡ record { told = told_first server.state; fails = fails.items; calls = 0; faults = 0 } }
     {
         Loopback {
@@ -85,7 +86,7 @@ impl<K: Keyed> Loopback<K> {
     }
 }
 
-impl<K: Keyed> Link for Loopback<K> {
+impl<K: Keyed, T: Tables> Link for Loopback<K, T> {
     ghost reply_due = { λ l. not (is_nil l.told.due) };
 
     ghost faults = { λ l. l.faults };

@@ -14,6 +14,7 @@ use crate::transcript::Transcript;
 use crate::{Due, Link, LinkFault, Passed};
 use keyed_fn::Keyed;
 use server_core::Server;
+use server_tables::Tables;
 use std::alloc::Global;
 use std::marker::Model;
 use std::snapshot::Snapshot;
@@ -23,17 +24,17 @@ use std::snapshot::Snapshot;
 /// It has the server answer each frame, by its step or out of memory, and tells which of the two it was. It keeps all
 /// that passed; a call takes memory for that before it changes anything, and answers `NoMemory` where there is none.
 #[derive(Drop)]
-pub struct SteadyLoopback<K: Keyed> {
+pub struct SteadyLoopback<K: Keyed, T: Tables> {
     keyed: K,
-    server: Server,
+    server: Server<T>,
     found: Vec<u64>,
     due: Due,
     passed: Transcript,
     /// The server as it was handed in, which only contracts see.
-    began: Snapshot<Server>,
+    began: Snapshot<Server<T>>,
 }
 
-impl<K: Keyed> Model for SteadyLoopback<K> {
+impl<K: Keyed, T: Tables> Model for SteadyLoopback<K, T> {
     ghost use Rattle.std.specs.Prelude.{map};
     ghost use Rattle.sse_frames.specs.Replies.{reply_bytes};
     ghost use Rattle.sse_link.specs.Told.{Told, told_code};
@@ -57,9 +58,9 @@ impl<K: Keyed> Model for SteadyLoopback<K> {
     ghost invariant = { λ l. IsSteady (keyed_fn K.prf K.pad) (recorded l.passed) l.began.value.state l.server.state l.due l.found.items };
 }
 
-impl<K: Keyed> SteadyLoopback<K> {
+impl<K: Keyed, T: Tables> SteadyLoopback<K, T> {
     /// A link to this server, over which nothing has passed. Takes no memory.
-    pub fn new(alloc: Global, keyed: K, server: Server) -> SteadyLoopback<K>
+    pub fn new(alloc: Global, keyed: K, server: Server<T>) -> SteadyLoopback<K, T>
         ensures { result ≡ told_first server.state }
     {
         let began = Snapshot::of(&server);
@@ -84,7 +85,7 @@ impl<K: Keyed> SteadyLoopback<K> {
     }
 }
 
-impl<K: Keyed> Link for SteadyLoopback<K> {
+impl<K: Keyed, T: Tables> Link for SteadyLoopback<K, T> {
     ghost use Rattle.std.specs.Prelude.{Some};
 
     ghost reply_due = { λ l. not (is_nil l.due) };

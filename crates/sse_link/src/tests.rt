@@ -4,6 +4,7 @@ use super::*;
 use crate::whole::whole_frame;
 use keyed_fn::Toy;
 use server_core::Server;
+use server_tables::BucketTables;
 use sse_frames::REPLY_ROOM;
 use std::alloc::Global;
 use std::test::Fail as Failed;
@@ -72,7 +73,7 @@ fn send<L: Link>(link: &mut L, bytes: &[u8]) -> Result<(), LinkFault>
 
 #[test]
 fn a_steady_loopback_answers(rt: HostRuntime) -> Result<(), Failed> {
-    let mut link = SteadyLoopback::new(rt.alloc(), Toy, Server::new(rt.alloc()));
+    let mut link = SteadyLoopback::new(rt.alloc(), Toy, Server::new(BucketTables::new(rt.alloc())));
     let mut out = zeros(rt.alloc(), REPLY_ROOM)?;
     for (frame, reply) in REPLIES {
         send(&mut link, frame)?;
@@ -91,7 +92,11 @@ fn a_steady_loopback_answers(rt: HostRuntime) -> Result<(), Failed> {
 }
 
 // The first reply of a server to bytes.
-fn reply_to(alloc: Global, server: &mut Server, bytes: &[u8]) -> Result<Vec<u8>, NoMemory> {
+fn reply_to(
+    alloc: Global,
+    server: &mut Server<BucketTables>,
+    bytes: &[u8],
+) -> Result<Vec<u8>, NoMemory> {
     let mut found = Vec::new(alloc);
     let due = answer_bytes(&Toy, server, bytes, &mut found);
     let mut out = zeros(alloc, REPLY_ROOM)?;
@@ -102,7 +107,7 @@ fn reply_to(alloc: Global, server: &mut Server, bytes: &[u8]) -> Result<Vec<u8>,
 
 #[test]
 fn bytes_that_are_no_frame_are_answered(rt: HostRuntime) -> Result<(), Failed> {
-    let mut server = Server::new(rt.alloc());
+    let mut server = Server::new(BucketTables::new(rt.alloc()));
     for (bytes, reply) in BAD_BYTES {
         let answer = reply_to(rt.alloc(), &mut server, bytes)?;
         assert_eq!(rt; answer.as_slice(), reply);
@@ -112,7 +117,7 @@ fn bytes_that_are_no_frame_are_answered(rt: HostRuntime) -> Result<(), Failed> {
 
 #[test]
 fn a_loopback_begins_where_its_server_stands(rt: HostRuntime) -> Result<(), Failed> {
-    let mut server = Server::new(rt.alloc());
+    let mut server = Server::new(BucketTables::new(rt.alloc()));
     reply_to(rt.alloc(), &mut server, BEGIN)?;
     let mut link = SteadyLoopback::new(rt.alloc(), Toy, server);
     assert_eq!(rt; link.transcript().len(), 0);
@@ -128,7 +133,12 @@ fn a_loopback_fails_where_it_is_told_to(rt: HostRuntime) -> Result<(), Failed> {
     // The send and the receive of the first frame work, the second send and the next receive fail.
     for (delivered, next) in [(false, NEXT_0), (true, NEXT_1)] {
         let fails = vec![in rt.alloc(); Fail { call: 2, delivered }, Fail { call: 4, delivered }]?;
-        let mut link = Loopback::new(rt.alloc(), Toy, Server::new(rt.alloc()), fails);
+        let mut link = Loopback::new(
+            rt.alloc(),
+            Toy,
+            Server::new(BucketTables::new(rt.alloc())),
+            fails,
+        );
         let mut out = zeros(rt.alloc(), REPLY_ROOM)?;
         send(&mut link, HELLO)?;
         link.recv(&mut out)?;

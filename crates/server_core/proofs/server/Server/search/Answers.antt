@@ -1,26 +1,10 @@
-use Rattle.std.proofs.Common.{Some, None, sym, ap, ◌∙◌}
+use Rattle.std.specs.FinMap as map
+use Rattle.std.specs.FinSet as set
 use Rattle.keyed_fn.specs.KeyedFn.{keyed_fn}
-use Rattle.server_core.specs.Search.{found}
-use Rattle.server_core.proofs.SearchLemmas.{searched_at}
+use Rattle.server_core.proofs.SearchLemmas.{All-searched}
 use Rattle.server_core.proofs.server.Server.search.Goals as goal
 
--- the label is missing, and the list empty
-pub returns-in-None-clause-list : goal.returns-in-None-clause-list
-returns-in-None-clause-list g c =
-    let f = keyed_fn g.K.Keyed.prf g.K.Keyed.pad in
-    let keys = c.args.token.now in
-    rw c.clear.ensures.items (ap (λ v. found f v.state keys) (sym c.self.view_is) ∙ searched_at f keys c.self.inside.dictionary.cells _ None c.list_label.ensures c.in-None.ensures.cell)
-
--- the list is what its cell holds
-pub returns-in-Some-clause-list : goal.returns-in-Some-clause-list
-returns-in-Some-clause-list g c =
-    let f = keyed_fn g.K.Keyed.prf g.K.Keyed.pad in
-    let keys = c.args.token.now in
-    let is = ap (λ v. found f v.state keys) (sym c.self.view_is) ∙ searched_at f keys c.self.inside.dictionary.cells _ (Some c.in-Some.cell.now) c.list_label.ensures c.in-Some.ensures.cell in
-    rw is c.open_list.ensures.list
-
-pub returns-in-Some-clause-bad_list : goal.returns-in-Some-clause-bad_list
-returns-in-Some-clause-bad_list g c bad =
-    let f = keyed_fn g.K.Keyed.prf g.K.Keyed.pad in
-    let keys = c.args.token.now in
-    ap (λ v. found f v.state keys) (sym c.self.view_is) ∙ searched_at f keys c.self.inside.dictionary.cells _ (Some c.in-Some.cell.now) c.list_label.ensures c.in-Some.ensures.cell ∙ c.open_list.ensures.bad_list bad
+pub returns-in-Ok-clause-ids : goal.returns-in-Ok-clause-ids
+returns-in-Ok-clause-ids g c =
+    let contents = g.T.Tables.contents c.self.inside.tables in
+    All-searched (keyed_fn g.K.Keyed.prf g.K.Keyed.pad) c.args.token.now (map.get contents.dictionary) contents.array (map.get contents.additions) (map.len contents.additions) (set.contains contents.revoked) c.find.new.out.items c.in-Ok.ensures.list

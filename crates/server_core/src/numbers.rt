@@ -1,0 +1,32 @@
+ghost use Rattle.std.specs.Prelude.{◌≡◌, ◌+◌, ◌%◌, ◌<◌, [], ◌∷◌, ◌++◌, length, OnOk, OnErr, MatchOption, Err};
+ghost use Rattle.two_level.specs.Opened.{numbers_of};
+
+use crate::SearchFault;
+
+/// Adds joined numbers of 8 bytes each, most significant byte first, behind those of `out`.
+///
+/// Errors: `NoMemory`.
+pub fn push_numbers(bytes: &[u8], out: &mut Vec<u64>) -> Result<(), SearchFault>
+    requires { length bytes.now % 8 ≡ 0 }
+    ensures ok { OnOk result (out.new.items ≡ out.old.items ++ numbers_of bytes.now) }
+    ensures err { OnErr result (result ≡ Err SearchFault.NoMemory) }
+{
+    let mut rest = bytes;
+    while let Some((number, behind)) = next_number(rest) {
+        out.push(number)?;
+        rest = behind;
+    }
+    Ok(())
+}
+
+/// The first of the joined numbers of 8 bytes, and the bytes behind it.
+pub fn next_number(bytes: &[u8]) -> Option<(u64, &[u8])>
+    requires { length bytes.now % 8 ≡ 0 }
+    ensures numbers { MatchOption result (numbers_of bytes.now ≡ []) (λ n. numbers_of bytes.now ≡ n.0 ∷ numbers_of n.1.now) }
+    ensures fewer { MatchOption result (length bytes.now < 8) (λ n. length n.1.now + 8 ≡ length bytes.now) }
+{
+    let Some((number, behind)) = bytes.split_first_chunk::<8>() else {
+        return None;
+    };
+    Some((u64::from_be_bytes(*number), behind))
+}

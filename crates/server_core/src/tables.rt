@@ -1,4 +1,0 @@
-mod dictionary;
-mod slot;
-
-pub use dictionary::Dictionary;
