@@ -15,7 +15,7 @@ use Rattle.std.proofs.lemmas.Slice.Eq.{bytes_eq-Decides}
 use Rattle.sse_frames.proofs.Sorted.{AllDiffer, All-by_bytes, Rises-by_bytes, key_below}
 use Rattle.sse_frames.specs.Frames.{Entry, Rises, labels_of}
 use Rattle.sse_frames.specs.Order.{insert_by, by_bytes}
-use Rattle.server_core.specs.Dictionary.{CellMap}
+use Rattle.server_tables.specs.Contents.{CellMap}
 use Rattle.server_core.specs.Refusal.{first_known}
 use Rattle.server_core.specs.Step.{with_entries}
 use Rattle.sse_model.proofs.Members.{Contains-head, Contains-cons, Contains-nil, Contains-cases}

@@ -1,20 +1,17 @@
 -- What a server that is sent a history's frames replies, and what the history's searches show.
-use Rattle.std.proofs.Common.{◌≡◌, ℕ, ◌≤◌, ◌^◌, false, not, ◌||◌, List, [], ◌∷◌, ◌++◌, length, map, Some, None, refl, sym, ap, ◌∙◌, subst, arith, append_assoc}
+use Rattle.std.proofs.Common.{◌≡◌, ℕ, ◌<◌, ◌^◌, not, List, [], ◌∷◌, ◌++◌, length, map, Some, None, refl, sym, ap, ◌∙◌, subst, arith, append_assoc}
 use Rattle.std.specs.Prelude.{flat_map, filter}
-use Rattle.std.specs.List.{AllByRecursion, list_any}
-use Rattle.std.proofs.lemmas.Bool.{or_parts}
-use Rattle.std.proofs.lemmas.List.{length-map, map-append}
+use Rattle.std.specs.List.{AllByRecursion}
+use Rattle.std.proofs.lemmas.List.{length-append, length-map, map-append}
 use Rattle.std.proofs.lemmas.List.Filters.{length-filter_both}
-use Rattle.std.proofs.lemmas.List.Elements.{recursion_from_All}
-use Rattle.std.proofs.lemmas.List.Folds.{list_any-append}
+use Rattle.std.proofs.lemmas.List.Elements.{recursion_from_All, All-filter, All-from_recursion, filter-append}
 use Rattle.keyed_fn.specs.KeyedFn.{KeyedFn, IsKeyedFn}
-use Rattle.client_registry.proofs.HistoryLaws.{whole_run}
 use Rattle.client_registry.proofs.SizedLaws.{IsHistory-front}
-use Rattle.client_registry.specs.Acceptance.{blocks_of, frames_needed}
+use Rattle.client_registry.specs.Acceptance.{frames_needed}
 use Rattle.client_registry.specs.Command.{Command, Add, Delete, Search, is_update}
 use Rattle.client_registry.specs.Documents.{has_word}
-use Rattle.client_registry.specs.Histories.{begun_by, longer, IsKept, IsFirstOf, shown_by, found_by, shown_in_turn, found_in_turn}
-use Rattle.client_registry.specs.Live.{shown, in_order}
+use Rattle.client_registry.specs.Histories.{IsKept, shown_by, found_by, shown_in_turn, found_in_turn}
+use Rattle.client_registry.specs.Live.{is_live_with, added_list, shown, in_order}
 use Rattle.client_registry.specs.Over.{over}
 use Rattle.client_registry.specs.Run.{Run, History, at_first}
 use Rattle.client_registry.specs.Setup.{Setup, setup_list}
@@ -31,29 +28,11 @@ use Rattle.server_core.specs.State as server
 use Rattle.server_core.specs.Step.{steps}
 use Rattle.sse_agreement.proofs.Agreement.{server_agrees}
 use Rattle.sse_agreement.proofs.Found.{shown_are_found}
-use Rattle.sse_agreement.proofs.SetupShown.{shown-searches, ids_with-above, ids_with-fit}
-use Rattle.sse_agreement.specs.Agreement.{replies_by_frame, IsSupported, Supports}
-
--- Which histories a server takes.
-
-pub Supports-begun : (s : Setup) → blocks_of s ≡ 0 → Supports (begun_by s)
-Supports-begun s none = record { blocks = none; searches = refl }
-
-pub Supports-search : (h : History) (word : List ℕ) → Supports h → Supports (longer (Search word ∷ []) h)
-Supports-search None word supported = tt
-Supports-search (Some run) word supported = record {
-  blocks = supported.blocks;
-  searches = list_any-append is_update run.later (Search word ∷ []) ∙ ap (λ b. b || false) supported.searches;
-}
-
-pub Supports-first : (part whole : History) → IsFirstOf part whole → Supports whole → Supports part
-Supports-first None whole p supported = tt
-Supports-first (Some run) None p supported = absurd p
-Supports-first (Some run) (Some whole) p supported =
-    let same : IsSupported (record { setup = run.setup; later = run.later ++ p.1.0 }) = subst IsSupported (whole_run run whole p) supported in record {
-      blocks = same.blocks;
-      searches = (or_parts (list_any is_update run.later) (list_any is_update p.1.0) (sym (list_any-append is_update run.later p.1.0) ∙ same.searches)).0;
-    }
+use Rattle.client_registry.proofs.LiveLaws.{counter-below}
+use Rattle.sse_model.proofs.Counts.{AllByRecursion-append}
+use Rattle.sse_agreement.proofs.Searching.{added_are_identifiers}
+use Rattle.sse_agreement.proofs.SetupShown.{ids_with-above, ids_with-fit}
+use Rattle.sse_agreement.specs.Agreement.{ShownAreFew, replies_by_frame}
 
 -- What it replies.
 
@@ -69,47 +48,61 @@ replied-run f keys run =
 
 -- a server that has taken nothing, and is sent the frames of a history without collisions, replies to them with what the
 -- history's searches show
-pub replies_agree : (f : KeyedFn) (keys : ℕ → List ℕ) (h : History) → IsKeyedFn f → IsKept h → Supports h → HasNoCollision f keys h
+pub replies_agree : (f : KeyedFn) (keys : ℕ → List ℕ) (h : History) → IsKeyedFn f → IsKept h → HasNoCollision f keys h
     → (steps f server.at_first (frames_sent f keys h)).1 ≡ replied (shown_in_turn h) (frames_sent f keys h)
-replies_agree f keys None laws kept supported free = refl
-replies_agree f keys (Some run) laws kept supported free =
+replies_agree f keys None laws kept free = refl
+replies_agree f keys (Some run) laws kept free =
     ap (λ frames. (steps f server.at_first frames).1) (frames_sent-run f keys run)
-    ∙ ap (λ replies. (Next 0 ∷ []) ∷ replies) (server_agrees f keys at_first run laws kept.0 supported free).replies
+    ∙ ap (λ replies. (Next 0 ∷ []) ∷ replies) (server_agrees f keys at_first run laws kept.0 free).replies
     ∙ sym (replied-run f keys run)
 
 -- What is shown.
 
--- an answer that a server can give: identifiers, of at most 2^18 documents
+-- an answer that a server can give: identifiers of documents, fewer than 2^33
 pub record IsAnswer (ids : List ℕ) : Type 0 where
   pub each : AllByRecursion IsIdentifier ids
-  pub few : length ids ≤ 2 ^ 18
+  pub few : length ids < 2 ^ 33
 
 module _ (s : Setup) where
   abbrev run_with : List Command → Run
   run_with later = record { setup = s; later = later }
 
-  IsAnswer-shown : (past : List Command) (word : List ℕ) → IsHistory (run_with past) → list_any is_update past ≡ false → IsAnswer (shown s past word)
-  IsAnswer-shown past word history searches = subst IsAnswer (sym (shown-searches s past word searches)) (record {
-    each = recursion_from_All IsIdentifier (setup_list s word)
-        (λ k d below. (ids_with-above s.documents word history.collected.are_documents k d below, ids_with-fit s.documents word history.collected.are_documents k d below));
-    few = omega (arith, length-map (filter (has_word word) s.documents) (λ d. d.id), length-filter_both (has_word word) (λ d. not (has_word word d)) (λ d. refl) s.documents, history.collected.documents);
-  })
+  IsAnswer-shown : (past : List Command) (word : List ℕ) → IsHistory (run_with past) → length (filter is_update past) < 2 ^ 32 → IsAnswer (shown s past word)
+  IsAnswer-shown past word history numbered =
+      let listed = setup_list s word ++ added_list s past word in
+      record {
+        each = recursion_from_All IsIdentifier (shown s past word)
+            (All-filter (is_live_with s past word) IsIdentifier listed
+            (All-from_recursion IsIdentifier listed
+            (AllByRecursion-append IsIdentifier (setup_list s word) (added_list s past word)
+            (recursion_from_All IsIdentifier (setup_list s word)
+            (λ k d below. (ids_with-above s.documents word history.collected.are_documents k d below, ids_with-fit s.documents word history.collected.are_documents k d below)))
+            (added_are_identifiers s word past history.each))));
+        few = omega (
+          arith,
+          length-filter_both (is_live_with s past word) (λ id. not (is_live_with s past word id)) (λ id. refl) listed,
+          length-append (setup_list s word) (added_list s past word),
+          length-map (filter (has_word word) s.documents) (λ d. d.id),
+          length-filter_both (has_word word) (λ d. not (has_word word d)) (λ d. refl) s.documents,
+          history.collected.documents,
+          counter-below s word past,
+          numbered,
+        );
+      }
 
-  answers_of : (past later : List Command) → IsHistory (run_with (past ++ later)) → list_any is_update (past ++ later) ≡ false
+  answers_of : (past later : List Command) → IsHistory (run_with (past ++ later)) → length (filter is_update (past ++ later)) < 2 ^ 32
       → AllByRecursion IsAnswer (flat_map (λ r. r) (over (shown_by s) past later))
-  answers_of past [] history searches = tt
-  answers_of past (c ∷ later) history searches =
-      let rest = answers_of (past ++ c ∷ []) later
-      (subst (λ all. IsHistory (run_with all)) (sym (append_assoc past (c ∷ []) later)) history)
-      (ap (list_any is_update) (append_assoc past (c ∷ []) later) ∙ searches) in
-      by c (IsHistory-front s past (c ∷ later) history)
-      ((or_parts (list_any is_update past) (list_any is_update (c ∷ later)) (sym (list_any-append is_update past (c ∷ later)) ∙ searches)).0) rest
+  answers_of past [] history numbered = tt
+  answers_of past (c ∷ later) history numbered =
+      let joined = append_assoc past (c ∷ []) later in
+      let rest = answers_of (past ++ c ∷ []) later (subst (λ all. IsHistory (run_with all)) (sym joined) history) (subst (λ all. length (filter is_update all) < 2 ^ 32) (sym joined) numbered) in
+      by c (IsHistory-front s past (c ∷ later) history) (omega (arith, numbered, ap length (filter-append is_update past (c ∷ later)), length-append (filter is_update past) (filter is_update (c ∷ later)))) rest
     where
-      by : (c : Command) → IsHistory (run_with past) → list_any is_update past ≡ false → AllByRecursion IsAnswer (flat_map (λ r. r) (over (shown_by s) (past ++ c ∷ []) later))
+      by : (c : Command) → IsHistory (run_with past) → length (filter is_update past) < 2 ^ 32 → AllByRecursion IsAnswer (flat_map (λ r. r) (over (shown_by s) (past ++ c ∷ []) later))
           → AllByRecursion IsAnswer (flat_map (λ r. r) (over (shown_by s) past (c ∷ later)))
-      by (Add d) history none rest = rest
-      by (Delete id) history none rest = rest
-      by (Search word) history none rest = (IsAnswer-shown past word history none, rest)
+      by (Add d) history few rest = rest
+      by (Delete id) history few rest = rest
+      by (Search word) history few rest = (IsAnswer-shown past word history few, rest)
 
   shown_found : (past : List Command) (c : Command) → IsHistory (run_with past) → map in_order (shown_by s past c) ≡ found_by s past c
   shown_found past (Add d) history = refl
@@ -124,10 +117,14 @@ module _ (s : Setup) where
       ∙ (λ i. shown_found past c (IsHistory-front s past (c ∷ later) history) i
       ++ all_found (past ++ c ∷ []) later (subst (λ all. IsHistory (run_with all)) (sym (append_assoc past (c ∷ []) later)) history) i)
 
+-- what a run shows is few
+pub shown_are_few : ShownAreFew
+shown_are_few run word history numbered = (IsAnswer-shown run.setup run.later word history (omega (arith, numbered))).few
+
 -- what the searches of a history show can be answered
-pub shown_are_answers : (h : History) → IsKept h → Supports h → AllByRecursion IsAnswer (shown_in_turn h)
-shown_are_answers None kept supported = tt
-shown_are_answers (Some run) kept supported = answers_of run.setup [] run.later kept.0 supported.searches
+pub shown_are_answers : (h : History) → IsKept h → AllByRecursion IsAnswer (shown_in_turn h)
+shown_are_answers None kept = tt
+shown_are_answers (Some run) kept = answers_of run.setup [] run.later kept.0 (omega (arith, kept.1))
 
 -- and is, each in order, what they find
 pub in_order-shown_in_turn : (h : History) → IsKept h → map in_order (shown_in_turn h) ≡ found_in_turn h

@@ -1,9 +1,21 @@
 pub mod Found
+pub mod Once
 pub mod Dictionary
+pub mod Numbers
+pub mod Ranks
+pub mod Counted
+pub mod Pairs
+pub mod Revoking
+pub mod Adding
+pub mod Taking
 pub mod SetupTaken
 pub mod SetupShown
 pub mod SearchAnswered
-pub mod SetupSearched
+pub mod Searching
+pub mod SetupHeld
+pub mod Tags
+pub mod Commands
+pub mod Taken
 pub mod Agreement
 mod Rows
 pub mod NoCollision

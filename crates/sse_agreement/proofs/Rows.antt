@@ -1,5 +1,5 @@
 -- Server and client agree on a short run under the toy function and the key of 32 zero bytes.
-use Rattle.std.proofs.Common.{◌≡◌, [], ◌∷◌, true, None, refl, arith}
+use Rattle.std.proofs.Common.{◌≡◌, ℕ, zero, suc, ◌+◌, ◌%◌, List, [], ◌∷◌, ◌++◌, true, None, Some, refl, ap, ◌∙◌, arith}
 use Rattle.std.specs.Prelude.{replicate}
 use Rattle.std.specs.List.{IsDistinct}
 use Rattle.std.specs.Str.{is_utf8, chars}
@@ -12,16 +12,26 @@ use Rattle.keyed_fn.specs.Toy.{toy_prf, toy_pad}
 use Rattle.keyed_fn.specs.ToyLaws.{length-toy_prf, All-toy_prf, length-toy_pad, All-toy_pad, take-toy_pad}
 use Rattle.client_registry.specs.DocumentRule.{IsDocument}
 use Rattle.client_registry.specs.Setup.{setup_of}
-use Rattle.client_registry.specs.Command.{Search}
+use Rattle.client_registry.specs.Command.{Add, Delete, Search}
 use Rattle.client_registry.specs.Run.{Run, at_first}
 use Rattle.client_registry.specs.Sized.{IsHistory, IsSizedCommand}
 use Rattle.client_registry.specs.WordRule.{word_refusal}
-use Rattle.sse_frames.specs.Replies.{Took, Page}
+use Rattle.sse_frames.specs.Replies.{Took, Page, BadList}
 use Rattle.sse_model.proofs.CollisionTest.{IsCollisionFree-from_test}
 use Rattle.sse_model.specs.Drawn.{IsCollisionFree}
 use Rattle.sse_model.specs.Names.{Table, table}
+use Rattle.sse_frames.specs.Frames.{Entry, FrameText, SetupBegin, SetupDict, SetupEnd, AddFrame, DeleteFrame, SearchFrame}
+use Rattle.server_core.specs.State.{ServerState}
+use Rattle.server_core.specs.Step.{taken, steps}
 use Rattle.sse_agreement.proofs.Agreement.{server_agrees}
-use Rattle.sse_agreement.specs.Agreement.{fed, Agrees}
+use Rattle.sse_agreement.proofs.Taking.{steps-taken}
+use Rattle.sse_agreement.specs.Agreement.{expecting, frames_fed, fed, Agrees}
+use Rattle.sse_agreement.specs.Taking.{AreInOrder}
+use Rattle.server_core.specs.Refusal.{in_place, clash}
+use Rattle.server_core.specs.Search.{found}
+use Rattle.search_token.specs.TokenKeys.{keys_of_bytes}
+use Rattle.sse_frames.specs.Sending.{pages}
+use Rattle.std.specs.Option.{option_map_or}
 use lib.Utf8.{encode}
 
 abbrev toy : KeyedFn
@@ -73,4 +83,123 @@ short_is_free : IsCollisionFree values at_first short
 short_is_free = IsCollisionFree-from_test values at_first short refl
 
 short_agrees : Agrees toy values at_first short
-short_agrees = server_agrees toy (λ epoch. replicate 32 0) at_first short toy_laws short_is_history (record { blocks = refl; searches = refl }) short_is_free
+short_agrees = server_agrees toy (λ epoch. replicate 32 0) at_first short toy_laws short_is_history short_is_free
+
+-- Updates.
+
+abbrev a : List ℕ
+a = 0x61 ∷ []
+
+abbrev c : List ℕ
+c = 0x63 ∷ []
+
+-- document 1 with the word `a`; then document 5 with `a` is added, deleted, and added again with `a` and `c`
+abbrev renewed : Run
+renewed = record {
+  setup = setup_of (record { id = 1; words = a ∷ [] } ∷ []) 1 1;
+  later = Add (record { id = 5; words = a ∷ [] }) ∷ Delete 5 ∷ Add (record { id = 5; words = a ∷ c ∷ [] }) ∷ Search a ∷ [];
+}
+
+-- so many bytes, each so far above the one before it
+abbrev apart : (by n first : ℕ) → List ℕ
+apart by zero first = []
+apart by (suc n) first = first ∷ apart by n ((first + by) % 256)
+
+-- its frames
+abbrev entry : Entry
+entry = record { label = apart 2 16 0xc3; text = apart 1 8 0xc4 ++ 0xcd ∷ [] }
+
+abbrev addition : Entry
+addition = record { label = apart 2 16 0xc5; text = apart 1 7 0xc6 ++ 0xc8 ∷ [] }
+
+abbrev other_addition : Entry
+other_addition = record { label = apart 2 16 0xc9; text = apart 1 7 0xca ++ 0xd4 ∷ [] }
+
+abbrev number : List ℕ
+number = apart 2 16 0xef
+
+abbrev token : List ℕ
+token = apart 1 32 0xc3 ++ apart 1 32 0xc4 ++ apart 1 32 0xc5 ++ apart 1 32 0xc6 ++ apart 1 32 0xc7
+
+abbrev frames : List FrameText
+frames =
+    SetupBegin 0 1 1 1 0 ∷ SetupDict 1 9 (entry ∷ []) ∷ SetupEnd 2 ∷ AddFrame 3 (addition ∷ []) [] ∷ DeleteFrame 4 (number ∷ []) ∷
+    AddFrame 5 (other_addition ∷ []) (number ∷ []) ∷ SearchFrame token ∷ []
+
+frames_of_renewed : frames_fed values at_first renewed ≡ frames
+frames_of_renewed = refl
+
+-- the states of a server that takes them
+abbrev begun : ServerState
+begun = taken (expecting at_first) (SetupBegin 0 1 1 1 0)
+
+abbrev filled : ServerState
+filled = taken begun (SetupDict 1 9 (entry ∷ []))
+
+abbrev whole : ServerState
+whole = taken filled (SetupEnd 2)
+
+abbrev added : ServerState
+added = taken whole (AddFrame 3 (addition ∷ []) [])
+
+abbrev deleted : ServerState
+deleted = taken added (DeleteFrame 4 (number ∷ []))
+
+abbrev added_again : ServerState
+added_again = taken deleted (AddFrame 5 (other_addition ∷ []) (number ∷ []))
+
+-- each is in order behind those before it
+renewed_in_order : AreInOrder (expecting at_first) frames
+renewed_in_order = (
+  record { next = refl; stage = refl; clash = refl },
+  (
+    record { next = refl; stage = dict_fits; clash = dict_is_new },
+    (
+      record { next = refl; stage = end_fits; clash = refl },
+      (
+        record { next = refl; stage = refl; clash = addition_is_new },
+        (
+          record { next = refl; stage = refl; clash = number_is_new },
+          (
+            record { next = refl; stage = refl; clash = addition_and_number },
+            (record { next = refl; stage = refl; clash = refl }, tt),
+          ),
+        ),
+      ),
+    ),
+  ),
+)
+  where
+    dict_fits : in_place begun (SetupDict 1 9 (entry ∷ [])) ≡ true
+    dict_fits = simp (map.gets)
+
+    dict_is_new : clash begun (SetupDict 1 9 (entry ∷ [])) ≡ None
+    dict_is_new = simp (map.gets)
+
+    end_fits : in_place filled (SetupEnd 2) ≡ true
+    end_fits = simp (map.gets)
+
+    addition_is_new : clash whole (AddFrame 3 (addition ∷ []) []) ≡ None
+    addition_is_new = simp (map.gets)
+
+    number_is_new : clash added (DeleteFrame 4 (number ∷ [])) ≡ None
+    number_is_new = simp (set.members)
+
+    addition_and_number : clash deleted (AddFrame 5 (other_addition ∷ []) (number ∷ [])) ≡ None
+    addition_and_number = simp (map.gets, set.members)
+
+-- `a` is found in both documents
+found_row : found toy added_again (keys_of_bytes token) ≡ Some (1 ∷ 5 ∷ [])
+found_row = simp (map.gets, set.members)
+
+-- so six update frames are acknowledged, and the search is answered by both
+replies_of_renewed : (fed toy values at_first renewed).1
+    ≡ (Took 0 ∷ []) ∷ (Took 1 ∷ []) ∷ (Took 2 ∷ []) ∷ (Took 3 ∷ []) ∷ (Took 4 ∷ []) ∷ (Took 5 ∷ []) ∷ (Page true (1 ∷ 5 ∷ []) ∷ []) ∷ []
+replies_of_renewed =
+    ap (λ fs. (steps toy (expecting at_first) fs).1) frames_of_renewed
+    ∙ ap (λ r. r.1) (steps-taken toy (expecting at_first) frames renewed_in_order)
+    ∙ ap (λ ids. (Took 0 ∷ []) ∷ (Took 1 ∷ []) ∷ (Took 2 ∷ []) ∷ (Took 3 ∷ []) ∷ (Took 4 ∷ []) ∷ (Took 5 ∷ []) ∷ option_map_or pages ids (BadList ∷ []) ∷ []) found_row
+
+-- what the law supposes of the values holds of this run
+renewed_is_free : IsCollisionFree values at_first renewed
+renewed_is_free = IsCollisionFree-from_test values at_first renewed refl

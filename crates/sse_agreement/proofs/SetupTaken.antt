@@ -1,6 +1,6 @@
--- The frames of a setup without blocks are taken, one after another, by a server that expects the first of them.
-use Rattle.std.proofs.Common.{◌≡◌, ℕ, zero, suc, ◌+◌, ◌*◌, ◌≤◌, Bool, true, ◌&&◌, List, [], ◌∷◌, ◌++◌, length, map, Option, Some, None, refl, sym, ap, ◌∙◌, subst, arith}
-use Rattle.std.specs.Prelude.{◌==◌, nat_le, flat_map, if◌then◌else◌}
+-- The frames of a setup are taken, one after another, by a server that expects the first of them.
+use Rattle.std.proofs.Common.{◌≡◌, ℕ, zero, suc, ◌+◌, ◌*◌, ◌≤◌, Bool, true, ◌&&◌, List, [], ◌∷◌, ◌++◌, length, map, refl, sym, ap, ◌∙◌, subst, arith, append_assoc}
+use Rattle.std.specs.Prelude.{◌==◌, nat_le, flat_map}
 use Rattle.std.specs.List.{range_with_len}
 use Rattle.std.specs.Ordering.{nat_cmp}
 use Rattle.std.specs.Cmp.Lexicographic.{slice_cmp}
@@ -8,23 +8,25 @@ use Rattle.std.specs.FinMap as finmap
 use Rattle.std.specs.FinSet as finset
 use Rattle.std.proofs.lemmas.Bool.{le-leb}
 use Rattle.std.proofs.lemmas.Cmp.{nat_eq_equiv}
-use Rattle.std.proofs.lemmas.List.{append-nil, length-append, length-map}
+use Rattle.std.proofs.lemmas.List.{append-nil, length-append, length-map, map-append}
 use Rattle.keyed_fn.specs.KeyedFn.{KeyedFn}
 use Rattle.list_packing.proofs.PartsLemmas.{joined-parts}
 use Rattle.list_packing.specs.Parts.{parts}
 use Rattle.two_level.specs.Shape.{Shape}
 use Rattle.sse_frames.proofs.Sorted.{AllDiffer, length-by_bytes}
-use Rattle.sse_frames.specs.Frames.{Entry, FrameText, SetupBegin, SetupDict, SetupEnd, labels_of}
+use Rattle.sse_frames.specs.Frames.{Entry, FrameText, SetupBegin, SetupDict, SetupArray, SetupEnd, labels_of}
 use Rattle.sse_frames.specs.Order.{by_bytes}
-use Rattle.sse_frames.specs.Replies.{ReplyText, Took, Number, OutOfPlace}
+use Rattle.sse_frames.specs.Replies.{ReplyText, Took}
 use Rattle.sse_frames.specs.Sending.{numbered, setup_frames}
-use Rattle.server_core.proofs.Laws.{steps-append, with_entries-append}
+use Rattle.server_core.proofs.Laws.{with_entries-append}
 use Rattle.server_core.specs.declared.stage.Stage.TheVariants.{Filling, Ready}
-use Rattle.server_core.specs.Dictionary.{CellMap}
-use Rattle.server_core.specs.Refusal.{refusal, clash_at, first_known}
+use Rattle.server_tables.specs.Contents.{CellMap}
+use Rattle.server_core.specs.Refusal.{clash_at}
 use Rattle.server_core.specs.State.{ServerState, at_first}
-use Rattle.server_core.specs.Step.{with_entries, taken, answers, step, steps}
+use Rattle.server_core.specs.Step.{with_entries}
 use Rattle.sse_model.proofs.Counts.{length-numbered}
+use Rattle.sse_agreement.proofs.Taking.{takes-none, takes-cons, takes-both}
+use Rattle.sse_agreement.specs.Taking.{IsInOrder, Takes}
 use Rattle.sse_agreement.proofs.Dictionary.{AreNew, AreNew-parts, first_known-new, len-new, AreNew-by_bytes}
 
 -- Frames by their number.
@@ -48,143 +50,212 @@ took_each-push q (suc count) =
     ap (took_each q) more
     ∙ ap (λ rest. (Took q ∷ []) ∷ rest) (took_each-push (q + 1) count ∙ ap (λ n. took_each (q + 1) count ++ (Took n ∷ []) ∷ []) number)
 
--- Steps one after another.
+took_each-join : (q m n : ℕ) → took_each q m ++ took_each (q + m) n ≡ took_each q (m + n)
+took_each-join q zero n = let e : q + zero ≡ q = omega arith in let z : zero + n ≡ n = omega arith in (λ i. took_each (e i) (sym z i))
+took_each-join q (suc m) n =
+    let number : q + suc m ≡ q + 1 + m = omega arith in
+    let more : suc m + n ≡ suc (m + n) = omega arith in
+    ap (λ k. (Took q ∷ []) ∷ took_each (q + 1) m ++ took_each k n) number
+    ∙ ap (λ rest. (Took q ∷ []) ∷ rest) (took_each-join (q + 1) m n)
+    ∙ ap (took_each q) (sym more)
 
--- the steps of a frame and others behind it
-pub steps-cons : (f : KeyedFn) (s now end : ServerState) (x : FrameText) (xs : List FrameText) (r : List ReplyText) (rs : List (List ReplyText))
-    → step f s x ≡ (now, r) → steps f now xs ≡ (end, rs) → steps f s (x ∷ xs) ≡ (end, r ∷ rs)
-steps-cons f s now end x xs r rs first later =
-    (λ i. let behind = steps f (first i).0 xs in (behind.0, (first i).1 ∷ behind.1)) ∙ ap (λ behind. (behind.0, r ∷ behind.1)) later
+-- A server that fills its tables.
 
--- those of frames and others behind them
-pub steps-both : (f : KeyedFn) (s now end : ServerState) (xs ys : List FrameText) (rs ts : List (List ReplyText))
-    → steps f s xs ≡ (now, rs) → steps f now ys ≡ (end, ts) → steps f s (xs ++ ys) ≡ (end, rs ++ ts)
-steps-both f s now end xs ys rs ts first later =
-    steps-append f s xs ys ∙ (λ i. let behind = steps f (first i).0 ys in (behind.0, (first i).1 ++ behind.1)) ∙ ap (λ behind. (behind.0, rs ++ behind.1)) later
-
--- A server that fills its dictionary.
-
--- a server that was sent a setup's first frame for so many words and no blocks, with these entries so far
-abbrev pub filling : Shape → ℕ → ℕ → CellMap → ServerState
-filling shape words next dictionary = record {
+-- a server that was sent a setup's first frame for so many words and blocks, with this dictionary and array so far
+abbrev pub filling : Shape → (words blocks next : ℕ) → CellMap → List (List ℕ) → ServerState
+filling shape words blocks next dictionary array = record {
   stage = Filling;
   next = next;
   words = words;
-  blocks = 0;
+  blocks = blocks;
   shape = shape;
   dictionary = dictionary;
-  array = [];
+  array = array;
   additions = finmap.empty;
   revoked = finset.empty;
 }
 
--- a server that was sent a whole setup without blocks
-abbrev pub filled : Shape → ℕ → ℕ → CellMap → ServerState
-filled shape words next dictionary = record (filling shape words next dictionary) { stage = Ready }
-
--- a frame that isn't refused is taken and answered
-pub step-taken : (f : KeyedFn) (s : ServerState) (frame : FrameText) → refusal s frame ≡ None → step f s frame ≡ (taken s frame, answers f s frame)
-step-taken f s frame none = rw none refl
-
-unrefused : (n p : Bool) (o : Option ReplyText) (x y : ReplyText) → n ≡ true → p ≡ true → o ≡ None → (if n then (if p then o else Some x) else Some y) ≡ None
-unrefused n p o x y e f g = rw (e, f, g) refl
+-- a server that was sent a whole setup
+abbrev pub filled : Shape → (words blocks next : ℕ) → CellMap → List (List ℕ) → ServerState
+filled shape words blocks next dictionary array = record (filling shape words blocks next dictionary array) { stage = Ready }
 
 both : (a b : Bool) → a ≡ true → b ≡ true → (a && true && b) ≡ true
 both a b e f = rw (e, f) refl
 
-dict_refusal : (shape : Shape) (words next : ℕ) (m : CellMap) (part : List Entry) → finmap.len m + length part ≤ words → AreNew m part
-    → refusal (filling shape words next m) (SetupDict next (1 + 8 * shape.b) part) ≡ None
-dict_refusal shape words next m part fits new =
-    unrefused (next == next) _ (clash_at 1 (first_known m part)) OutOfPlace (Number next) (nat_eq_equiv.refl next)
-    (both (1 + 8 * shape.b == 1 + 8 * shape.b) (nat_le (finmap.len m + length part) words) (nat_eq_equiv.refl (1 + 8 * shape.b)) (le-leb (finmap.len m + length part) words fits))
-    (ap (clash_at 1) (first_known-new m part new))
+all_three : (a b c : Bool) → a ≡ true → b ≡ true → c ≡ true → (a && b && c) ≡ true
+all_three a b c e f g = rw (e, f, g) refl
 
--- a part of the dictionary, numbered later
+all_two : (a b : Bool) → a ≡ true → b ≡ true → (a && b) ≡ true
+all_two a b e f = rw (e, f) refl
+
+is_number : (m n : ℕ) → m ≡ n → (m == n) ≡ true
+is_number m n e = ap (λ k. k == n) e ∙ nat_eq_equiv.refl n
+
+dict_in_order : (shape : Shape) (words blocks next : ℕ) (m : CellMap) (part : List Entry) → finmap.len m + length part ≤ words → AreNew m part
+    → IsInOrder (filling shape words blocks next m []) (SetupDict next (1 + 8 * shape.b) part)
+dict_in_order shape words blocks next m part fits new = record {
+  next = nat_eq_equiv.refl next;
+  stage = both (1 + 8 * shape.b == 1 + 8 * shape.b) (nat_le (finmap.len m + length part) words) (nat_eq_equiv.refl (1 + 8 * shape.b)) (le-leb (finmap.len m + length part) words fits);
+  clash = ap (clash_at 1) (first_known-new m part new);
+}
+
+-- a part of the dictionary, and one of the array, numbered later
 abbrev pub dict_part : Shape → List Entry → ℕ → FrameText
 dict_part shape part q = SetupDict q (1 + 8 * shape.b) part
 
+abbrev texts : List Entry → List (List ℕ)
+texts part = map (λ block. block.text) part
+
+abbrev pub array_part : Shape → List Entry → ℕ → FrameText
+array_part shape part q = SetupArray q (8 * shape.big) (texts part)
+
 -- the parts of a dictionary whose labels are new are taken one after another
-pub parts_taken : (f : KeyedFn) (shape : Shape) (words : ℕ) (list : List (List Entry)) (next : ℕ) (m : CellMap)
+parts_taken : (f : KeyedFn) (shape : Shape) (words blocks : ℕ) (list : List (List Entry)) (next : ℕ) (m : CellMap)
     → finmap.len m + length (flat_map (λ part. part) list) ≤ words → AreNew m (flat_map (λ part. part) list)
-    → steps f (filling shape words next m) (numbered next (map (dict_part shape) list))
-    ≡ (filling shape words (next + length list) (with_entries m (flat_map (λ part. part) list)), took_each next (length list))
-parts_taken f shape words [] next m fits new = let e : next ≡ next + 0 = omega arith in ap (λ n. (filling shape words n m, [])) e
-parts_taken f shape words (part ∷ list) next m fits new =
+    → Takes f (filling shape words blocks next m []) (numbered next (map (dict_part shape) list))
+    (filling shape words blocks (next + length list) (with_entries m (flat_map (λ part. part) list)) []) (took_each next (length list))
+parts_taken f shape words blocks [] next m fits new =
+    let e : next ≡ next + 0 = omega arith in
+    subst (λ (n : ℕ). Takes f (filling shape words blocks next m []) [] (filling shape words blocks n m []) []) e (takes-none f (filling shape words blocks next m []))
+parts_taken f shape words blocks (part ∷ list) next m fits new =
     let rest : List Entry = flat_map (λ part. part) list in
     let halves = AreNew-parts m part rest new in
-    let now : step f (filling shape words next m) (dict_part shape part next) ≡ (filling shape words (next + 1) (with_entries m part), Took next ∷ []) =
-    step-taken f (filling shape words next m) (dict_part shape part next) (dict_refusal shape words next m part (omega (arith, fits, length-append part rest)) halves.0) in
-    let later = parts_taken f shape words list (next + 1) (with_entries m part) (omega (arith, fits, length-append part rest, len-new m part halves.0)) halves.1 in
+    let later = parts_taken f shape words blocks list (next + 1) (with_entries m part) (omega (arith, fits, length-append part rest, len-new m part halves.0)) halves.1 in
     let number : next + 1 + length list ≡ next + suc (length list) = omega arith in
-    steps-cons f (filling shape words next m) (filling shape words (next + 1) (with_entries m part)) _ (dict_part shape part next)
-    (numbered (next + 1) (map (dict_part shape) list)) (Took next ∷ []) _ now later
-    ∙ (λ i. (filling shape words (number i) (sym (with_entries-append m part rest) i), took_each next (suc (length list))))
+    let end : filling shape words blocks (next + 1 + length list) (with_entries (with_entries m part) rest) [] ≡ filling shape words blocks (next + suc (length list)) (with_entries m (part ++ rest)) [] =
+    (λ i. filling shape words blocks (number i) (sym (with_entries-append m part rest) i) []) in
+    subst (λ state. Takes f (filling shape words blocks next m []) (numbered next (map (dict_part shape) (part ∷ list))) state (took_each next (suc (length list)))) end
+    (takes-cons f (filling shape words blocks next m []) (filling shape words blocks (next + 1) (with_entries m part) []) _ (dict_part shape part next)
+    (numbered (next + 1) (map (dict_part shape) list)) (Took next ∷ []) (took_each (next + 1) (length list)) (dict_in_order shape words blocks next m part (omega (arith, fits, length-append part rest)) halves.0) refl refl later)
+
+array_in_order : (shape : Shape) (words blocks next : ℕ) (m : CellMap) (array : List (List ℕ)) (part : List Entry) → finmap.len m ≡ words → length array + length part ≤ blocks
+    → IsInOrder (filling shape words blocks next m array) (SetupArray next (8 * shape.big) (texts part))
+array_in_order shape words blocks next m array part full fits = record {
+  next = nat_eq_equiv.refl next;
+  stage =
+      all_three (8 * shape.big == 8 * shape.big) (finmap.len m == words) (nat_le (length array + length (texts part)) blocks) (nat_eq_equiv.refl (8 * shape.big)) (is_number (finmap.len m) words full)
+      (le-leb (length array + length (texts part)) blocks (omega (arith, fits, length-map part (λ (block : Entry). block.text))));
+  clash = refl;
+}
+
+-- so are the parts of an array, behind a whole dictionary
+arrays_taken : (f : KeyedFn) (shape : Shape) (words blocks : ℕ) (m : CellMap) (list : List (List Entry)) (next : ℕ) (array : List (List ℕ))
+    → finmap.len m ≡ words → length array + length (flat_map (λ part. part) list) ≤ blocks
+    → Takes f (filling shape words blocks next m array) (numbered next (map (array_part shape) list))
+    (filling shape words blocks (next + length list) m (array ++ texts (flat_map (λ part. part) list))) (took_each next (length list))
+arrays_taken f shape words blocks m [] next array full fits =
+    let e : next ≡ next + 0 = omega arith in
+    let end : filling shape words blocks next m array ≡ filling shape words blocks (next + 0) m (array ++ []) = (λ i. filling shape words blocks (e i) m (sym (append-nil array) i)) in
+    subst (λ state. Takes f (filling shape words blocks next m array) [] state []) end (takes-none f (filling shape words blocks next m array))
+arrays_taken f shape words blocks m (part ∷ list) next array full fits =
+    let rest : List Entry = flat_map (λ part. part) list in
+    let later = arrays_taken f shape words blocks m list (next + 1) (array ++ texts part) full
+    (omega (arith, fits, length-append part rest, length-append array (texts part), length-map part (λ (block : Entry). block.text))) in
+    let number : next + 1 + length list ≡ next + suc (length list) = omega arith in
+    let joined : array ++ texts part ++ texts rest ≡ array ++ texts (part ++ rest) = append_assoc array (texts part) (texts rest) ∙ ap (λ more. array ++ more) (sym (map-append (λ (block : Entry). block.text) part rest)) in
+    let end : filling shape words blocks (next + 1 + length list) m (array ++ texts part ++ texts rest) ≡ filling shape words blocks (next + suc (length list)) m (array ++ texts (part ++ rest)) =
+    (λ i. filling shape words blocks (number i) m (joined i)) in
+    subst (λ state. Takes f (filling shape words blocks next m array) (numbered next (map (array_part shape) (part ∷ list))) state (took_each next (suc (length list)))) end
+    (takes-cons f (filling shape words blocks next m array) (filling shape words blocks (next + 1) m (array ++ texts part)) _ (array_part shape part next)
+    (numbered (next + 1) (map (array_part shape) list)) (Took next ∷ []) (took_each (next + 1) (length list)) (array_in_order shape words blocks next m array part full (omega (arith, fits, length-append part rest))) refl refl later)
 
 -- The whole setup.
 
-begun : (f : KeyedFn) (q b big m : ℕ) → step f (record at_first { next = q }) (SetupBegin q b big m 0) ≡ (filling (record { b = b; big = big }) m (q + 1) finmap.empty, Took q ∷ [])
-begun f q b big m =
-    step-taken f (record at_first { next = q }) (SetupBegin q b big m 0)
-    (unrefused (q == q) true None OutOfPlace (Number q) (nat_eq_equiv.refl q) refl refl)
+begin_in_order : (q b big m a : ℕ) → IsInOrder (record at_first { next = q }) (SetupBegin q b big m a)
+begin_in_order q b big m a = record { next = nat_eq_equiv.refl q; stage = refl; clash = refl }
 
-ended : (f : KeyedFn) (shape : Shape) (words q : ℕ) (m : CellMap) → finmap.len m ≡ words
-    → step f (filling shape words q m) (SetupEnd q) ≡ (filled shape words (q + 1) m, Took q ∷ [])
-ended f shape words q m full =
-    step-taken f (filling shape words q m) (SetupEnd q)
-    (unrefused (q == q) _ None OutOfPlace (Number q) (nat_eq_equiv.refl q)
-    (both_full (finmap.len m == words) (ap (λ n. n == words) full ∙ nat_eq_equiv.refl words)) refl)
-  where
-    both_full : (a : Bool) → a ≡ true → (a && true) ≡ true
-    both_full a e = rw e refl
+end_in_order : (shape : Shape) (words blocks q : ℕ) (m : CellMap) (array : List (List ℕ)) → finmap.len m ≡ words → length array ≡ blocks → IsInOrder (filling shape words blocks q m array) (SetupEnd q)
+end_in_order shape words blocks q m array full whole = record {
+  next = nat_eq_equiv.refl q;
+  stage = all_two (finmap.len m == words) (length array == blocks) (is_number (finmap.len m) words full) (is_number (length array) blocks whole);
+  clash = refl;
+}
 
--- a server that expects the first frame of a setup without blocks takes all its frames: its dictionary has the entries
-pub setup_taken : (f : KeyedFn) (q : ℕ) (shape : Shape) (entries : List Entry) → AllDiffer (labels_of entries)
-    → steps f (record at_first { next = q }) (setup_frames q shape entries [])
-    ≡ (filled shape (length entries) (q + length (setup_frames q shape entries [])) (with_entries finmap.empty (by_bytes (λ entry. entry.label) entries)), took_each q (length (setup_frames q shape entries [])))
-setup_taken f q shape entries differ =
-    ap (λ fs. steps f (record at_first { next = q }) (SetupBegin q shape.b shape.big (length entries) 0 ∷ fs)) frames
-    ∙ steps-cons f (record at_first { next = q }) (filling shape (length entries) (q + 1) finmap.empty) _ (SetupBegin q shape.b shape.big (length entries) 0)
-    (numbered (q + 1) dicts ++ SetupEnd (q + 1 + n) ∷ []) (Took q ∷ []) _ (begun f q shape.b shape.big (length entries))
-    (steps-both f (filling shape (length entries) (q + 1) finmap.empty) (filling shape (length entries) (q + 1 + n) (with_entries finmap.empty sorted)) _
-    (numbered (q + 1) dicts) (SetupEnd (q + 1 + n) ∷ []) (took_each (q + 1) n) ((Took (q + 1 + n) ∷ []) ∷ []) in_parts
-    (steps-cons f (filling shape (length entries) (q + 1 + n) (with_entries finmap.empty sorted)) _ _ (SetupEnd (q + 1 + n)) [] (Took (q + 1 + n) ∷ []) []
-    (ended f shape (length entries) (q + 1 + n) (with_entries finmap.empty sorted) full) refl))
-    ∙ (λ i. (filled shape (length entries) (last_number i) (with_entries finmap.empty sorted), (Took q ∷ []) ∷ sym (took_each-push (q + 1) n) i))
-    ∙ ap (λ k. (filled shape (length entries) (q + k) (with_entries finmap.empty sorted), took_each q k)) (sym count)
+-- a server that expects the first frame of a setup takes all its frames: its dictionary has the entries, its array the
+-- blocks by rising label
+pub setup_taken : (f : KeyedFn) (q : ℕ) (shape : Shape) (entries blocks : List Entry) → AllDiffer (labels_of entries)
+    → Takes f (record at_first { next = q }) (setup_frames q shape entries blocks)
+    (filled shape (length entries) (length blocks) (q + length (setup_frames q shape entries blocks)) (with_entries finmap.empty (by_bytes (λ entry. entry.label) entries)) (map (λ block. block.text) (by_bytes (λ block. block.label) blocks)))
+    (took_each q (length (setup_frames q shape entries blocks)))
+setup_taken f q shape entries blocks differ =
+    subst (λ (m : ℕ). Takes f start (setup_frames q shape entries blocks) (filled shape words count (q + m) dictionary array) (took_each q m)) (sym length_is)
+    (subst (λ fs. Takes f start (SetupBegin q shape.b shape.big words count ∷ fs) (filled shape words count (q + suc (n + k + 1)) dictionary array) (took_each q (suc (n + k + 1)))) (sym frames)
+    (takes-cons f start (filling shape words count (q + 1) finmap.empty []) (filled shape words count (q + suc (n + k + 1)) dictionary array) (SetupBegin q shape.b shape.big words count)
+    (numbered (q + 1) dicts ++ numbered (q + 1 + n) arrays ++ SetupEnd (q + 1 + n + k) ∷ []) (Took q ∷ []) (took_each (q + 1) (n + k + 1)) (begin_in_order q shape.b shape.big words count) refl refl
+    (subst (Takes f (filling shape words count (q + 1) finmap.empty []) (numbered (q + 1) dicts ++ numbered (q + 1 + n) arrays ++ SetupEnd (q + 1 + n + k) ∷ []) (filled shape words count (q + suc (n + k + 1)) dictionary array))
+    (sym (took_each-push (q + 1) (n + k)))
+    (takes-both f (filling shape words count (q + 1) finmap.empty []) (filling shape words count (q + 1 + n + k) dictionary array) (filled shape words count (q + suc (n + k + 1)) dictionary array)
+    (numbered (q + 1) dicts ++ numbered (q + 1 + n) arrays) (SetupEnd (q + 1 + n + k) ∷ []) (took_each (q + 1) (n + k)) ((Took (q + 1 + (n + k)) ∷ []) ∷ []) tables ending))))
   where
+    words : ℕ
+    words = length entries
+
+    count : ℕ
+    count = length blocks
+
     sorted : List Entry
     sorted = by_bytes (λ entry. entry.label) entries
+
+    sorted_blocks : List Entry
+    sorted_blocks = by_bytes (λ block. block.label) blocks
+
+    dictionary : CellMap
+    dictionary = with_entries finmap.empty sorted
+
+    array : List (List ℕ)
+    array = texts sorted_blocks
 
     list : List (List Entry)
     list = parts 1024 sorted
 
+    array_list : List (List Entry)
+    array_list = parts 256 sorted_blocks
+
     n : ℕ
     n = length list
+
+    k : ℕ
+    k = length array_list
 
     dicts : List (ℕ → FrameText)
     dicts = map (dict_part shape) list
 
+    arrays : List (ℕ → FrameText)
+    arrays = map (array_part shape) array_list
+
+    last : List (ℕ → FrameText)
+    last = (λ m. SetupEnd m) ∷ []
+
     many : length dicts ≡ n
     many = length-map list (dict_part shape)
 
-    last : List (ℕ → FrameText)
-    last = (λ k. SetupEnd k) ∷ []
+    many_arrays : length arrays ≡ k
+    many_arrays = length-map array_list (array_part shape)
 
-    frames : numbered (q + 1) (dicts ++ [] ++ last) ≡ numbered (q + 1) dicts ++ SetupEnd (q + 1 + n) ∷ []
+    at_last : q + 1 + length (dicts ++ arrays) ≡ q + 1 + n + k
+    at_last = omega (arith, length-append dicts arrays, many, many_arrays)
+
+    frames : numbered (q + 1) (dicts ++ arrays ++ last) ≡ numbered (q + 1) dicts ++ numbered (q + 1 + n) arrays ++ SetupEnd (q + 1 + n + k) ∷ []
     frames =
-        ap (λ ds. numbered (q + 1) (ds ++ last)) (append-nil dicts)
-        ∙ numbered-append (q + 1) dicts last
-        ∙ ap (λ k. numbered (q + 1) dicts ++ SetupEnd (q + 1 + k) ∷ []) many
+        numbered-append (q + 1) (dicts ++ arrays) last
+        ∙ (λ i. numbered-append (q + 1) dicts arrays i ++ SetupEnd (at_last i) ∷ [])
+        ∙ ap (λ m. numbered (q + 1) dicts ++ numbered (q + 1 + m) arrays ++ SetupEnd (q + 1 + n + k) ∷ []) many
 
-    count : length (setup_frames q shape entries []) ≡ suc (n + 1)
-    count =
-        ap (λ k. suc k) (length-numbered (q + 1) (dicts ++ [] ++ last) ∙ ap (λ ds. length (ds ++ last)) (append-nil dicts) ∙ length-append dicts last ∙ ap (λ k. k + 1) many)
+    length_is : length (setup_frames q shape entries blocks) ≡ suc (n + k + 1)
+    length_is =
+        ap (λ m. suc m) (length-numbered (q + 1) (dicts ++ arrays ++ last) ∙ length-append (dicts ++ arrays) last ∙ ap (λ m. m + 1) (length-append dicts arrays ∙ (λ i. many i + many_arrays i)))
 
-    last_number : q + 1 + n + 1 ≡ q + suc (n + 1)
+    last_number : q + 1 + n + k + 1 ≡ q + suc (n + k + 1)
     last_number = omega arith
+
+    next_last : q + 1 + n + k ≡ q + 1 + (n + k)
+    next_last = omega arith
 
     whole : flat_map (λ part. part) list ≡ sorted
     whole = joined-parts 1024 sorted (omega arith)
+
+    whole_blocks : flat_map (λ part. part) array_list ≡ sorted_blocks
+    whole_blocks = joined-parts 256 sorted_blocks (omega arith)
 
     new : AreNew finmap.empty sorted
     new = AreNew-by_bytes entries differ
@@ -192,14 +263,38 @@ setup_taken f q shape entries differ =
     none : finmap.len (finmap.empty {X = List ℕ} {R = slice_cmp nat_cmp}) ≡ 0
     none = finmap.len-empty (slice_cmp nat_cmp) (List ℕ)
 
-    size : length sorted ≡ length entries
+    size : length sorted ≡ words
     size = length-by_bytes (λ (entry : Entry). entry.label) entries
 
-    full : finmap.len (with_entries finmap.empty sorted) ≡ length entries
+    size_blocks : length sorted_blocks ≡ count
+    size_blocks = length-by_bytes (λ (entry : Entry). entry.label) blocks
+
+    full : finmap.len dictionary ≡ words
     full = omega (arith, none, size, len-new finmap.empty sorted new)
 
-    in_parts : steps f (filling shape (length entries) (q + 1) finmap.empty) (numbered (q + 1) dicts)
-        ≡ (filling shape (length entries) (q + 1 + n) (with_entries finmap.empty sorted), took_each (q + 1) n)
+    whole_array : length array ≡ count
+    whole_array = length-map sorted_blocks (λ (block : Entry). block.text) ∙ size_blocks
+
+    in_parts : Takes f (filling shape words count (q + 1) finmap.empty []) (numbered (q + 1) dicts) (filling shape words count (q + 1 + n) dictionary []) (took_each (q + 1) n)
     in_parts =
-        parts_taken f shape (length entries) list (q + 1) finmap.empty (omega (arith, none, size, ap length whole)) (subst (AreNew finmap.empty) (sym whole) new)
-        ∙ ap (λ es. (filling shape (length entries) (q + 1 + n) (with_entries finmap.empty es), took_each (q + 1) n)) whole
+        subst (λ es. Takes f (filling shape words count (q + 1) finmap.empty []) (numbered (q + 1) dicts) (filling shape words count (q + 1 + n) (with_entries finmap.empty es) []) (took_each (q + 1) n)) whole
+        (parts_taken f shape words count list (q + 1) finmap.empty (omega (arith, none, size, ap length whole)) (subst (AreNew finmap.empty) (sym whole) new))
+
+    in_array : Takes f (filling shape words count (q + 1 + n) dictionary []) (numbered (q + 1 + n) arrays) (filling shape words count (q + 1 + n + k) dictionary array) (took_each (q + 1 + n) k)
+    in_array =
+        subst (λ es. Takes f (filling shape words count (q + 1 + n) dictionary []) (numbered (q + 1 + n) arrays) (filling shape words count (q + 1 + n + k) dictionary (texts es)) (took_each (q + 1 + n) k)) whole_blocks
+        (arrays_taken f shape words count dictionary array_list (q + 1 + n) [] full (omega (arith, size_blocks, ap length whole_blocks)))
+
+    start : ServerState
+    start = record at_first { next = q }
+
+    tables : Takes f (filling shape words count (q + 1) finmap.empty []) (numbered (q + 1) dicts ++ numbered (q + 1 + n) arrays) (filling shape words count (q + 1 + n + k) dictionary array) (took_each (q + 1) (n + k))
+    tables =
+        subst (Takes f (filling shape words count (q + 1) finmap.empty []) (numbered (q + 1) dicts ++ numbered (q + 1 + n) arrays) (filling shape words count (q + 1 + n + k) dictionary array)) (took_each-join (q + 1) n k)
+        (takes-both f (filling shape words count (q + 1) finmap.empty []) (filling shape words count (q + 1 + n) dictionary []) (filling shape words count (q + 1 + n + k) dictionary array)
+        (numbered (q + 1) dicts) (numbered (q + 1 + n) arrays) (took_each (q + 1) n) (took_each (q + 1 + n) k) in_parts in_array)
+
+    ending : Takes f (filling shape words count (q + 1 + n + k) dictionary array) (SetupEnd (q + 1 + n + k) ∷ []) (filled shape words count (q + suc (n + k + 1)) dictionary array) ((Took (q + 1 + (n + k)) ∷ []) ∷ [])
+    ending =
+        takes-cons f (filling shape words count (q + 1 + n + k) dictionary array) (filled shape words count (q + suc (n + k + 1)) dictionary array) (filled shape words count (q + suc (n + k + 1)) dictionary array) (SetupEnd (q + 1 + n + k)) [] (Took (q + 1 + (n + k)) ∷ []) []
+        (end_in_order shape words count (q + 1 + n + k) dictionary array full whole_array) (λ i. filled shape words count (last_number i) dictionary array) (λ i. Took (next_last i) ∷ []) (takes-none f (filled shape words count (q + suc (n + k + 1)) dictionary array))

@@ -3,5 +3,5 @@
 //!
 //! It stands on `sse_model` for what a history sends and on `server_core` for the server's step, which know
 //! nothing of one another; client, links and worlds cite it from above. It holds statements over definitions
-//! (specs/Agreement.antt) with their proofs (`server_agrees`, `shown_are_found`), and no calls.
+//! (specs/Agreement.antt) with their proofs (`histories_taken`, `server_agrees`, `shown_are_found`), and no calls.
 #![tactic(auto)]
