@@ -1,16 +1,15 @@
 -- The lists of all words once a document's identifier stands in those of its first words.
-use Rattle.std.proofs.Common.{◌≡◌, ℕ, suc, ◌+◌, ◌<◌, Bool, true, false, cond, List, [], ◌∷◌, ◌++◌, length, take, map, filter, get_or, set, Option, None, Some, is_some, position, refl, sym, ap, ◌∙◌, subst, append_assoc}
+use Rattle.std.proofs.Common.{◌≡◌, ℕ, suc, ◌+◌, ◌<◌, ◌≤◌, Bool, true, false, cond, List, [], ◌∷◌, ◌++◌, length, take, drop, map, filter, get_or, set, Option, None, Some, position, refl, sym, ap, ◌∙◌, subst, append_assoc, arith, length-append}
 use Rattle.std.specs.Prelude.{replicate}
-use Rattle.std.specs.List.{list_any, AllByRecursion, IsDistinct}
+use Rattle.std.specs.List.{AllByRecursion, IsDistinct}
 use Rattle.std.specs.Option.{option_map}
 use Rattle.std.specs.Str.{bytes_eq}
-use Rattle.std.proofs.lemmas.Bool.{or_parts}
 use Rattle.std.proofs.lemmas.Cmp.{nat_list_eq_equiv}
-use Rattle.std.proofs.lemmas.List.{append-nil, map-append, take_more}
+use Rattle.std.proofs.lemmas.List.{append-nil, length-map, map-append, take_more, take-append-drop}
 use Rattle.std.proofs.lemmas.List.Elements.{All-cons, All-nil, filter-append}
 use Rattle.std.proofs.lemmas.Slice.Eq.{bytes_eq-Decides}
 use Rattle.client_registry.proofs.DistinctLaws.{IsDistinct-first_seen}
-use Rattle.client_registry.proofs.Positions.{is_some-position, position-cons}
+use Rattle.client_registry.proofs.Positions.{position-cons}
 use Rattle.client_registry.proofs.WordsLaws.{length-ids_with}
 use Rattle.client_registry.specs.Document.{Document}
 use Rattle.client_registry.specs.DocumentRule.{IsDocument}
@@ -90,13 +89,63 @@ id_for-document d word is =
     by false = refl
 
 -- after all its words the document is one of those before
+with_document : (docs : List Document) (i : ℕ) (d : Document) → i < length docs → get_or docs i d ≡ d → IsDocument d
+    → (word : List ℕ) → ids_with (take i docs) word ++ id_for d.id d.words word ≡ ids_with (take (i + 1) docs) word
+with_document docs i d within at is word =
+    ap (λ ids. ids_with (take i docs) word ++ ids) (id_for-document d word is)
+    ∙ sym (map-append (λ (e : Document). e.id) (filter (has_word word) (take i docs)) (filter (has_word word) (d ∷ [])))
+    ∙ ap (map (λ (e : Document). e.id)) (sym (filter-append (has_word word) (take i docs) (d ∷ [])))
+    ∙ ap (λ ds. ids_with ds word) (sym (take_more docs i d within ∙ ap (λ e. take i docs ++ e ∷ []) at))
+
 pub lists_with-all : (docs : List Document) (i : ℕ) (d : Document) → i < length docs → get_or docs i d ≡ d → IsDocument d
     → lists_with docs (take i docs) d.id d.words ≡ lists_among docs (take (i + 1) docs)
-lists_with-all docs i d within at is = λ j. map (λ word. each word j) (words_of docs)
-  where
-    each : (word : List ℕ) → ids_with (take i docs) word ++ id_for d.id d.words word ≡ ids_with (take (i + 1) docs) word
-    each word =
-        ap (λ ids. ids_with (take i docs) word ++ ids) (id_for-document d word is)
-        ∙ sym (map-append (λ (e : Document). e.id) (filter (has_word word) (take i docs)) (filter (has_word word) (d ∷ [])))
-        ∙ ap (map (λ (e : Document). e.id)) (sym (filter-append (has_word word) (take i docs) (d ∷ [])))
-        ∙ ap (λ ds. ids_with ds word) (sym (take_more docs i d within ∙ ap (λ e. take i docs ++ e ∷ []) at))
+lists_with-all docs i d within at is = λ j. map (λ word. with_document docs i d within at is word j) (words_of docs)
+
+-- ---- no list grows beyond its length
+
+fewer : {X : Type 0} (p : X → Bool) (xs ys : List X) → length (filter p xs) ≤ length (filter p (xs ++ ys))
+fewer p xs ys = omega (arith, ap length (filter-append p xs ys), length-append (filter p xs) (filter p ys))
+
+ids_with-front : (docs : List Document) (i : ℕ) (word : List ℕ) → length (ids_with (take i docs) word) ≤ length (ids_with docs word)
+ids_with-front docs i word =
+    let more = fewer (has_word word) (take i docs) (drop i docs) in
+    let all = ap (λ ds. length (filter (has_word word) ds)) (take-append-drop i docs) in
+    omega (arith, more, all, length-map (filter (has_word word) (take i docs)) (λ (d : Document). d.id), length-map (filter (has_word word) docs) (λ (d : Document). d.id))
+
+id_for-front : (id : ℕ) (ws : List (List ℕ)) (k : ℕ) (word : List ℕ) → length (id_for id (take k ws) word) ≤ length (id_for id ws word)
+id_for-front id ws k word =
+    let more = fewer (bytes_eq word) (take k ws) (drop k ws) in
+    let all = ap (λ vs. length (filter (bytes_eq word) vs)) (take-append-drop k ws) in
+    omega (arith, more, all, length-map (filter (bytes_eq word) (take k ws)) (λ _. id), length-map (filter (bytes_eq word) ws) (λ _. id))
+
+module _ (docs : List Document) (i : ℕ) (d : Document) (within : i < length docs) (at : get_or docs i d ≡ d) (is : IsDocument d) where
+  -- what a list has after some of a document's words is no more than it is to have
+  pub partial_fits : (k : ℕ) (word : List ℕ) → length (ids_with (take i docs) word ++ id_for d.id (take k d.words) word) ≤ length (ids_with docs word)
+  partial_fits k word =
+      let whole = ap length (with_document docs i d within at is word) in
+      omega (
+        arith,
+        whole,
+        length-append (ids_with (take i docs) word) (id_for d.id (take k d.words) word),
+        length-append (ids_with (take i docs) word) (id_for d.id d.words word),
+        id_for-front d.id d.words k word,
+        ids_with-front docs (i + 1) word,
+      )
+
+  -- and less where the next word is the list's own
+  pub partial_less : (k : ℕ) → k < length d.words
+      → length (ids_with (take i docs) (get_or d.words k []) ++ id_for d.id (take k d.words) (get_or d.words k [])) < length (ids_with docs (get_or d.words k []))
+  partial_less k inside =
+      let word : List ℕ = get_or d.words k [] in
+      let more : id_for d.id (take (k + 1) d.words) word ≡ id_for d.id (take k d.words) word ++ id_for d.id (word ∷ []) word =
+      ap (λ vs. id_for d.id vs word) (take_more d.words k [] inside) ∙ id_for-push d.id (take k d.words) word word in
+      let one : length (id_for d.id (word ∷ []) word) ≡ 1 = ap (λ b. length (map (λ _. d.id) (cond b (word ∷ []) []))) (nat_list_eq_equiv.refl word) in
+      omega (
+        arith,
+        partial_fits (k + 1) word,
+        ap length more,
+        one,
+        length-append (id_for d.id (take k d.words) word) (id_for d.id (word ∷ []) word),
+        length-append (ids_with (take i docs) word) (id_for d.id (take k d.words) word),
+        length-append (ids_with (take i docs) word) (id_for d.id (take (k + 1) d.words) word),
+      )

@@ -1,5 +1,17 @@
-mod JoinedBytes
-mod CellBytes
-mod Clashes
+mod ListsWithin
+mod KeyTags
+mod Ranks
+mod Neighbours
+mod FoundClash
+mod RankWrites
+mod TagLists
+mod FlatLists
+mod WrittenBack
+mod PlacedLaws
 mod AddedWords
-pub mod SealedEntries
+mod ListSteps
+mod ListWrites
+mod PlacedSorted
+pub mod AcceptedLaws
+pub mod BuildErrors
+pub mod SortedIndex

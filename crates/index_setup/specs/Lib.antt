@@ -1,4 +1,5 @@
-pub mod Cells
 pub mod Entries
 pub mod Lists
+pub mod Placed
 pub mod Refused
+pub mod Tagged

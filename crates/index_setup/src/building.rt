@@ -1,29 +1,29 @@
-ghost use Rattle.std.specs.Prelude.{◌≡◌, ◌≢◌, ◌+◌, ◌*◌, ◌≤◌, ◌^◌, length, map, flat_map, vec_len, None, IfOk, IfSome, IsOkUnless};
-ghost use Rattle.std.specs.List.Sorted.{IsPermutation};
+ghost use Rattle.std.specs.Prelude.{◌≡◌, ◌≢◌, ◌+◌, ◌*◌, ◌<◌, ◌^◌, length, map, flat_map, None, IfOk, IfSome, IsOk, IsOkUnless};
 ghost use Rattle.client_registry.specs.Acceptance.{blocks_of, setup_refusal};
 ghost use Rattle.client_registry.specs.Documents.{ids_with, words_of};
+ghost use Rattle.client_registry.specs.FirstClash as clashes;
 ghost use Rattle.client_registry.specs.Setup.{setup_of};
-ghost use Rattle.client_registry.specs.WordBytes.{word_bytes};
 ghost use Rattle.keyed_fn.specs.KeyedFn.{keyed_fn};
-ghost use Rattle.keyed_fn.specs.KeyFormulas.{cell_pad, list_label, part_key};
-ghost use Rattle.keyed_fn.specs.Xored.{xored};
-ghost use Rattle.two_level.specs.Laid.{cell_bytes};
+ghost use Rattle.list_packing.specs.Parts.{parts};
 ghost use Rattle.sse_frames.specs.Frames.{entry_bytes};
-ghost use Rattle.sse_frames.specs.Order.{by_bytes};
-ghost use Rattle.index_setup.specs.Cells.{HaveCells};
-ghost use Rattle.index_setup.specs.Entries.{as_entry, dictionary_bytes, label_clash, laid_in_cell, word_entry};
-ghost use Rattle.index_setup.specs.Lists.{as_lists, lists_among, ListsFit};
-ghost use Rattle.index_setup.specs.Refused.{refused_by_size};
+ghost use Rattle.sse_model.specs.Positions.{ranks_of};
+ghost use Rattle.index_setup.specs.Entries.{array_bytes, dictionary_bytes, index_labels, place_clash, setup_blocks, setup_entries, setup_ranks, word_labels};
+ghost use Rattle.index_setup.specs.Placed.{placed};
+ghost use Rattle.index_setup.specs.Refused.{build_refusal, clash_refusal, refused_by_size};
+ghost use Rattle.index_setup.specs.Tagged.{IsOrderOf};
 
-use crate::clash::first_clash;
-use crate::entry::Entry;
 use crate::fault::BuildFault;
 use crate::index::Index;
+use crate::labels::{blocks_in, labels_of, tags_of};
 use crate::lists::lists_of;
-use client_registry::{Docs, Word, size_of};
+use crate::order::{by_tag, first_clash, ranks};
+use crate::shape::Shape;
+use crate::tagged::Tagged;
+use crate::writing::{write_blocks, write_entry};
+use client_registry::{Docs, size_of};
 use keyed_fn::Keyed;
 use std::alloc::{AllocError, Global};
-use word_keys::{MasterKey, PreparedMaster, seal};
+use word_keys::{MasterKey, PreparedMaster};
 
 /// Builds the index of the documents with b numbers per cell and `big` numbers per block.
 ///
@@ -36,135 +36,182 @@ pub fn build<K: Keyed>(
     b: u64,
     big: u64,
 ) -> Result<Index, BuildFault>
+    // Which error: a refusal by size takes no memory, so none hides it; a clash is named, or memory is wanting.
     ensures refused { IfSome (setup_refusal docs.now b big) (λ fault. result ≡ Err (refused_by_size fault)) }
-    ensures not_built { setup_refusal docs.now b big ≡ None → blocks_of (setup_of docs.now b big) ≢ 0 → result ≡ Err BuildFault.NotBuilt }
-    ensures clash { setup_refusal docs.now b big ≡ None → blocks_of (setup_of docs.now b big) ≡ 0 → result ≢ Err BuildFault.NoMemory → IfSome (label_clash (keyed_fn K.prf K.pad) key.now (setup_of docs.now b big)) (λ words. result ≡ Err (BuildFault.LabelClash words.0 words.1)) }
-    ensures built { setup_refusal docs.now b big ≡ None → blocks_of (setup_of docs.now b big) ≡ 0 → label_clash (keyed_fn K.prf K.pad) key.now (setup_of docs.now b big) ≡ None → IsOkUnless result BuildFault.NoMemory }
+    ensures clash { setup_refusal docs.now b big ≡ None → result ≢ Err BuildFault.NoMemory → IfSome (clash_refusal (keyed_fn K.prf K.pad) key.now (setup_of docs.now b big)) (λ fault. result ≡ Err fault) }
+    ensures built { build_refusal (keyed_fn K.prf K.pad) key.now docs.now b big ≡ None → IsOkUnless result BuildFault.NoMemory }
+    ensures accepted { IfOk result (λ _. build_refusal (keyed_fn K.prf K.pad) key.now docs.now b big ≡ None) }
+
+    // The index is the one of the definitions.
     ensures entries { IfOk result (λ index. index.entries.items ≡ dictionary_bytes (keyed_fn K.prf K.pad) key.now (setup_of docs.now b big)) }
-    ensures accepted { IfOk result (λ _. setup_refusal docs.now b big ≡ None) }
-    ensures blocks { IfOk result (λ _. blocks_of (setup_of docs.now b big) ≡ 0) }
-    ensures differ { IfOk result (λ _. label_clash (keyed_fn K.prf K.pad) key.now (setup_of docs.now b big) ≡ None) }
+    ensures array { IfOk result (λ index. index.array.items ≡ array_bytes (keyed_fn K.prf K.pad) key.now (setup_of docs.now b big)) }
     ensures words { IfOk result (λ index. index.words ≡ length (words_of docs.now)) }
+    ensures blocks { IfOk result (λ index. index.blocks ≡ blocks_of (setup_of docs.now b big)) }
     ensures b { IfOk result (λ index. index.b ≡ b) }
     ensures big { IfOk result (λ index. index.big ≡ big) }
 {
-    let (b, big) = accepted(docs, b, big)?;
-    let entries = entries_of(alloc, keyed, key, docs, b)?;
-    if let Some((first, second)) = first_clash(alloc, &entries)? {
-        return Err(BuildFault::LabelClash { first, second });
-    }
-    let entries = by_label(entries)?;
-    Ok(Index::new(b, big, entries.len() as u32, joined(alloc, &entries, b)?))
+    let (shape, blocks) = accepted(docs, b, big)?;
+    let master = key.prepare(keyed);
+    let labels = label_order(alloc, keyed, &master, docs)?;
+    let ranks = block_ranks(alloc, keyed, &master, docs, shape, blocks)?;
+    Ok(write_index(alloc, keyed, &master, docs, shape, &labels, &ranks)?)
 }
 
-/// The parameters, where the size of the index with them is within its limits and it has no blocks.
-fn accepted(docs: &Docs, b: u64, big: u64) -> Result<(u16, u16), BuildFault>
-    ensures some { IfOk result (λ shape. 1 ≤ shape.0) }
-    ensures cell { IfOk result (λ shape. shape.0 ≤ 64) }
-    ensures block { IfOk result (λ shape. shape.1 ≤ 256) }
+/// The parameters and how many blocks the lists take, where the size of the index is within its limits.
+fn accepted(docs: &Docs, b: u64, big: u64) -> Result<(Shape, u32), BuildFault>
     ensures refused { IfSome (setup_refusal docs.now b big) (λ fault. result ≡ Err (refused_by_size fault)) }
-    ensures not_built { setup_refusal docs.now b big ≡ None → blocks_of (setup_of docs.now b big) ≢ 0 → result ≡ Err BuildFault.NotBuilt }
-    ensures accepted { setup_refusal docs.now b big ≡ None → blocks_of (setup_of docs.now b big) ≡ 0 → result ≡ Ok (b, big) }
+    ensures accepted { setup_refusal docs.now b big ≡ None → IsOk result }
     ensures not_refused { IfOk result (λ _. setup_refusal docs.now b big ≡ None) }
-    ensures no_blocks { IfOk result (λ _. blocks_of (setup_of docs.now b big) ≡ 0) }
-    ensures b { IfOk result (λ shape. shape.0 ≡ b) }
-    ensures big { IfOk result (λ shape. shape.1 ≡ big) }
+    ensures b { IfOk result (λ found. found.0.b ≡ b) }
+    ensures big { IfOk result (λ found. found.0.big ≡ big) }
 {
     let size = size_of(docs, b, big)?;
-    if size.blocks > 0 {
-        return Err(BuildFault::NotBuilt);
-    }
-    Ok((b as u16, big as u16))
+    let shape = Shape {
+        b: b as u16,
+        big: big as u16,
+    };
+    Ok((shape, size.blocks))
 }
 
-/// An entry for each word, by word number.
-fn entries_of<K: Keyed>(
+/// The labels of the words with their numbers, by rising label.
+fn label_order<K: Keyed>(
     alloc: Global,
     keyed: &K,
-    key: &MasterKey,
+    master: &PreparedMaster<K>,
     docs: &Docs,
-    b: u16,
-) -> Result<Vec<Entry>, AllocError>
-    requires fit { ListsFit b docs.now }
-    requires cell { b ≤ 64 }
-    ensures entries { IfOk result (λ entries. map as_entry entries.items ≡ map (word_entry (keyed_fn K.prf K.pad) key.now b docs.now) (words_of docs.now)) }
-    ensures cells { IfOk result (λ entries. HaveCells b entries.items) }
-    ensures count { IfOk result (λ entries. vec_len entries ≡ length (words_of docs.now)) }
-    ensures most { IfOk result (λ entries. vec_len entries ≤ 2 ^ 20) }
+) -> Result<Vec<Tagged>, BuildFault>
+    ensures clash { result ≢ Err BuildFault.NoMemory → IfSome (clashes.first_clash (word_labels (keyed_fn K.prf K.pad) master.now (words_of docs.now))) (λ words. result ≡ Err (BuildFault.LabelClash words.0 words.1)) }
+    ensures ordered { clashes.first_clash (word_labels (keyed_fn K.prf K.pad) master.now (words_of docs.now)) ≡ None → IsOkUnless result BuildFault.NoMemory }
+    ensures differ { IfOk result (λ _. clashes.first_clash (word_labels (keyed_fn K.prf K.pad) master.now (words_of docs.now)) ≡ None) }
+    ensures order { IfOk result (λ order. IsOrderOf (word_labels (keyed_fn K.prf K.pad) master.now (words_of docs.now)) order.items) }
 {
-    let lists = lists_of(alloc, docs)?;
-    let master = key.prepare(keyed);
-    let mut entries = Vec::with_capacity(alloc, docs.words())?;
-    'words: for w in 0..docs.words() {
-        let cell = cell_of(alloc, &lists[w], b)?;
-        entries.push(entry_of(keyed, &master, docs.word(w), cell))?;
+    let order = by_tag(labels_of(alloc, keyed, master, docs)?)?;
+    if let Some((first, second)) = first_clash(&order) {
+        return Err(BuildFault::LabelClash { first, second });
     }
-    Ok(entries)
+    Ok(order)
 }
 
-/// The entry of a word: its label, and its cell under keystream segment 0 of the word's list key.
-fn entry_of<K: Keyed>(
+/// The place of each block in the array, by block position.
+fn block_ranks<K: Keyed>(
+    alloc: Global,
     keyed: &K,
     master: &PreparedMaster<K>,
-    word: &Word,
-    mut cell: Vec<u8>,
-) -> Entry
-    requires { vec_len cell ≤ 2048 }
-    ensures label { result.label ≡ list_label (keyed_fn K.prf K.pad) (part_key (keyed_fn K.prf K.pad) master.now 1 (word_bytes word.now)) }
-    ensures size { vec_len result.cell ≡ vec_len cell }
-    ensures cell { result.cell.items ≡ xored cell.items (cell_pad (keyed_fn K.prf K.pad) (part_key (keyed_fn K.prf K.pad) master.now 2 (word_bytes word.now)) (vec_len cell)) }
+    docs: &Docs,
+    shape: Shape,
+    blocks: u32,
+) -> Result<Vec<u32>, BuildFault>
+    requires accepted { setup_refusal docs.now shape.b shape.big ≡ None }
+    ensures clash { result ≢ Err BuildFault.NoMemory → IfSome (place_clash (keyed_fn K.prf K.pad) master.now (setup_of docs.now shape.b shape.big)) (λ blocks. result ≡ Err (BuildFault.PlaceClash blocks.0 blocks.1)) }
+    ensures placed { place_clash (keyed_fn K.prf K.pad) master.now (setup_of docs.now shape.b shape.big) ≡ None → IsOkUnless result BuildFault.NoMemory }
+    ensures differ { IfOk result (λ _. place_clash (keyed_fn K.prf K.pad) master.now (setup_of docs.now shape.b shape.big) ≡ None) }
+    ensures ranks { IfOk result (λ ranks. ranks.items ≡ setup_ranks (keyed_fn K.prf K.pad) master.now (setup_of docs.now shape.b shape.big)) }
 {
-    let keys = master.list_keys(keyed, word);
-    let label = keys.label(keyed);
-    seal(keys.pads().next(), keyed, &mut cell);
-    Entry { label, cell }
-}
-
-/// The cell of a list that fits it: the kind byte 0, then b numbers of 8 bytes, high byte first, the
-/// list's identifiers and then zeros.
-fn cell_of(alloc: Global, ids: &[u64], b: u16) -> Result<Vec<u8>, AllocError>
-    requires fits { length ids.now ≤ b }
-    requires most { b ≤ 64 }
-    ensures cell { IfOk result (λ cell. cell.items ≡ cell_bytes (laid_in_cell b ids.now)) }
-    ensures size { IfOk result (λ cell. vec_len cell ≡ 1 + 8 * b) }
-{
-    let size = 1 + 8 * b as usize;
-    let mut cell = Vec::with_capacity(alloc, size)?;
-    cell.push(0)?;
-    'ids: for id in ids {
-        cell.extend_from_slice(&id.to_be_bytes())?;
+    let tags = by_tag(tags_of(alloc, keyed, master, docs, shape, blocks)?)?;
+    if let Some((first, second)) = first_clash(&tags) {
+        return Err(BuildFault::PlaceClash { first, second });
     }
-    cell.resize(size, 0)?;
-    Ok(cell)
+    Ok(ranks(alloc, &tags)?)
 }
 
-/// The entries by rising label.
-fn by_label(entries: Vec<Entry>) -> Result<Vec<Entry>, AllocError>
-    ensures sorted { IfOk result (λ sorted. sorted.items ≡ by_bytes (λ entry. entry.label) entries.items) }
-    ensures permutation { IfOk result (λ sorted. IsPermutation entries.items sorted.items) }
-    ensures count { IfOk result (λ sorted. vec_len sorted ≡ vec_len entries) }
+/// The index, with each cell and each block encrypted in its place. `labels` are by rising label, `block_ranks` has
+/// the place of each block.
+fn write_index<K: Keyed>(
+    alloc: Global,
+    keyed: &K,
+    master: &PreparedMaster<K>,
+    docs: &Docs,
+    shape: Shape,
+    labels: &[Tagged],
+    block_ranks: &[u32],
+) -> Result<Index, AllocError>
+    requires accepted { setup_refusal docs.now shape.b shape.big ≡ None }
+    requires labels { IsOrderOf (index_labels (keyed_fn K.prf K.pad) master.now (setup_of docs.now shape.b shape.big)) labels.now }
+    requires block_ranks { block_ranks.now ≡ setup_ranks (keyed_fn K.prf K.pad) master.now (setup_of docs.now shape.b shape.big) }
+    ensures entries { IfOk result (λ index. index.entries.items ≡ dictionary_bytes (keyed_fn K.prf K.pad) master.now (setup_of docs.now shape.b shape.big)) }
+    ensures array { IfOk result (λ index. index.array.items ≡ array_bytes (keyed_fn K.prf K.pad) master.now (setup_of docs.now shape.b shape.big)) }
+    ensures words { IfOk result (λ index. index.words ≡ length (words_of docs.now)) }
+    ensures blocks { IfOk result (λ index. index.blocks ≡ blocks_of (setup_of docs.now shape.b shape.big)) }
+    ensures b { IfOk result (λ index. index.b ≡ shape.b) }
+    ensures big { IfOk result (λ index. index.big ≡ shape.big) }
 {
-    let mut sorted = entries;
-    sorted.sort_by_key(
-        |entry|
-            ensures { result ≡ entry.now.label }
-        { entry.label },
-    )?;
-    Ok(sorted)
+    let words = docs.words();
+    let blocks = block_ranks.len();
+    let word_ranks = ranks(alloc, labels)?;
+    let ids = lists_of(alloc, docs)?;
+    let mut entries = vec![in alloc; 0u8; words * shape.entry_size()]?;
+    let mut array = vec![in alloc; 0u8; blocks * shape.block_size()]?;
+    let from = Sources {
+        labels,
+        word_ranks: &word_ranks,
+        ids: &ids,
+        block_ranks,
+    };
+    write_lists(keyed, master, docs, shape, from, &mut entries, &mut array);
+    Ok(Index::new(
+        shape.b,
+        shape.big,
+        words as u32,
+        blocks as u32,
+        entries,
+        array,
+    ))
 }
 
-/// The entries joined: for each its label, then its cell.
-fn joined(alloc: Global, entries: &[Entry], b: u16) -> Result<Vec<u8>, AllocError>
-    requires cells { HaveCells b entries.now }
-    requires cell { b ≤ 64 }
-    requires most { length entries.now ≤ 2 ^ 20 }
-    ensures bytes { IfOk result (λ bytes. bytes.items ≡ flat_map entry_bytes (map as_entry entries.now)) }
-    ensures size { IfOk result (λ bytes. vec_len bytes ≡ length entries.now * (17 + 8 * b)) }
+/// What the lists are written from.
+#[derive(Clone, Copy)]
+struct Sources<'a> {
+    /// The labels by rising label.
+    labels: &'a [Tagged],
+    /// The place of each word's entry.
+    word_ranks: &'a [u32],
+    /// The identifiers of all lists, by word number.
+    ids: &'a [u64],
+    /// The place of each block.
+    block_ranks: &'a [u32],
+}
+
+/// Writes the entry and the blocks of each word in their places.
+fn write_lists<K: Keyed>(
+    keyed: &K,
+    master: &PreparedMaster<K>,
+    docs: &Docs,
+    shape: Shape,
+    from: Sources<'_>,
+    entries: &mut [u8],
+    array: &mut [u8],
+)
+    requires accepted { setup_refusal docs.now shape.b shape.big ≡ None }
+    requires labels { IsOrderOf (index_labels (keyed_fn K.prf K.pad) master.now (setup_of docs.now shape.b shape.big)) from.labels.now }
+    requires word_ranks { from.word_ranks.now ≡ ranks_of (index_labels (keyed_fn K.prf K.pad) master.now (setup_of docs.now shape.b shape.big)) }
+    requires ids { from.ids.now ≡ flat_map (ids_with docs.now) (words_of docs.now) }
+    requires block_ranks { from.block_ranks.now ≡ setup_ranks (keyed_fn K.prf K.pad) master.now (setup_of docs.now shape.b shape.big) }
+    requires entries_size { length entries.old ≡ length (words_of docs.now) * (17 + 8 * shape.b) }
+    requires array_size { length array.old ≡ length from.block_ranks.now * (8 * shape.big) }
+    ensures entries { parts (17 + 8 * shape.b) entries.new ≡ placed (parts (17 + 8 * shape.b) entries.old) from.entry.word_ranks.now (map entry_bytes (setup_entries (keyed_fn K.prf K.pad) master.now (setup_of docs.now shape.b shape.big))) }
+    ensures array { parts (8 * shape.big) array.new ≡ placed (parts (8 * shape.big) array.old) from.entry.block_ranks.now (map (λ block. block.text) (setup_blocks (keyed_fn K.prf K.pad) master.now (setup_of docs.now shape.b shape.big))) }
 {
-    let mut bytes = Vec::with_capacity(alloc, entries.len() * (17 + 8 * b as usize))?;
-    'entries: for entry in entries {
-        bytes.extend_from_slice(&entry.label)?;
-        bytes.extend_from_slice(&entry.cell)?;
+    let mut ids = from.ids;
+    let mut ranks = from.block_ranks;
+    'words: for w in 0..docs.words() {
+        let n = docs.list_len(w);
+        let (list, later_ids) = ids.split_at(n as usize);
+        let (places, later_ranks) = ranks.split_at(blocks_in(n, shape) as usize);
+        let mut pads = master.list_pads(keyed, docs.word(w));
+        let place = from.word_ranks[w] as usize;
+        let at = place * shape.entry_size();
+        let entry = &mut entries[at..at + shape.entry_size()];
+        write_entry(
+            keyed,
+            pads.next(),
+            &from.labels[place].tag,
+            list,
+            places,
+            shape,
+            entry,
+        );
+        write_blocks(keyed, &mut pads, list, places, shape, array);
+        ids = later_ids;
+        ranks = later_ranks;
     }
-    Ok(bytes)
 }

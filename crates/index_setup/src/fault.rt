@@ -10,10 +10,11 @@ pub enum BuildFault {
     ListTooLong { word: u32, n: u64 },
     /// The index would have so many bytes, more than 2^28.
     TooManyBytes(u64),
-    /// A list is longer than b, and blocks aren't built yet.
-    NotBuilt,
     /// The labels of these two word numbers are equal; `second` is the least such number, then `first`.
     LabelClash { first: u32, second: u32 },
+    /// The places of these two blocks are equal. Blocks are counted over all words, by word number and then by
+    /// block number; `second` is the least such position, then `first`.
+    PlaceClash { first: u32, second: u32 },
     /// There is no memory for the index.
     NoMemory,
 }

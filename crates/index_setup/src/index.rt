@@ -1,36 +1,59 @@
-ghost use Rattle.std.specs.Prelude.{◌≡◌, ◌+◌, ◌*◌, ◌≤◌, ◌^◌, length, vec_len};
+ghost use Rattle.std.specs.Prelude.{◌≡◌, ◌+◌, ◌*◌, ◌<◌, ◌≤◌, ◌^◌, ◌++◌, [], length, slice_index_or, vec_len};
+ghost use Rattle.list_packing.specs.Parts.{parts};
 
-/// The index of a setup: for each word its label and encrypted cell, by rising label.
+use list_packing::part;
+
+/// The index of a setup: for each word its label and encrypted cell, by rising label, and the encrypted blocks of the
+/// longer lists by rising place tag. What it hands out takes no memory.
 #[derive(Debug, Drop)]
 pub struct Index {
     b: u16,
     big: u16,
     words: u32,
+    blocks: u32,
     entries: Vec<u8>,
+    array: Vec<u8>,
     pub ghost some: { 1 ≤ b },
     pub ghost cell: { b ≤ 64 },
+    pub ghost block_some: { 1 ≤ big },
     pub ghost block: { big ≤ 256 },
     pub ghost most: { words ≤ 2 ^ 20 },
+    pub ghost few_blocks: { blocks ≤ 2 ^ 20 },
     pub ghost whole: { vec_len entries ≡ words * (17 + 8 * b) },
+    pub ghost array_whole: { vec_len array ≡ blocks * (8 * big) },
 }
 
 impl Index {
-    pub(crate) fn new(b: u16, big: u16, words: u32, entries: Vec<u8>) -> Index
+    pub(crate) fn new(
+        b: u16,
+        big: u16,
+        words: u32,
+        blocks: u32,
+        entries: Vec<u8>,
+        array: Vec<u8>,
+    ) -> Index
         requires some { 1 ≤ b }
         requires cell { b ≤ 64 }
+        requires block_some { 1 ≤ big }
         requires block { big ≤ 256 }
         requires most { words ≤ 2 ^ 20 }
+        requires few_blocks { blocks ≤ 2 ^ 20 }
         requires whole { vec_len entries ≡ words * (17 + 8 * b) }
+        requires array_whole { vec_len array ≡ blocks * (8 * big) }
         ensures b { result.b ≡ b }
         ensures big { result.big ≡ big }
         ensures words { result.words ≡ words }
+        ensures blocks { result.blocks ≡ blocks }
         ensures entries { result.entries ≡ entries }
+        ensures array { result.array ≡ array }
     {
         Index {
             b,
             big,
             words,
+            blocks,
             entries,
+            array,
         }
     }
 
@@ -55,11 +78,11 @@ impl Index {
         self.words
     }
 
-    /// How many blocks it has: none, since each list fits its cell.
+    /// How many blocks it has.
     pub fn blocks(&self) -> u32
-        ensures { result ≡ 0 }
+        ensures { result ≡ self.now.blocks }
     {
-        0
+        self.blocks
     }
 
     /// The bytes of a cell: its kind byte and b numbers of 8 bytes.
@@ -69,10 +92,41 @@ impl Index {
         1 + 8 * self.b
     }
 
+    /// The bytes of a block: its numbers of 8 bytes.
+    pub fn block_size(&self) -> u16
+        ensures { result ≡ 8 * self.now.big }
+    {
+        8 * self.big
+    }
+
+    /// The label of 16 bytes and the encrypted cell of entry `i`, from 0, by rising label.
+    pub fn entry(&self, i: u32) -> (&[u8], &[u8])
+        requires { i < self.now.words }
+        ensures entry { result.0.now ++ result.1.now ≡ slice_index_or (parts (17 + 8 * self.now.b) self.now.entries.items) i [] }
+        ensures label { length result.0.now ≡ 16 }
+    {
+        part(&self.entries, 17 + 8 * self.b as usize, i as usize).split_at(16)
+    }
+
+    /// The encrypted block at place `i`, from 0, by rising place tag.
+    pub fn block(&self, i: u32) -> &[u8]
+        requires { i < self.now.blocks }
+        ensures { result.now ≡ slice_index_or (parts (8 * self.now.big) self.now.array.items) i [] }
+    {
+        part(&self.array, 8 * self.big as usize, i as usize)
+    }
+
     /// The entries by rising label, joined: for each word its label of 16 bytes, then its encrypted cell.
     pub fn entries(&self) -> &[u8]
         ensures { result.now ≡ self.now.entries.items }
     {
         &self.entries
+    }
+
+    /// The encrypted blocks by rising place tag, joined.
+    pub fn array(&self) -> &[u8]
+        ensures { result.now ≡ self.now.array.items }
+    {
+        &self.array
     }
 }

@@ -1,52 +1,62 @@
-ghost use Rattle.std.specs.Prelude.{◌≡◌, ◌+◌, ◌<◌, ◌++◌, ◌∷◌, [], length, take, vec_len, slice_set, slice_index_or, IfOk, OnOk};
-ghost use Rattle.client_registry.specs.Documents.{words_of};
-ghost use Rattle.index_setup.specs.Lists.{as_lists, lists_among};
+ghost use Rattle.std.specs.Prelude.{◌≡◌, ◌+◌, ◌<◌, ◌≤◌, ◌^◌, length, take, flat_map, sum, IfOk};
+ghost use Rattle.client_registry.specs.Documents.{ids_with, list_lengths, words_of};
+ghost use Rattle.index_setup.specs.Lists.{lists_among, starts_from, HoldsLists};
 
 use client_registry::Docs;
 use std::alloc::{AllocError, Global};
 
-/// For each word number the identifiers of the documents with that word, in the documents' order.
-pub(crate) fn lists_of(alloc: Global, docs: &Docs) -> Result<Vec<Vec<u64>>, AllocError>
-    ensures { IfOk result (λ lists. as_lists lists.items ≡ lists_among docs.now docs.now) }
+/// For each word, by word number, the identifiers of the documents with that word, in the documents' order: one list
+/// behind the other. How long each is the documents know, so one pass over them fills all.
+pub(crate) fn lists_of(alloc: Global, docs: &Docs) -> Result<Vec<u64>, AllocError>
+    ensures { IfOk result (λ ids. ids.items ≡ flat_map (ids_with docs.now) (words_of docs.now)) }
 {
-    let mut lists = empty_lists(alloc, docs)?;
+    let mut next = starts_of(alloc, docs)?;
+    let mut ids = vec![in alloc; 0u64; total_of(docs)]?;
     'documents: for i in 0..docs.len() {
-        add_document(docs, i, &mut lists)?;
+        add_document(docs, i, &mut ids, &mut next);
     }
-    Ok(lists)
+    Ok(ids)
 }
 
-/// An empty list for each word.
-fn empty_lists(alloc: Global, docs: &Docs) -> Result<Vec<Vec<u64>>, AllocError>
-    ensures { IfOk result (λ lists. as_lists lists.items ≡ lists_among docs.now []) }
+/// How many identifiers all lists have.
+fn total_of(docs: &Docs) -> usize
+    ensures total { result ≡ sum (list_lengths docs.now) }
+    ensures most { result ≤ 2 ^ 20 }
 {
-    let mut lists = Vec::with_capacity(alloc, docs.words())?;
-    'lists: for w in 0..docs.words() {
-        lists.push(Vec::new(alloc))?;
+    let mut sum = 0;
+    'words: for w in 0..docs.words() {
+        sum += docs.list_len(w) as usize;
     }
-    Ok(lists)
+    sum
 }
 
-/// Appends the identifier of document `i` to the list of each of its words, behind those of the
-/// documents before it.
-fn add_document(docs: &Docs, i: usize, lists: &mut Vec<Vec<u64>>) -> Result<(), AllocError>
+/// Where the list of each word begins.
+fn starts_of(alloc: Global, docs: &Docs) -> Result<Vec<u32>, AllocError>
+    ensures { IfOk result (λ starts. starts.items ≡ starts_from 0 (list_lengths docs.now)) }
+{
+    let mut starts = Vec::with_capacity(alloc, docs.words())?;
+    let mut start = 0;
+    'words: for w in 0..docs.words() {
+        starts.push(start)?;
+        start += docs.list_len(w);
+    }
+    Ok(starts)
+}
+
+/// Puts the identifier of document `i` into the list of each of its words, behind those of the documents before it.
+/// `next` has for each word where the next identifier goes.
+fn add_document(docs: &Docs, i: usize, ids: &mut [u64], next: &mut [u32])
     requires within { i < length docs.now }
-    requires before { as_lists lists.old.items ≡ lists_among docs.now (take i docs.now) }
-    ensures { OnOk result (as_lists lists.new.items ≡ lists_among docs.now (take (i + 1) docs.now)) }
+    requires most { length ids.old ≤ 2 ^ 20 }
+    requires before { HoldsLists (list_lengths docs.now) (lists_among docs.now (take i docs.now)) ids.old next.old }
+    ensures { HoldsLists (list_lengths docs.now) (lists_among docs.now (take (i + 1) docs.now)) ids.new next.new }
 {
     let doc = docs.get(i);
     let id = doc.id.get();
     'words: for number in doc.numbers {
-        add_identifier(lists, *number as usize, id)?;
+        let word = *number as usize;
+        let at = next[word];
+        ids[at as usize] = id;
+        next[word] = at + 1;
     }
-    Ok(())
-}
-
-/// Appends the identifier to the list of this number.
-fn add_identifier(lists: &mut Vec<Vec<u64>>, number: usize, id: u64) -> Result<(), AllocError>
-    requires { number < vec_len lists.old }
-    ensures { OnOk result (as_lists lists.new.items ≡ slice_set (as_lists lists.old.items) number (slice_index_or (as_lists lists.old.items) number [] ++ id ∷ [])) }
-{
-    lists[number].push(id)?;
-    Ok(())
 }

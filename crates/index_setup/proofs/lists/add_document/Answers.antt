@@ -1,42 +1,53 @@
-use Rattle.std.proofs.Common.{◌++◌, ◌∷◌, [], take, set, get_or, refl, ap, sym, ◌∙◌, arith}
-use Rattle.std.proofs.lemmas.Grind.{get_or_default_zero}
-use Rattle.std.proofs.lemmas.List.{take_all}
+use Rattle.std.proofs.Common.{◌<◌, length, take, get_or, arith, refl}
 use Rattle.std.proofs.lemmas.Option.{get_or_from_slice_get}
-use Rattle.client_registry.proofs.DistinctLaws.{position-at, IsDistinct-first_seen}
-use Rattle.client_registry.proofs.SeenWords.{front_more}
-use Rattle.client_registry.specs.Documents.{all_words, words_of}
-use Rattle.client_registry.specs.Numbered.{document_by, words_by_number}
-use Rattle.index_setup.specs.Lists.{as_lists}
-use Rattle.index_setup.proofs.AddedWords.{lists_with, lists_with-found, lists_with-all}
+use Rattle.client_registry.specs.Documents.{words_of}
+use Rattle.client_registry.specs.Numbered.{document_by}
+use Rattle.index_setup.proofs.ListSteps.{step_first, step_place, step_within, step_holds, step_last}
 use Rattle.index_setup.proofs.lists.add_document.Goals as goal
+
+pub words-init : goal.words-init
+words-init c = step_first c.args.docs.now (take c.args.i c.args.docs.now) c.get-id.result c.args.ids.now c.args.next.now c.requires.before
+
+pub bounds-next-word : goal.bounds-next-word
+bounds-next-word c =
+    let docs = c.args.docs.now in
+    let doc = document_by (words_of docs) c.get-doc.result in
+    step_place docs c.args.i doc c.requires.within (get_or_from_slice_get docs c.args.i doc doc c.get-doc.ensures.document) c.get-doc.ensures.valid
+    c.get-doc.result.numbers.now refl c.get-doc.ensures.numbered c.words.number-index c.words-test.true c.words.ids c.words.next c.get-id.result c.get-id.ensures.number c.words.invariant
+
+pub bounds-ids-at : goal.bounds-ids-at
+bounds-ids-at c =
+    let docs = c.args.docs.now in
+    let doc = document_by (words_of docs) c.get-doc.result in
+    step_within docs c.args.i doc c.requires.within (get_or_from_slice_get docs c.args.i doc doc c.get-doc.ensures.document) c.get-doc.ensures.valid
+    c.get-doc.result.numbers.now refl c.get-doc.ensures.numbered c.words.number-index c.words-test.true c.words.ids c.words.next c.get-id.result c.get-id.ensures.number c.words.invariant
+
+pub overflow_add-next : goal.overflow_add-next
+overflow_add-next c =
+    let docs = c.args.docs.now in
+    let doc = document_by (words_of docs) c.get-doc.result in
+    let below : get_or c.words.next (get_or c.get-doc.result.numbers.now c.words.number-index 0) 0 < length c.words.ids =
+    step_within docs c.args.i doc c.requires.within (get_or_from_slice_get docs c.args.i doc doc c.get-doc.ensures.document) c.get-doc.ensures.valid
+    c.get-doc.result.numbers.now refl c.get-doc.ensures.numbered c.words.number-index c.words-test.true c.words.ids c.words.next c.get-id.result c.get-id.ensures.number c.words.invariant in
+    omega (arith, below, c.requires.most, c.words.auto.ids)
+
+pub bounds-next-word-in-words : goal.bounds-next-word-in-words
+bounds-next-word-in-words c =
+    let docs = c.args.docs.now in
+    let doc = document_by (words_of docs) c.get-doc.result in
+    step_place docs c.args.i doc c.requires.within (get_or_from_slice_get docs c.args.i doc doc c.get-doc.ensures.document) c.get-doc.ensures.valid
+    c.get-doc.result.numbers.now refl c.get-doc.ensures.numbered c.words.number-index c.words-test.true c.words.ids c.words.next c.get-id.result c.get-id.ensures.number c.words.invariant
 
 pub words-preserved : goal.words-preserved
 words-preserved c =
     let docs = c.args.docs.now in
-    let before = take c.args.i docs in
-    let id = c.get-id.result in
-    let words = words_of docs in
-    let numbers = c.get-doc.result.numbers.now in
-    let k = c.words.number-index in
-    let n = get_or numbers k 0 in
-    let word = get_or words n [] in
-    let front = words_by_number words (take k numbers) in
-    let lists = as_lists c.words.lists.items in
-    let within = c.get-doc.ensures.numbered k 0 c.words-test.true in
-    let more = front_more (λ m. get_or words m []) numbers k n word c.words-test.true (sym (get_or_default_zero numbers k n c.words-test.true)) refl in
-    c.in_ok-add_identifier.ensures
-    ∙ ap (λ ls. set ls n (get_or ls n [] ++ id ∷ [])) c.words.invariant
-    ∙ sym (lists_with-found docs before id front word n (position-at words (IsDistinct-first_seen (all_words docs)) n within))
-    ∙ ap (lists_with docs before id) (sym more)
+    let doc = document_by (words_of docs) c.get-doc.result in
+    step_holds docs c.args.i doc c.requires.within (get_or_from_slice_get docs c.args.i doc doc c.get-doc.ensures.document) c.get-doc.ensures.valid
+    c.get-doc.result.numbers.now refl c.get-doc.ensures.numbered c.words.number-index c.words-test.true c.words.ids c.words.next c.get-id.result c.get-id.ensures.number c.words.invariant
 
 pub returns : goal.returns
 returns c =
     let docs = c.args.docs.now in
-    let before = take c.args.i docs in
-    let words = words_of docs in
-    let numbers = c.get-doc.result.numbers.now in
-    let doc = document_by words c.get-doc.result in
-    c.words.invariant
-    ∙ ap (λ ns. lists_with docs before c.get-id.result (words_by_number words ns)) (take_all c.words.number-index numbers c.words-test.false)
-    ∙ ap (λ id. lists_with docs before id doc.words) c.get-id.ensures.number
-    ∙ lists_with-all docs c.args.i doc c.requires.within (get_or_from_slice_get docs c.args.i doc doc c.get-doc.ensures.document) c.get-doc.ensures.valid
+    let doc = document_by (words_of docs) c.get-doc.result in
+    step_last docs c.args.i doc c.requires.within (get_or_from_slice_get docs c.args.i doc doc c.get-doc.ensures.document) c.get-doc.ensures.valid
+    c.get-doc.result.numbers.now refl c.words.number-index c.words-test.false c.words.ids c.words.next c.get-id.result c.get-id.ensures.number c.words.invariant

@@ -1,9 +1,11 @@
-use Rattle.std.proofs.Common.{◌≡◌, take}
-use Rattle.client_registry.specs.Documents.{words_of}
+use Rattle.std.proofs.Common.{take}
+use Rattle.client_registry.specs.Documents.{list_lengths, words_of}
 use Rattle.client_registry.specs.Numbered.{words_by_number}
-use Rattle.index_setup.specs.Lists.{as_lists}
+use Rattle.index_setup.specs.Lists.{HoldsLists}
 use Rattle.index_setup.proofs.AddedWords.{lists_with}
 use Rattle.index_setup.proofs.lists.add_document.Given as goal
 
+-- the lists have the identifier behind those of the first words of the document
 abbrev pub invariant-words : goal.invariant-words
-invariant-words l = as_lists l.lists.items ≡ lists_with l.docs (take l.i l.docs) l.id (words_by_number (words_of l.docs) (take l.number-index l.number-items))
+invariant-words l =
+    HoldsLists (list_lengths l.docs) (lists_with l.docs (take l.i l.docs) l.id (words_by_number (words_of l.docs) (take l.number-index l.number-items))) l.ids l.next

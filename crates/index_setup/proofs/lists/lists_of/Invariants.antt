@@ -1,6 +1,11 @@
-use Rattle.std.proofs.Common.{◌≡◌, take}
-use Rattle.index_setup.specs.Lists.{as_lists, lists_among}
+use Rattle.std.proofs.Common.{◌≤◌, ◌^◌, length, take}
+use Rattle.client_registry.specs.Documents.{list_lengths}
+use Rattle.index_setup.specs.Lists.{lists_among, HoldsLists}
 use Rattle.index_setup.proofs.lists.lists_of.Given as goal
 
+-- the lists have the identifiers of the first i documents
 abbrev pub invariant-documents : goal.invariant-documents
-invariant-documents l = as_lists l.lists.items ≡ lists_among l.docs (take l.i l.docs)
+invariant-documents l = record {
+  most : length l.ids.items ≤ 2 ^ 20;
+  holds : HoldsLists (list_lengths l.docs) (lists_among l.docs (take l.i l.docs)) l.ids.items l.next.items;
+}

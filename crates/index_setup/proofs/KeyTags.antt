@@ -1,0 +1,33 @@
+-- The labels and the tags of a setup, by the key formulas.
+use Rattle.std.proofs.Common.{◌≡◌, ℕ, ◌+◌, List, [], ◌∷◌, ◌++◌, map, refl, ap, ◌∙◌}
+use Rattle.std.specs.List.{range_with_len}
+use Rattle.std.proofs.lemmas.List.{map-append}
+use Rattle.std.proofs.lemmas.Simd.{map-map}
+use Rattle.keyed_fn.specs.KeyedFn.{KeyedFn}
+use Rattle.keyed_fn.specs.KeyFormulas.{part_key, list_label, place_tag}
+use Rattle.client_registry.specs.Setup.{Setup, setup_words}
+use Rattle.sse_model.specs.Positions.{word_blocks, block_position, entries_from, blocks_from}
+use Rattle.sse_model.specs.Wire.{labels_in}
+use Rattle.index_setup.specs.Entries.{key_table, index_labels, index_tags, word_labels, block_tags}
+
+module _ (f : KeyedFn) (key : List ℕ) (s : Setup) where
+  labels_from : (first : ℕ) (words : List (List ℕ)) → labels_in (key_table f key s) (entries_from 0 s first words) ≡ word_labels f key words
+  labels_from first [] = refl
+  labels_from first (word ∷ words) = λ i. list_label f (part_key f key 1 word) ∷ labels_from (first + word_blocks s word) words i
+
+  -- the labels of the words
+  pub index_labels-are : index_labels f key s ≡ word_labels f key (setup_words s)
+  index_labels-are = labels_from 0 (setup_words s)
+
+  tags_from : (first : ℕ) (words : List (List ℕ)) → labels_in (key_table f key s) (blocks_from 0 s first words) ≡ block_tags f key s.shape s.documents words
+  tags_from first [] = refl
+  tags_from first (word ∷ words) =
+      let own = map (block_position 0 s first word) (range_with_len 0 (word_blocks s word)) in
+      map-append (λ p. key_table f key s p.label) own (blocks_from 0 s (first + word_blocks s word) words)
+      ∙ ap (λ tags. tags ++ labels_in (key_table f key s) (blocks_from 0 s (first + word_blocks s word) words))
+      (map-map (λ p. key_table f key s p.label) (block_position 0 s first word) (range_with_len 0 (word_blocks s word)))
+      ∙ ap (λ tags. map (place_tag f (part_key f key 6 word)) (range_with_len 0 (word_blocks s word)) ++ tags) (tags_from (first + word_blocks s word) words)
+
+  -- the tags of the blocks
+  pub index_tags-are : index_tags f key s ≡ block_tags f key s.shape s.documents (setup_words s)
+  index_tags-are = tags_from 0 (setup_words s)

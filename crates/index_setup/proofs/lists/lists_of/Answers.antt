@@ -1,0 +1,40 @@
+use Rattle.std.proofs.Common.{◌≡◌, ℕ, ◌+◌, ◌++◌, length, take, drop, replicate, sym, ap, subst, ◌∙◌, arith}
+use Rattle.std.proofs.lemmas.List.{take_all, length-replicate}
+use Rattle.client_registry.specs.Documents.{list_lengths}
+use Rattle.index_setup.specs.Lists.{lists_among, HoldsLists}
+use Rattle.index_setup.proofs.FlatLists.{HoldsLists-none, HoldsLists-all}
+use Rattle.index_setup.proofs.WrittenBack.{written_back}
+use Rattle.index_setup.proofs.lists.lists_of.Goals as goal
+
+pub documents-init : goal.documents-init
+documents-init c =
+    let zeros = c.in_ok-ids.ensures.items_if_clones_equal (λ y is. is) in
+    record {
+      most = omega (arith, ap length zeros, length-replicate {A = ℕ} c.total_of.result 0, c.total_of.ensures.most);
+      holds = HoldsLists-none c.args.docs.now c.in_ok-ids.ids.items c.in_ok-next.next.items (zeros ∙ ap (λ n. replicate n 0) c.total_of.ensures.total) c.in_ok-next.ensures;
+    }
+
+pub documents-preserved : goal.documents-preserved
+documents-preserved c =
+    let docs = c.args.docs.now in
+    let ids = c.documents.ids in
+    let next = c.documents.next in
+    let new_ids = c.add_document.new.ids in
+    let new_next = c.add_document.new.next in
+    let same_ids : length new_ids ≡ length ids.items = c.add_document.auto.ids ∙ ap length c.deref_mut.ensures.value in
+    let same_next : length new_next ≡ length next.items = c.add_document.auto.next ∙ ap length c.deref_mut-in-documents.ensures.value in
+    let ids_are = written_back new_ids ids.items ids.len ids.ok.0 same_ids in
+    let next_are = written_back new_next next.items next.len next.ok.0 same_next in
+    record {
+      most = omega (arith, ap length ids_are, same_ids, c.documents.invariant.most);
+      holds =
+          subst (λ xs. HoldsLists (list_lengths docs) (lists_among docs (take (c.documents.i + 1) docs)) xs (take next.len (new_next ++ drop (length new_next) next.items))) (sym ids_are)
+          (subst (HoldsLists (list_lengths docs) (lists_among docs (take (c.documents.i + 1) docs)) new_ids) (sym next_are) c.add_document.ensures);
+    }
+
+pub returns : goal.returns
+returns c =
+    let docs = c.args.docs.now in
+    HoldsLists-all docs c.documents.ids.items c.documents.next.items
+    (subst (λ among. HoldsLists (list_lengths docs) (lists_among docs among) c.documents.ids.items c.documents.next.items)
+    (take_all c.documents.i docs (omega (arith, c.len-i-end.ensures.len, c.documents-test.false))) c.documents.invariant.holds)

@@ -1,0 +1,9 @@
+use Rattle.std.proofs.Common.{◌≤◌, ◌+◌, length}
+use Rattle.index_setup.proofs.FoundClash.{IsFound}
+use Rattle.index_setup.proofs.order.first_clash.Given as goal
+
+abbrev pub invariant-neighbours : goal.invariant-neighbours
+invariant-neighbours l = record {
+  found : IsFound l.sorted l.k l.found;
+  most : l.k ≤ 1 + length l.sorted;
+}
