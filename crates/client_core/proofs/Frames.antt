@@ -1,24 +1,27 @@
 -- The frames that are left once one more was acknowledged.
-use Rattle.std.proofs.Common.{◌≡◌, ℕ, zero, suc, ◌+◌, ◌<◌, ◌≤◌, List, [], ◌∷◌, map, length, get_or, take, drop, vec_len, sym, ap, ◌∙◌, arith}
-use Rattle.std.specs.Prelude.{Vec, vec_items}
+use Rattle.std.proofs.Common.{◌≡◌, ℕ, zero, suc, ◌+◌, ◌<◌, ◌≤◌, List, [], ◌∷◌, map, length, get_or, take, drop, refl, sym, ap, ◌∙◌, arith}
 use Rattle.std.proofs.lemmas.List.{drop-drop, length-drop, length-map, nil_from_length}
-use Rattle.client_core.specs.Sending.{frame_list}
+use Rattle.sse_frames.specs.Frames.{FrameText, frame_bytes}
+use Rattle.sse_frames.specs.Sending.{numbered}
+use Rattle.client_core.proofs.FramesAt.{length-numbered}
 
--- one frame less is left
-pub one_less : (next : ℕ) (frames : List (List ℕ)) → drop (next + 1) frames ≡ drop 1 (drop next frames)
-one_less next frames = sym (drop-drop 1 next frames)
+tail : (q : ℕ) (fs : List (ℕ → FrameText)) → map frame_bytes (numbered (q + 1) (drop 1 fs)) ≡ drop 1 (map frame_bytes (numbered q fs))
+tail q [] = refl
+tail q (f ∷ fs) = refl
 
--- as many frames as their vector has
-pub length-frame_list : {Y Z : Type 0} (frames : Vec (Vec ℕ Y) Z) → length (frame_list frames) ≡ vec_len frames
-length-frame_list frames = length-map (vec_items frames) vec_items ∙ sym frames.ok.0
+module _ (next place : ℕ) (fs : List (ℕ → FrameText)) where
+  -- one frame less is left
+  pub one_less : map frame_bytes (numbered (next + 1) (drop (place + 1) fs)) ≡ drop 1 (map frame_bytes (numbered next (drop place fs)))
+  one_less = ap (λ gs. map frame_bytes (numbered (next + 1) gs)) (sym (drop-drop 1 place fs)) ∙ tail next (drop place fs)
 
--- behind the last frame none is left
-pub none_left : {Y Z : Type 0} (next : ℕ) (frames : Vec (Vec ℕ Y) Z) → vec_len frames ≤ next + 1 → drop 1 (drop next (frame_list frames)) ≡ []
-none_left next frames most =
-    nil_from_length (drop 1 (drop next (frame_list frames))) (omega (arith, most, length-drop 1 (drop next (frame_list frames)), length-drop next (frame_list frames), length-frame_list frames))
+  -- behind the last frame none is left
+  pub none_left : length fs ≤ place + 1 → drop 1 (map frame_bytes (numbered next (drop place fs))) ≡ []
+  none_left most =
+      let left = numbered next (drop place fs) in
+      nil_from_length (drop 1 (map frame_bytes left)) (omega (arith, most, length-drop 1 (map frame_bytes left), length-map left frame_bytes, length-numbered next (drop place fs), length-drop place fs))
 
 -- the first of the frames that are left
-pub first_left : {X Y : Type 0} (f : X → Y) (n : ℕ) (xs : List X) (x : X) → n < length xs → x ≡ get_or xs n x → take 1 (drop n (map f xs)) ≡ f x ∷ []
-first_left f n [] x inside e = absurd (omega arith)
-first_left f zero (y ∷ ys) x inside e = ap (λ z. f z ∷ []) (sym e)
-first_left f (suc n) (y ∷ ys) x inside e = first_left f n ys x (omega arith) e
+pub first_left : (next place : ℕ) (fs : List (ℕ → FrameText)) (e : ℕ → FrameText) → place < length fs → take 1 (map frame_bytes (numbered next (drop place fs))) ≡ frame_bytes (get_or fs place e next) ∷ []
+first_left next place [] e within = absurd (omega arith)
+first_left next zero (f ∷ fs) e within = refl
+first_left next (suc place) (f ∷ fs) e within = first_left next place fs e (omega (arith, within))

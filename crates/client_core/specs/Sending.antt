@@ -1,24 +1,28 @@
 -- What a contract sees of a client that sends.
-use Rattle.std.specs.Prelude.{◌≡◌, ◌≢◌, ℕ, ◌+◌, ◌-◌, ◌≤◌, Bool, false, ◌==◌, List, [], map, drop, Option, Some, None, Vec, vec_items, vec_len}
+use Rattle.std.specs.Prelude.{◌≡◌, ◌≢◌, ℕ, ◌+◌, ◌-◌, ◌≤◌, Bool, false, ◌==◌, List, [], map, drop, Option, Some, None}
+use Rattle.sse_frames.specs.Frames.{frame_bytes}
 use Rattle.sse_frames.specs.Replies.{ReplyText, Took, reply_bytes}
+use Rattle.sse_frames.specs.Sending.{numbered}
 use Rattle.client_core.specs.Faults.{IsFaultOf}
+use Rattle.client_core.specs.Setup.{frames_in, index_frames}
 use Rattle.client_core.specs.declared.behind.Behind.{Behind}
 use Rattle.client_core.specs.declared.client.Client.{Client}
+use Rattle.client_core.specs.declared.planned.Planned.{Planned}
 use Rattle.client_core.specs.declared.reply_fault.ReplyFault.{ReplyFault}
 use Rattle.client_core.specs.declared.sending.Taken.{Taken}
 use Rattle.client_core.specs.declared.sending.Taken.TheVariants as taken
 
--- frames in their vectors, as lists of bytes
-abbrev pub frame_list : {Y Z : Type 0} → Vec (Vec ℕ Y) Z → List (List ℕ)
-frame_list frames = map vec_items (vec_items frames)
+-- the frames of a plan, numbered from 0
+abbrev pub planned_frames : Planned → List (List ℕ)
+planned_frames planned = map frame_bytes (numbered 0 (index_frames planned.index))
 
 -- the frames that the server may lack, in the order in which they are sent
 abbrev pub to_send : Behind → List (List ℕ)
-to_send behind = drop behind.next (frame_list behind.frames)
+to_send behind = map frame_bytes (numbered behind.next (drop behind.place (index_frames behind.planned.index)))
 
 -- how many frames the server may lack
 abbrev pub frames_left : Behind → ℕ
-frames_left behind = vec_len behind.frames - behind.next
+frames_left behind = frames_in behind.planned.index - behind.place
 
 -- how many it may lack once a reply was taken
 abbrev pub left_behind : Taken → ℕ

@@ -1,35 +1,41 @@
 -- Which frames carry the index of a setup.
-use Rattle.std.specs.Prelude.{◌≡◌, ℕ, ◌+◌, ◌*◌, ◌≤◌, List, [], ◌∷◌, ◌++◌, length, map}
+use Rattle.std.specs.Prelude.{◌≡◌, ℕ, ◌+◌, ◌*◌, List, [], ◌∷◌, ◌++◌, length, map}
+use Rattle.std.specs.Int.{div_ceil}
 use Rattle.list_packing.specs.Parts.{parts}
-use Rattle.two_level.specs.Shape.{Shape}
-use Rattle.sse_frames.specs.Frames.{Entry, FrameText, SetupBegin, SetupDict, SetupEnd, IsNumber, IsCellWidth, Rises, labels_of, frame_bytes}
-use Rattle.sse_frames.specs.Seen.{entries_in}
+use Rattle.sse_frames.specs.Frames.{Entry, FrameText, SetupBegin, SetupDict, SetupArray, SetupEnd, frame_bytes}
+use Rattle.sse_frames.specs.Seen.{entries_in, items_in}
 use Rattle.sse_frames.specs.Sending.{numbered}
+use Rattle.index_setup.specs.declared.index.Index.{Index}
 
--- the frames behind the first: the entries, 1,024 a frame, and the end
-abbrev pub behind_begin : ℕ → List Entry → List (ℕ → FrameText)
-behind_begin b entries = map (λ part q. SetupDict q (1 + 8 * b) part) (parts 1024 entries) ++ (λ q. SetupEnd q) ∷ []
+-- the frames of a setup whose entries and blocks are sent in this order, each yet to be numbered: the entries, 1,024
+-- a frame, and the blocks, 256 a frame
+abbrev pub frames_between : (b big : ℕ) → List Entry → List (List ℕ) → List (ℕ → FrameText)
+frames_between b big entries blocks =
+    (λ q. SetupBegin q b big (length entries) (length blocks))
+    ∷ map (λ part q. SetupDict q (1 + 8 * b) part) (parts 1024 entries)
+    ++ map (λ part q. SetupArray q (8 * big) part) (parts 256 blocks)
+    ++ (λ q. SetupEnd q) ∷ []
 
--- the frames of a setup without blocks whose entries are sent in this order, the first at number 0
-abbrev pub frames_of_entries : Shape → List Entry → List FrameText
-frames_of_entries shape entries = numbered 0 ((λ q. SetupBegin q shape.b shape.big (length entries) 0) ∷ behind_begin shape.b entries)
+-- those of joined entries and blocks
+abbrev pub frames_of_joined : (b big : ℕ) → List ℕ → List ℕ → List (ℕ → FrameText)
+frames_of_joined b big entries array = frames_between b big (entries_in (1 + 8 * b) entries) (items_in (8 * big) array)
 
--- their bytes, where the entries are joined
-abbrev pub setup_bytes : (b big : ℕ) → List ℕ → List (List ℕ)
-setup_bytes b big bytes = map frame_bytes (frames_of_entries (record { b = b; big = big }) (entries_in (1 + 8 * b) bytes))
+-- and those of an index
+abbrev pub index_frames : Index → List (ℕ → FrameText)
+index_frames index = frames_of_joined index.b index.big index.entries.items index.array.items
 
--- the frames of a setup of so many words: those of as many entries
-pub record SendsSetup (b big words : ℕ) (frames : List (List ℕ)) : Type 0 where
+-- how many they are
+abbrev pub frames_in : Index → ℕ
+frames_in index = 2 + div_ceil index.words 1024 + div_ceil index.blocks 256
+
+-- the bytes of such frames, numbered from 0
+abbrev pub setup_bytes : (b big : ℕ) → List ℕ → List ℕ → List (List ℕ)
+setup_bytes b big entries array = map frame_bytes (numbered 0 (frames_of_joined b big entries array))
+
+-- the frames of a setup of so many words and blocks: those of as many entries and blocks
+pub record SendsSetup (b big words blocks : ℕ) (frames : List (List ℕ)) : Type 0 where
   pub entries : List ℕ
+  pub array : List ℕ
   pub whole : length entries ≡ words * (17 + 8 * b)
-  pub sent : frames ≡ setup_bytes b big entries
-
--- joined entries that a SetupDict carries: at most 1,024 cells of the width, whose labels rise
-pub record IsPart (q width : ℕ) (entries : List ℕ) : Type 0 where
-  pub number : IsNumber q
-  pub cell : IsCellWidth width
-  pub count : ℕ
-  pub some : 1 ≤ count
-  pub most : count ≤ 1024
-  pub whole : length entries ≡ count * (16 + width)
-  pub rises : Rises (labels_of (entries_in width entries))
+  pub array_whole : length array ≡ blocks * (8 * big)
+  pub sent : frames ≡ setup_bytes b big entries array

@@ -6,17 +6,23 @@
 
 mod behind;
 mod client;
+mod command_fault;
 mod found;
 mod fresh;
+mod kept_keys;
+mod new_pairs;
 mod page_in;
 mod planned;
 mod ready;
 mod reply_fault;
 mod sending;
 mod setup_frames;
+mod update_frames;
+mod updating;
 
 pub use behind::Behind;
 pub use client::{Client, Spent};
+pub use command_fault::{CommandFault, HistoryFull, frames_after};
 pub use found::{Found, Progress};
 pub use fresh::Fresh;
 pub use index_setup::BuildFault as SetupFault;

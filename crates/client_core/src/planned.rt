@@ -1,27 +1,58 @@
-ghost use Rattle.std.specs.Prelude.{◌≡◌, ◌≤◌, ◌^◌, vec_len};
+ghost use Rattle.std.specs.Prelude.{◌≡◌, ◌+◌, ◌*◌, vec_len};
+ghost use Rattle.std.proofs.Props.{props};
+ghost use Rattle.sse_frames.specs.Frames.{Rises, labels_of};
+ghost use Rattle.sse_frames.specs.Seen.{entries_in};
+ghost use Rattle.sse_frames.proofs.Cut.{AreBytes};
 
-/// A planned command: the frames that carry it to the server.
+use index_setup::Index;
+use sse_frames::FRAME_ROOM;
+use std::alloc::{AllocError, Global};
+
+/// A planned setup: its index, and room for one of the frames that carry it to the server.
 #[derive(Debug, Drop)]
 pub struct Planned {
-    pub(crate) words: u32,
-    pub(crate) blocks: u32,
-    pub(crate) frames: Vec<Vec<u8>>,
-    ghost some: { 1 ≤ vec_len frames },
-    ghost most: { vec_len frames ≤ 2 ^ 21 },
+    pub(crate) index: Index,
+    pub(crate) room: Vec<u8>,
+    ghost rises: { Rises (labels_of (entries_in (1 + 8 * index.b) index.entries.items)) } by { Prim.hlevel props },
+    ghost fits: { vec_len room ≡ 541709 },
 }
 
 impl Planned {
+    ghost use Rattle.std.specs.Prelude.{IfOk};
+    ghost use Rattle.std.specs.List.{AllByRecursion};
+    ghost use Rattle.sse_frames.specs.Frames.{IsFrame};
+    ghost use Rattle.client_core.specs.Sending.{planned_frames};
+
+    /// The plan that sends this index. The room is all the memory that sending takes.
+    pub(crate) fn new(alloc: Global, index: Index) -> Result<Planned, AllocError>
+        requires rises { Rises (labels_of (entries_in (1 + 8 * index.b) index.entries.items)) }
+        ensures index { IfOk result (λ planned. planned.index ≡ index) }
+        ensures grammar { IfOk result (λ planned. AllByRecursion IsFrame (planned_frames planned)) }
+    {
+        are_bytes(index.entries(), index.array());
+        Ok(Planned {
+            index,
+            room: vec![in alloc; 0u8; FRAME_ROOM]?,
+        })
+    }
+
     /// How many different words the planned setup has.
     pub fn words(&self) -> u32
-        ensures { result ≡ self.now.words }
+        ensures { result ≡ self.now.index.words }
     {
-        self.words
+        self.index.words()
     }
 
     /// How many blocks the planned setup has.
     pub fn blocks(&self) -> u32
-        ensures { result ≡ self.now.blocks }
+        ensures { result ≡ self.now.index.blocks }
     {
-        self.blocks
+        self.index.blocks()
     }
 }
+
+/// What the slices of an index hold is below 256, as in any slice of bytes.
+fn are_bytes(entries: &[u8], array: &[u8])
+    ensures entries { AreBytes entries.now }
+    ensures array { AreBytes array.now }
+{}

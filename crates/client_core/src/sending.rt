@@ -8,6 +8,7 @@ use crate::behind::Behind;
 use crate::client::{Client, Spent};
 use crate::ready::Ready;
 use crate::reply_fault::{ReplyFault, fault_of};
+use crate::setup_frames::frame_count;
 use sse_frames::{Reply, read_whole_reply};
 
 /// What a reply makes of a client with unacknowledged frames.
@@ -26,7 +27,7 @@ impl Client<Behind> {
     pub fn frame(&self) -> &[u8]
         ensures { take 1 (to_send self.now.state) ≡ result.now ∷ [] }
     {
-        &self.state.frames[self.state.next as usize]
+        &self.state.planned.room[..self.state.size]
     }
 
     /// Takes the reply to the next frame, with its four length bytes. It takes no memory.
@@ -39,12 +40,17 @@ impl Client<Behind> {
         if !acknowledges(reply, state.next) {
             return Taken::Stopped(Client { key, state: Spent }, fault_of(reply));
         }
-        let Behind { frames, next } = state;
-        let next = next + 1;
-        if (next as usize) < frames.len() {
+        let Behind {
+            planned,
+            place,
+            next,
+            size: _,
+        } = state;
+        let place = place + 1;
+        if place < frame_count(&planned.index) {
             Taken::Behind(Client {
                 key,
-                state: Behind { frames, next },
+                state: Behind::at(planned, place, next + 1),
             })
         } else {
             Taken::Ready(Client { key, state: Ready })

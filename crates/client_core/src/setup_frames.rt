@@ -1,77 +1,123 @@
-ghost use Rattle.std.specs.Prelude.{◌≡◌, ◌+◌, ◌*◌, ◌≤◌, ◌^◌, vec_len, IfOk};
-ghost use Rattle.std.specs.List.{AllByRecursion};
-ghost use Rattle.sse_frames.specs.Frames.{SetupBegin, SetupDict, InGrammar, IsFrame, Rises, labels_of, frame_bytes};
-ghost use Rattle.sse_frames.specs.Seen.{seen, entries_in};
-ghost use Rattle.sse_frames.specs.Sizes.{HasSizes};
-ghost use Rattle.client_core.specs.Sending.{frame_list};
-ghost use Rattle.client_core.specs.Setup.{setup_bytes, IsPart};
+ghost use Rattle.std.specs.Prelude.{◌≡◌, ◌+◌, ◌*◌, ◌<◌, ◌≤◌, ◌^◌, [], slice_index_or};
+ghost use Rattle.std.specs.Int.{div_ceil};
+ghost use Rattle.list_packing.specs.Parts.{parts};
+ghost use Rattle.sse_frames.specs.Frames.{SetupArray, SetupDict, SetupEnd, InGrammar, IsNumber, Rises, labels_of};
+ghost use Rattle.sse_frames.specs.Seen.{seen, entries_in, items_in};
+ghost use Rattle.sse_frames.specs.Sizes.{AreItems, HasSizes};
+ghost use Rattle.sse_frames.proofs.Cut.{AreBytes};
+ghost use Rattle.client_core.specs.Setup.{frames_in, index_frames};
 
 use index_setup::Index;
-use sse_frames::{ENTRIES_PER_FRAME, Frame, LABEL_LEN, write_frame};
-use std::alloc::{AllocError, Global};
+use list_packing::part;
+use sse_frames::{BLOCKS_PER_FRAME, ENTRIES_PER_FRAME, Frame, LABEL_LEN};
 
-/// The frames of a setup, numbered from 0: SetupBegin, the entries in parts of 1,024, SetupEnd.
-pub(crate) fn setup_frames(alloc: Global, index: &Index) -> Result<Vec<Vec<u8>>, AllocError>
-    requires block { 1 ≤ index.now.big }
-    requires rises { Rises (labels_of (entries_in (1 + 8 * index.now.b) index.now.entries.items)) }
-    ensures some { IfOk result (λ frames. 1 ≤ vec_len frames) }
-    ensures most { IfOk result (λ frames. vec_len frames ≤ 2 ^ 21) }
-    ensures frames { IfOk result (λ frames. frame_list frames ≡ setup_bytes index.now.b index.now.big index.now.entries.items) }
-    ensures grammar { IfOk result (λ frames. AllByRecursion IsFrame (frame_list frames)) }
+/// How many frames the index takes.
+pub(crate) fn frame_count(index: &Index) -> u32
+    ensures count { result ≡ frames_in index.now }
+    ensures within { result ≤ 2 + 2 ^ 10 + 2 ^ 12 }
 {
-    let words = index.words() as usize;
+    2 + dictionary_frames(index) + array_frames(index)
+}
+
+/// How many frames the entries take.
+fn dictionary_frames(index: &Index) -> u32
+    ensures count { result ≡ div_ceil index.now.words 1024 }
+    ensures within { result ≤ 2 ^ 10 }
+{
+    index.words().div_ceil(ENTRIES_PER_FRAME as u32)
+}
+
+/// How many frames the blocks take.
+fn array_frames(index: &Index) -> u32
+    ensures count { result ≡ div_ceil index.now.blocks 256 }
+    ensures within { result ≤ 2 ^ 12 }
+{
+    index.blocks().div_ceil(BLOCKS_PER_FRAME as u32)
+}
+
+/// The frame at this place among those of a setup, under the number `q`: SetupBegin, the entries in parts of 1,024,
+/// the blocks in parts of 256, SetupEnd.
+pub(crate) fn frame_at(index: &Index, place: u32, q: u32) -> Frame<'_>
+    requires place { place < frames_in index.now }
+    requires number { IsNumber q }
+    requires rises { Rises (labels_of (entries_in (1 + 8 * index.now.b) index.now.entries.items)) }
+    ensures seen { seen result ≡ slice_index_or (index_frames index.now) place (λ n. SetupEnd n) q }
+    ensures grammar { InGrammar (seen result) }
+    ensures sizes { HasSizes result }
+{
+    let dictionary = dictionary_frames(index);
+    if place == 0 {
+        return Frame::SetupBegin {
+            q,
+            b: index.b(),
+            big: index.big(),
+            m: index.words(),
+            a: index.blocks(),
+        };
+    }
+    if place <= dictionary {
+        return entries_at(index, place - 1, q);
+    }
+    if place <= dictionary + array_frames(index) {
+        return blocks_at(index, place - 1 - dictionary, q);
+    }
+    Frame::SetupEnd { q }
+}
+
+/// The frame of part `i` of the entries.
+fn entries_at(index: &Index, i: u32, q: u32) -> Frame<'_>
+    requires part { i < div_ceil index.now.words 1024 }
+    requires number { IsNumber q }
+    requires rises { Rises (labels_of (entries_in (1 + 8 * index.now.b) index.now.entries.items)) }
+    ensures seen { seen result ≡ SetupDict q (1 + 8 * index.now.b) (slice_index_or (parts 1024 (entries_in (1 + 8 * index.now.b) index.now.entries.items)) i []) }
+    ensures grammar { InGrammar (seen result) }
+    ensures sizes { HasSizes result }
+{
     let width = index.cell_size();
     let size = LABEL_LEN + width as usize;
-    let mut frames = Vec::new(alloc);
-    frames.push(begin_frame(alloc, index)?)?;
-    let mut sent = 0;
-    let mut q = 1;
-    'parts: while sent < words {
-        let count = (words - sent).min(ENTRIES_PER_FRAME as usize);
-        let part = &index.entries()[sent * size..(sent + count) * size];
-        frames.push(dictionary_frame(alloc, q, width, part)?)?;
-        sent += count;
-        q += 1;
-    }
-    frames.push(bytes_of(alloc, &Frame::SetupEnd { q })?)?;
-    Ok(frames)
+    let entries = part(
+        index.entries(),
+        ENTRIES_PER_FRAME as usize * size,
+        i as usize,
+    );
+    dictionary_part(q, width, entries)
 }
 
-fn begin_frame(alloc: Global, index: &Index) -> Result<Vec<u8>, AllocError>
-    requires { 1 ≤ index.now.big }
-    ensures bytes { IfOk result (λ bytes. bytes.items ≡ frame_bytes (SetupBegin 0 index.now.b index.now.big index.now.words 0)) }
-    ensures frame { IfOk result (λ bytes. IsFrame bytes.items) }
+/// The frame of part `i` of the blocks.
+fn blocks_at(index: &Index, i: u32, q: u32) -> Frame<'_>
+    requires part { i < div_ceil index.now.blocks 256 }
+    requires number { IsNumber q }
+    ensures seen { seen result ≡ SetupArray q (8 * index.now.big) (slice_index_or (parts 256 (items_in (8 * index.now.big) index.now.array.items)) i []) }
+    ensures grammar { InGrammar (seen result) }
+    ensures sizes { HasSizes result }
 {
-    let begin = Frame::SetupBegin {
-        q: 0,
-        b: index.b(),
-        big: index.big(),
-        m: index.words(),
-        a: index.blocks(),
-    };
-    bytes_of(alloc, &begin)
+    let width = index.block_size();
+    let blocks = part(
+        index.array(),
+        BLOCKS_PER_FRAME as usize * width as usize,
+        i as usize,
+    );
+    array_part(q, width, blocks)
 }
 
-fn dictionary_frame(
-    alloc: Global,
-    q: u32,
-    width: u16,
-    entries: &[u8],
-) -> Result<Vec<u8>, AllocError>
-    requires { IsPart q width entries.now }
-    ensures bytes { IfOk result (λ bytes. bytes.items ≡ frame_bytes (SetupDict q width (entries_in width entries.now))) }
-    ensures frame { IfOk result (λ bytes. IsFrame bytes.items) }
+/// The frame with these entries, whose bytes are below 256 as those of any slice.
+fn dictionary_part(q: u32, width: u16, entries: &[u8]) -> Frame<'_>
+    requires grammar { AreBytes entries.now → InGrammar (SetupDict q width (entries_in width entries.now)) }
+    requires sizes { AreItems (16 + width) entries.now }
+    ensures seen { seen result ≡ SetupDict q width (entries_in width entries.now) }
+    ensures grammar { InGrammar (seen result) }
+    ensures sizes { HasSizes result }
 {
-    bytes_of(alloc, &Frame::SetupDict { q, width, entries })
+    Frame::SetupDict { q, width, entries }
 }
 
-fn bytes_of(alloc: Global, frame: &Frame<'_>) -> Result<Vec<u8>, AllocError>
-    requires grammar { InGrammar (seen frame.now) }
-    requires sizes { HasSizes frame.now }
-    ensures bytes { IfOk result (λ bytes. bytes.items ≡ frame_bytes (seen frame.now)) }
-    ensures frame { IfOk result (λ bytes. IsFrame bytes.items) }
+/// The frame with these blocks.
+fn array_part(q: u32, width: u16, blocks: &[u8]) -> Frame<'_>
+    requires grammar { AreBytes blocks.now → InGrammar (SetupArray q width (items_in width blocks.now)) }
+    requires sizes { AreItems width blocks.now }
+    ensures seen { seen result ≡ SetupArray q width (items_in width blocks.now) }
+    ensures grammar { InGrammar (seen result) }
+    ensures sizes { HasSizes result }
 {
-    let mut bytes = Vec::new(alloc);
-    write_frame(frame, &mut bytes)?;
-    Ok(bytes)
+    Frame::SetupArray { q, width, blocks }
 }

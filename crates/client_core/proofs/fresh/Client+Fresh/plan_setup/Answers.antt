@@ -1,23 +1,18 @@
-use Rattle.std.proofs.Common.{◌+◌, ◌*◌, List, ℕ, sym, subst, ◌∙◌, arith}
-use Rattle.client_registry.proofs.SizedLaws.{accepted_shape}
+use Rattle.std.proofs.Common.{◌+◌, ◌*◌, List, ℕ, map, sym, ap, subst, ◌∙◌}
 use Rattle.client_registry.specs.Setup.{setup_of}
 use Rattle.keyed_fn.specs.KeyedFn.{IsKeyedFn, keyed_fn}
-use Rattle.sse_frames.specs.Frames.{Rises, labels_of}
+use Rattle.sse_frames.specs.Frames.{Rises, frame_bytes, labels_of}
 use Rattle.sse_frames.specs.Seen.{entries_in}
-use Rattle.client_core.proofs.SetupOf.{setup_bytes-dictionary_bytes, labels_rise}
-use Rattle.client_core.specs.Setup.{setup_bytes}
+use Rattle.sse_frames.specs.Sending.{numbered}
+use Rattle.index_setup.specs.declared.index.Index.{Index}
+use Rattle.index_setup.proofs.BuildErrors.{labels_differ, size_accepted}
+use Rattle.client_core.proofs.SetupOf.{setup_bytes-index, labels_rise}
+use Rattle.client_core.specs.Setup.{index_frames, setup_bytes}
 use Rattle.client_core.proofs.fresh.Client+Fresh.plan_setup.Goals as goal
 
--- an accepted setup has at least one number a block
-pub setup_frames-requires-clause-block : goal.setup_frames-requires-clause-block
-setup_frames-requires-clause-block g c =
-    let was = c.in_ok-index.ensures in
-    let s = setup_of c.args.docs.now c.args.b c.args.big in
-    omega (arith, was.big, (accepted_shape s was.accepted).1.0)
-
 -- labels that don't clash rise
-pub setup_frames-requires-clause-rises : goal.setup_frames-requires-clause-rises
-setup_frames-requires-clause-rises g c =
+pub new-requires : goal.new-requires
+new-requires g c =
     let was = c.in_ok-index.ensures in
     let f = keyed_fn g.K.Keyed.prf g.K.Keyed.pad in
     let laws : IsKeyedFn f = record {
@@ -29,14 +24,16 @@ setup_frames-requires-clause-rises g c =
     } in
     let key = c.args.self.now.key in
     let s = setup_of c.args.docs.now c.args.b c.args.big in
-    let rises = labels_rise f laws key s was.accepted was.blocks was.differ in
-    subst (λ (b : ℕ). Rises (labels_of (entries_in (1 + 8 * b) c.in_ok-index.index.entries.items))) (sym was.b)
-    (subst (λ (bytes : List ℕ). Rises (labels_of (entries_in (1 + 8 * c.args.b) bytes))) (sym was.entries) rises)
+    let rises = labels_rise f laws key s (size_accepted f key s was.accepted) (labels_differ f key s was.accepted) in
+    record {
+      rises =
+          subst (λ (b : ℕ). Rises (labels_of (entries_in (1 + 8 * b) c.in_ok-index.index.entries.items))) (sym was.b)
+          (subst (λ (bytes : List ℕ). Rises (labels_of (entries_in (1 + 8 * c.args.b) bytes))) (sym was.entries) rises);
+    }
 
 -- the frames of the index are those of the setup that it is of
 pub returns-clause-frames : goal.returns-clause-frames
 returns-clause-frames g c =
-    let index = c.in_ok-index.index in
     let was = c.in_ok-index.ensures in
     let f = keyed_fn g.K.Keyed.prf g.K.Keyed.pad in
     let laws : IsKeyedFn f = record {
@@ -47,6 +44,6 @@ returns-clause-frames g c =
       pad_prefix = g.met.K.Keyed.pad_prefix;
     } in
     let s = setup_of c.args.docs.now c.args.b c.args.big in
-    c.in_ok-setup_frames.ensures.frames
-    ∙ (λ i. setup_bytes (was.b i) (was.big i) (was.entries i))
-    ∙ setup_bytes-dictionary_bytes f laws c.args.self.now.key s was.accepted was.blocks
+    ap (λ (index : Index). map frame_bytes (numbered 0 (index_frames index))) c.in_ok-new.ensures.index
+    ∙ (λ i. setup_bytes (was.b i) (was.big i) (was.entries i) (was.array i))
+    ∙ setup_bytes-index f laws c.args.self.now.key s (size_accepted f c.args.self.now.key s was.accepted)

@@ -1,0 +1,8 @@
+use Rattle.std.proofs.Common.{subst}
+use Rattle.sse_frames.proofs.Cut.{AreBytes}
+use Rattle.client_core.proofs.IndexGrammar.{frames_are}
+use Rattle.client_core.proofs.planned.Planned.new.Goals as goal
+
+pub returns-clause-grammar : goal.returns-clause-grammar
+returns-clause-grammar c =
+    frames_are c.args.index (subst AreBytes c.entries.ensures c.are_bytes.ensures.entries) (subst AreBytes c.array.ensures c.are_bytes.ensures.array) c.requires.rises
