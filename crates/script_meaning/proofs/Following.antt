@@ -2,17 +2,14 @@
 -- one, the answers in its printed lines are what its searches find, and its frames stand behind those that were sent.
 use Rattle.std.proofs.Common.{◌≡◌, ℕ, ◌+◌, Bool, false, ◌||◌, List, [], ◌∷◌, ◌++◌, length, Some, None, refl, sym, ap, ◌∙◌, append_assoc}
 use Rattle.std.specs.Prelude.{Option, option_map}
-use Rattle.std.proofs.lemmas.Bool.{true≢false, eqb-true}
+use Rattle.std.proofs.lemmas.Bool.{true≢false}
 use Rattle.std.proofs.lemmas.List.{append-nil}
 use Rattle.client_registry.proofs.HistoryLaws.{IsFirstOf-same, IsFirstOf-trans, IsFirstOf-before, IsFirstOf-longer, found_in_turn-before, found_in_turn-update, found_in_turn-search}
-use Rattle.client_registry.specs.Acceptance.{blocks_of}
 use Rattle.client_registry.specs.Histories.{begun_by, IsFirstOf, found_in_turn}
 use Rattle.client_registry.specs.Run.{at_first}
 use Rattle.client_registry.specs.Setup.{setup_of}
 use Rattle.keyed_fn.specs.KeyedFn.{KeyedFn}
-use Rattle.sse_agreement.proofs.Histories.{Supports-begun, Supports-search}
 use Rattle.sse_agreement.proofs.NoCollision.{collision_of_first-none}
-use Rattle.sse_agreement.specs.Agreement.{Supports}
 use Rattle.sse_model.proofs.Exchanging.{searches-setup, searches_behind-update}
 use Rattle.sse_model.proofs.HistoryLaws.{frames_sent-before, frames_sent-begun, frames_sent-longer, frames_behind-search, collision_behind-search}
 use Rattle.sse_model.specs.Exchange.{searches}
@@ -51,7 +48,7 @@ module _ (built : Built) (place : Place) (line : Request) where
   first-next = by_cases built place line (λ r. IsFirstOf place.history (after r place).history) (record {
     refuses = λ refusal. IsFirstOf-same place.history;
     collects = λ id words is none e. IsFirstOf-same place.history;
-    sets_up = λ b big none e is. IsFirstOf-before place.history (begun_by (setup_of place.documents b big)) none;
+    sets_up = λ b big none e. IsFirstOf-before place.history (begun_by (setup_of place.documents b big)) none;
     adds = λ id words is up e b. IsFirstOf-longer place.history _;
     deletes = λ id is up e b. IsFirstOf-longer place.history _;
     finds = λ word up e. IsFirstOf-longer place.history _;
@@ -62,7 +59,7 @@ module _ (built : Built) (place : Place) (line : Request) where
   finds-next = by_cases built place line (λ r. found_in_turn (after r place).history ≡ found_in_turn place.history ++ finds (shown_by r)) (record {
     refuses = λ refusal. sym (append-nil (found_in_turn place.history));
     collects = λ id words is none e. sym (append-nil (found_in_turn place.history));
-    sets_up = λ b big none e is. sym (append-nil (found_in_turn place.history) ∙ found_in_turn-before place.history none);
+    sets_up = λ b big none e. sym (append-nil (found_in_turn place.history) ∙ found_in_turn-before place.history none);
     adds = λ id words is up e b. found_in_turn-update place.history _ refl ∙ sym (append-nil (found_in_turn place.history));
     deletes = λ id is up e b. found_in_turn-update place.history _ refl ∙ sym (append-nil (found_in_turn place.history));
     finds = λ word up e. found_in_turn-search place.history word up;
@@ -73,7 +70,7 @@ module _ (built : Built) (place : Place) (line : Request) where
   frames-next f = by_cases built place line (λ r. frames_sent f (keys_at place) (after r place).history ≡ frames_sent f (keys_at place) place.history ++ frames_by f place r) (record {
     refuses = λ refusal. sym (append-nil (frames_sent f (keys_at place) place.history));
     collects = λ id words is none e. sym (append-nil (frames_sent f (keys_at place) place.history));
-    sets_up = λ b big none e is.
+    sets_up = λ b big none e.
         frames_sent-begun f (keys_at place) (setup_of place.documents b big)
         ∙ ap (λ frames. frames ++ frames_of_first f (keys_at place) (setup_of place.documents b big)) (sym (frames_sent-before f (keys_at place) place.history none));
     adds = λ id words is up e b. frames_sent-longer f (keys_at place) place.history _;
@@ -86,7 +83,7 @@ module _ (built : Built) (place : Place) (line : Request) where
   searches-next f = by_cases built place line (λ r. searches (frames_by f place r) ≡ length (finds (shown_by r))) (record {
     refuses = λ refusal. refl;
     collects = λ id words is none e. refl;
-    sets_up = λ b big none e is. searches-setup _ at_first (setup_of place.documents b big);
+    sets_up = λ b big none e. searches-setup _ at_first (setup_of place.documents b big);
     adds = λ id words is up e b. searches_behind-update f (keys_at place) place.history _ refl;
     deletes = λ id is up e b. searches_behind-update f (keys_at place) place.history _ refl;
     finds = λ word up e. ap searches (frames_behind-search f (keys_at place) place.history word up);
@@ -98,8 +95,8 @@ pub no_clash-next : (f : KeyedFn) (place : Place) (line : Request) → HasNoColl
 no_clash-next f place line = by_cases is_built place line (λ r. HasNoCollision f (keys_at place) (after r place).history → clash_in_hand f place r ≡ None) (record {
   refuses = λ refusal free. refl;
   collects = λ id words is none e free. refl;
-  sets_up = λ b big none e is free.
-      ap (option_map collision_cause) (collision_of_first-none f (keys_at place) (setup_of place.documents b big) (eqb-true (blocks_of (setup_of place.documents b big)) 0 is) free);
+  sets_up = λ b big none e free.
+      ap (option_map collision_cause) (collision_of_first-none f (keys_at place) (setup_of place.documents b big) free);
   adds = λ id words is up e b free. absurd (true≢false (sym b));
   deletes = λ id is up e b free. absurd (true≢false (sym b));
   finds = λ word up e free. ap (option_map collision_cause) (collision_behind-search f (keys_at place) place.history word);
@@ -111,17 +108,6 @@ after-key (Collects d) place = refl
 after-key (Refuses refusal) place = refl
 after-key (SetsUp s) place = refl
 after-key (Does commands shown) place = refl
-
--- this client leaves a history that the server takes such a one
-pub supported-next : (place : Place) (line : Request) → Supports place.history → Supports (after (comes_to is_built place line) place).history
-supported-next place line supported = by_cases is_built place line (λ r. Supports (after r place).history) (record {
-  refuses = λ refusal. supported;
-  collects = λ id words is none e. supported;
-  sets_up = λ b big none e is. Supports-begun (setup_of place.documents b big) (eqb-true (blocks_of (setup_of place.documents b big)) 0 is);
-  adds = λ id words is up e b. absurd (true≢false (sym b));
-  deletes = λ id is up e b. absurd (true≢false (sym b));
-  finds = λ word up e. Supports-search place.history word supported;
-})
 
 -- All lines.
 
@@ -165,19 +151,3 @@ module _ (built : Built) where
   finds-meant number (Some Empty ∷ lines) = finds-meant (number + 1) lines
   finds-meant number (Some (Key key) ∷ lines) = finds-follow (opened key) (number + 1) lines false
   finds-meant number (Some (Command line) ∷ lines) = refl
-
-pub supported-follow : (place : Place) (number : ℕ) (lines : List (Option Line)) (refused : Bool) → Supports place.history → Supports (follow is_built place number lines refused).history
-supported-follow place number [] refused supported = supported
-supported-follow place number (None ∷ lines) refused supported = supported
-supported-follow place number (Some Empty ∷ lines) refused supported = supported-follow place (number + 1) lines refused supported
-supported-follow place number (Some (Key key) ∷ lines) refused supported = supported
-supported-follow place number (Some (Command line) ∷ lines) refused supported =
-    supported-follow (after (comes_to is_built place line) place) (number + 1) lines (refused || is_refusal (comes_to is_built place line)) (supported-next place line supported)
-
--- the history that a script means to this client is one that its server takes
-pub supported-meant : (number : ℕ) (lines : List (Option Line)) → Supports (meant_from is_built number lines).history
-supported-meant number [] = tt
-supported-meant number (None ∷ lines) = tt
-supported-meant number (Some Empty ∷ lines) = supported-meant (number + 1) lines
-supported-meant number (Some (Key key) ∷ lines) = supported-follow (opened key) (number + 1) lines false tt
-supported-meant number (Some (Command line) ∷ lines) = tt

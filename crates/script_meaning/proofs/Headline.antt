@@ -16,8 +16,7 @@ use Rattle.keyed_fn.specs.KeyedFn.{KeyedFn, IsKeyedFn}
 use Rattle.server_core.specs.State as server
 use Rattle.server_core.specs.State.{ServerState}
 use Rattle.server_core.specs.Step.{steps}
-use Rattle.sse_agreement.proofs.Histories.{Supports-first, replies_agree, shown_are_answers, in_order-shown_in_turn}
-use Rattle.sse_agreement.specs.Agreement.{Supports}
+use Rattle.sse_agreement.proofs.Histories.{replies_agree, shown_are_answers, in_order-shown_in_turn}
 use Rattle.sse_frames.specs.Frames.{FrameText}
 use Rattle.sse_frames.specs.Replies.{IsIdentifier}
 use Rattle.sse_link.specs.Events.{Event}
@@ -41,7 +40,7 @@ use Rattle.script_meaning.specs.Outcome.{opened}
 use Rattle.script_meaning.specs.Runs.{Ended, Opens, Ends}
 use Rattle.script_meaning.specs.Session.{session_with, frames_with, frames_of, IsFree}
 use Rattle.script_meaning.specs.Stops.{status_of, stop_text}
-use Rattle.script_meaning.proofs.Following.{finds, follow-key, finds-meant, supported-meant}
+use Rattle.script_meaning.proofs.Following.{finds, follow-key, finds-meant}
 use Rattle.script_meaning.proofs.Honest.{IsServed-bare, behind, cut_outside}
 use Rattle.script_meaning.proofs.RunGoes.{goes}
 use Rattle.script_meaning.proofs.Within.{meaning_is_kept}
@@ -57,7 +56,7 @@ same_events past xs ys now end told first second =
 identifiers : (answers : List (List ℕ)) → All (All IsIdentifier) answers → AllByRecursion (λ ids. AllByRecursion IsIdentifier ids) answers
 identifiers answers all = recursion_from_All (λ ids. AllByRecursion IsIdentifier ids) answers (λ k d below. recursion_from_All IsIdentifier _ (all k d below))
 
-module _ (f : KeyedFn) (laws : IsKeyedFn f) (keys : ℕ → List ℕ) (h : History) (kept : IsKept h) (supported : Supports h) (free : HasNoCollision f keys h) (state : ServerState) where
+module _ (f : KeyedFn) (laws : IsKeyedFn f) (keys : ℕ → List ℕ) (h : History) (kept : IsKept h) (free : HasNoCollision f keys h) (state : ServerState) where
   abbrev frames : List FrameText
   frames = frames_sent f keys h
 
@@ -73,8 +72,8 @@ module _ (f : KeyedFn) (laws : IsKeyedFn f) (keys : ℕ → List ℕ) (h : Histo
       by cause cut =
           let bared : map bare p.events ≡ map as_event (exchange answers (take p.n frames)) ++ map bare p.cut =
           ap (map bare) p.parts ∙ map-append bare p.before p.cut ∙ ap (λ es. es ++ map bare p.cut) p.exchanged.each in
-          let b = behind f at_start (idle state) frames p.n answers (shown_in_turn h) (map bare p.cut) (frames_sent-in_grammar f keys h laws kept free) (identifiers answers p.exchanged.ids) (shown_are_answers h kept supported)
-          p.exchanged.count (sym (searches-sent f keys h)) (replies_agree f keys h laws kept supported free)
+          let b = behind f at_start (idle state) frames p.n answers (shown_in_turn h) (map bare p.cut) (frames_sent-in_grammar f keys h laws kept free) (identifiers answers p.exchanged.ids) (shown_are_answers h kept)
+          p.exchanged.count (sym (searches-sent f keys h)) (replies_agree f keys h laws kept free)
           (subst (λ es. IsServed f at_start es (idle state)) bared (IsServed-bare f at_start (idle state) p.events served)) in
           cut_outside f b.mid (idle state) (drop p.n frames) b.left p.cut cause b.grammar b.given b.replies b.served cut
 
@@ -85,8 +84,8 @@ module _ (f : KeyedFn) (laws : IsKeyedFn f) (keys : ℕ → List ℕ) (h : Histo
       let none : drop (length frames) frames ≡ [] = drop_all (length frames) frames (omega arith) in
       let bared : map bare events ≡ map as_event (exchange answers (take (length frames) frames)) ++ [] =
       all.each ∙ ap (λ fs. map as_event (exchange answers fs)) (sym whole) ∙ sym (append-nil (map as_event (exchange answers (take (length frames) frames)))) in
-      let b = behind f at_start (idle state) frames (length frames) answers (shown_in_turn h) [] (frames_sent-in_grammar f keys h laws kept free) (identifiers answers all.ids) (shown_are_answers h kept supported)
-      (all.count ∙ ap searches (sym whole)) (sym (searches-sent f keys h)) (replies_agree f keys h laws kept supported free)
+      let b = behind f at_start (idle state) frames (length frames) answers (shown_in_turn h) [] (frames_sent-in_grammar f keys h laws kept free) (identifiers answers all.ids) (shown_are_answers h kept)
+      (all.count ∙ ap searches (sym whole)) (sym (searches-sent f keys h)) (replies_agree f keys h laws kept free)
       (subst (λ es. IsServed f at_start es (idle state)) bared (IsServed-bare f at_start (idle state) events served)) in
       let left : b.left ≡ [] = empty b.left (b.count ∙ ap searches none) in
       (sym (b.all ∙ ap (λ left. answers ++ left) left ∙ append-nil answers), sym b.served.0 ∙ b.state ∙ ap (λ fs. (steps f server.at_first fs).0) whole)
@@ -146,9 +145,6 @@ module _ (f : KeyedFn) (laws : IsKeyedFn f) (bytes : List ℕ) (now : Outside) (
   kept : IsKept m.history
   kept = (meaning_is_kept is_built bytes).0
 
-  supported : Supports m.history
-  supported = supported-meant 1 (script_lines bytes)
-
   module _ (state : ServerState) (honest : IsOverHonest f now.told end.outside.told state) where
     served : (events : List Event) → Adds now.told end.outside.told events → IsServed f at_start events (idle state)
     served events adds = subst (λ es. IsServed f at_start es (idle state)) (same_events honest.past honest.events events now.told end.outside.told honest.told honest.adds adds) honest.honest
@@ -172,7 +168,7 @@ module _ (f : KeyedFn) (laws : IsKeyedFn f) (bytes : List ℕ) (now : Outside) (
         by None e = nothing (subst (λ k. Passes f (frames_with f k end.history) g.answers now.told end) e g.passes)
         by (Some key) e =
             let p = subst (λ k. Passes f (frames_with f k end.history) g.answers now.told end) e g.passes in
-            passes_outside f laws (λ epoch. key) end.history (IsKept-first end.history m.history g.history kept) (Supports-first end.history m.history g.history supported)
+            passes_outside f laws (λ epoch. key) end.history (IsKept-first end.history m.history g.history kept)
             (subst (λ k. IsFree f k end.history) e free) state now.told end g.answers p free (served p.events p.adds)
 
     module _ (free : IsFree f m.key m.history) (low : status_of end.stop ≤ 2) where
@@ -203,7 +199,7 @@ module _ (f : KeyedFn) (laws : IsKeyedFn f) (bytes : List ℕ) (now : Outside) (
               )
           by (Some key) e =
               let sent : frames_of f m ≡ frames_sent f (λ epoch. key) m.history = ap (λ k. frames_with f k m.history) e in
-              let r = all_exchanged f laws (λ epoch. key) m.history kept supported (subst (λ k. IsFree f k m.history) e free) state g.answers g.passes.events
+              let r = all_exchanged f laws (λ epoch. key) m.history kept (subst (λ k. IsFree f k m.history) e free) state g.answers g.passes.events
               (subst (λ fs. AreExchanged g.answers fs g.passes.events) sent all) (served g.passes.events g.passes.adds) in
               (r.0, r.1 ∙ ap (λ fs. (steps f server.at_first fs).0) (sym sent))
 

@@ -1,8 +1,7 @@
 -- Over an honest link frames that were exchanged brought the server where their steps lead, with the answers that it gives;
 -- and where the next one was cut, its replies are the first of those that are to come, or say that memory was wanting.
-use Rattle.std.proofs.Common.{◌≡◌, ◌≢◌, ◌⊎◌, ℕ, zero, suc, ◌+◌, ◌^◌, ◌≤◌, inl, inr, List, [], ◌∷◌, ◌++◌, length, map, take, drop, slice_index, refl, sym, ap, ◌∙◌, subst, arith, append_assoc, length-append}
+use Rattle.std.proofs.Common.{◌<◌, ◌≡◌, ◌≢◌, ◌⊎◌, ℕ, zero, suc, ◌+◌, ◌^◌, ◌≤◌, inl, inr, List, [], ◌∷◌, ◌++◌, length, map, take, drop, slice_index, refl, sym, ap, ◌∙◌, subst, arith, append_assoc, length-append}
 use Rattle.std.specs.List.{AllByRecursion}
-use Rattle.std.proofs.Math.Nat.{div-le_self}
 use Rattle.std.proofs.lemmas.List.{append-nil, map-append, length-map}
 use Rattle.std.proofs.lemmas.List.Elements.{All-from_recursion}
 use Rattle.keyed_fn.specs.KeyedFn.{KeyedFn}
@@ -35,11 +34,11 @@ IsServed-bare f start end (Sent bytes mark ∷ events) served =
     (served.0, record { sent = served.1.sent; answered = Answers-either f start.state served.1.sent.frame mark served.0.state served.0.due served.1.answered }, IsServed-bare f served.0 end events served.2)
 IsServed-bare f start end (Received bytes ∷ events) served = (served.0, served.1, IsServed-bare f _ end events served.2)
 
-bare_received : (replies : List (List ℕ)) → map bare (map Received replies) ≡ map Received replies
+pub bare_received : (replies : List (List ℕ)) → map bare (map Received replies) ≡ map Received replies
 bare_received [] = refl
 bare_received (reply ∷ replies) = ap (λ rest. Received reply ∷ rest) (bare_received replies)
 
-events_received : (rs : List ReplyText) → map as_event (map model.Received rs) ≡ map Received (map reply_bytes rs)
+pub events_received : (rs : List ReplyText) → map as_event (map model.Received rs) ≡ map Received (map reply_bytes rs)
 events_received [] = refl
 events_received (r ∷ rs) = ap (λ more. Received (reply_bytes r) ∷ more) (events_received rs)
 
@@ -74,10 +73,6 @@ kinds_expected ids ForAnswer = kinds_of (parts 8192 ids)
 kind_within : (kind : ℕ) (earlier : List (List ℕ)) (reply : List ℕ) (later : List (List ℕ)) → AreOfKind kind (earlier ++ reply ∷ later) → kind_of reply ≡ kind
 kind_within kind [] reply later all = all.0
 kind_within kind (first ∷ earlier) reply later all = kind_within kind earlier reply later all.1
-
--- the front of replies of a kind has it
-kind_first : (kind : ℕ) (replies due all : List (List ℕ)) → replies ++ due ≡ all → AreOfKind kind all → AreOfKind kind (replies ++ due)
-kind_first kind replies due all e of = subst (AreOfKind kind) (sym e) of
 
 -- out of memory is no reply that is to come
 not_lacking : (ids : List ℕ) (asks : Asked) (due : List (List ℕ)) → map reply_bytes (expected ids asks) ++ due ≡ reply_bytes reply.NoMemory ∷ [] → ⊥
@@ -227,14 +222,15 @@ length-page_each : (ids : List ℕ) (others : List (List ℕ)) → length (page_
 length-page_each ids [] = omega arith
 length-page_each ids (more ∷ others) = omega (arith, length-page_each more others)
 
-length-pages_of : (list : List (List ℕ)) → length (pages_of list) ≤ length list + 1
-length-pages_of [] = omega arith
-length-pages_of (ids ∷ others) = omega (arith, length-page_each ids others)
+-- a page for each part, and one where there is none
+length-pages_of : (list : List (List ℕ)) (most : ℕ) → 1 ≤ most → length list ≤ most → length (pages_of list) ≤ most
+length-pages_of [] most some few = omega (arith, some)
+length-pages_of (ids ∷ others) most some few = omega (arith, few, length-page_each ids others)
 
-few_expected : (ids : List ℕ) (asks : Asked) → length ids ≤ 2 ^ 18 → length (expected ids asks) ≤ 2 ^ 20
+few_expected : (ids : List ℕ) (asks : Asked) → length ids < 2 ^ 33 → length (expected ids asks) ≤ 2 ^ 20
 few_expected ids ForNext few = omega arith
 few_expected ids (ForTook q) few = omega arith
-few_expected ids ForAnswer few = omega (arith, few, length-pages_of (parts 8192 ids), length-parts 8192 ids, div-le_self (length ids) 8192)
+few_expected ids ForAnswer few = length-pages_of (parts 8192 ids) (2 ^ 20) (omega arith) (omega (arith, few, length-parts 8192 ids))
 
 module _ (ids : List ℕ) (answer : IsAnswer ids) (asks : Asked) (replies due : List (List ℕ)) where
   -- the replies are the first of the server's step, or of out of memory

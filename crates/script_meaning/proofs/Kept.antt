@@ -22,7 +22,7 @@ use Rattle.client_registry.specs.Histories.{is_set_up, longer, is_live_in, is_li
 use Rattle.client_registry.specs.Run.{History, commands_of}
 use Rattle.client_registry.specs.Setup.{setup_of}
 use Rattle.client_registry.specs.Sized.{IsSizedCommand}
-use Rattle.sse_script.specs.Shown.{Zero, AlreadyLive, UnknownDocument, CounterFull, HistoryFull}
+use Rattle.sse_script.specs.declared.refusal.Refusal.TheVariants.{Zero, AlreadyLive, UnknownDocument, CounterFull, HistoryFull}
 use Rattle.script_meaning.specs.Refused.{word_refused, doc_refused, docs_refused, size_refused, bad_word, document_refusal, index_refusal, frame_refusal, counter_refusal, add_refusal, delete_refusal}
 use Rattle.script_meaning.specs.Outcome.{Place, Outcome, opened, document, after, is_refusal}
 use Rattle.script_meaning.specs.Built.{Built, comes_to}
@@ -213,7 +213,7 @@ module _ (built : Built) (n : ℕ) (place : Place) (line : Request) (within : Is
           history = kept.history;
           few = omega (arith, kept.few);
         };
-    sets_up = λ b big none e is. record {
+    sets_up = λ b big none e. record {
       documents = kept.documents;
       history = IsKept-begun (setup_of place.documents b big) kept.documents (index_passed place.documents b big e);
       few = omega arith;

@@ -5,7 +5,8 @@ use Rattle.client_registry.specs.Command.{Add, Delete, Search}
 use Rattle.client_registry.specs.Histories.{is_set_up}
 use Rattle.client_registry.specs.Live.{found_in}
 use Rattle.client_registry.specs.Setup.{setup_of}
-use Rattle.sse_script.specs.Shown.{Refusal, NotSetUp, SetUpAlready, NotBuilt}
+use Rattle.sse_script.specs.declared.refusal.Refusal.{Refusal}
+use Rattle.sse_script.specs.declared.refusal.Refusal.TheVariants.{NotSetUp, SetUpAlready, NotBuilt}
 use Rattle.sse_script.specs.Shown.{Added, Deleted, Found}
 use Rattle.script_meaning.specs.Built.{Built, comes_to}
 use Rattle.script_meaning.specs.Lines.{Request, Doc, SetupLine, AddLine, Del, Find}
@@ -18,29 +19,28 @@ module _ (built : Built) (place : Place) (line : Request) (P : Outcome → Type 
     pub refuses : (refusal : Refusal) → P (Refuses refusal)
     pub collects : (id : ℕ) (words : List (List ℕ)) → line ≡ Doc id words → is_set_up place.history ≡ false → collect_refusal place.documents (document id words) ≡ None
         → P (Collects (document id words))
-    pub sets_up : (b big : ℕ) → is_set_up place.history ≡ false → index_refusal place.documents b big ≡ None
-        → built (SetupLine b big) (SetsUp (setup_of place.documents b big)) ≡ true → P (SetsUp (setup_of place.documents b big))
+    pub sets_up : (b big : ℕ) → is_set_up place.history ≡ false → index_refusal place.documents b big ≡ None → P (SetsUp (setup_of place.documents b big))
     pub adds : (id : ℕ) (words : List (List ℕ)) → line ≡ AddLine id words → is_set_up place.history ≡ true → add_refusal place.history (document id words) ≡ None
-        → built (AddLine id words) (Does (Add (document id words) ∷ []) (Added id)) ≡ true → P (Does (Add (document id words) ∷ []) (Added id))
+        → built (AddLine id words) ≡ true → P (Does (Add (document id words) ∷ []) (Added id))
     pub deletes : (id : ℕ) → line ≡ Del id → is_set_up place.history ≡ true → delete_refusal place.history id ≡ None
-        → built (Del id) (Does (Delete id ∷ []) (Deleted id)) ≡ true → P (Does (Delete id ∷ []) (Deleted id))
+        → built (Del id) ≡ true → P (Does (Delete id ∷ []) (Deleted id))
     pub finds : (word : List ℕ) → is_set_up place.history ≡ true → bad_word 0 (word ∷ []) ≡ None → P (Does (Search word ∷ []) (Found (found_in place.history word)))
 
   module _ (cases : ByCases) where
     abbrev Limited : Request → Outcome → Type 0
-    Limited l result = P (if built l result then result else Refuses NotBuilt)
+    Limited l result = P (if built l then result else Refuses NotBuilt)
 
-    limited : (l : Request) (result : Outcome) → (built l result ≡ true → P result) → Limited l result
-    limited l result holds = by (built l result) refl
+    limited : (l : Request) (result : Outcome) → (built l ≡ true → P result) → Limited l result
+    limited l result holds = by (built l) refl
       where
-        by : (b : Bool) → built l result ≡ b → P (if b then result else Refuses NotBuilt)
+        by : (b : Bool) → built l ≡ b → P (if b then result else Refuses NotBuilt)
         by true e = holds e
         by false e = cases.refuses NotBuilt
 
     refused : (l : Request) (refusal : Refusal) → Limited l (Refuses refusal)
     refused l refusal = limited l (Refuses refusal) (λ _. cases.refuses refusal)
 
-    if_not : (l : Request) (r : Option Refusal) (result : Outcome) → (r ≡ None → built l result ≡ true → P result) → Limited l (unless r result)
+    if_not : (l : Request) (r : Option Refusal) (result : Outcome) → (r ≡ None → built l ≡ true → P result) → Limited l (unless r result)
     if_not l r result holds = by r refl
       where
         by : (o : Option Refusal) → r ≡ o → Limited l (unless o result)
@@ -49,7 +49,7 @@ module _ (built : Built) (place : Place) (line : Request) (P : Outcome → Type 
 
     before : (l : Request) → line ≡ l → is_set_up place.history ≡ false → Limited l (before_setup place.documents l)
     before (Doc id words) e none = if_not _ _ _ (λ r b. cases.collects id words e none r)
-    before (SetupLine b big) e none = if_not _ _ _ (cases.sets_up b big none)
+    before (SetupLine b big) e none = if_not _ _ _ (λ r _. cases.sets_up b big none r)
     before (AddLine id words) e none = refused _ NotSetUp
     before (Del id) e none = refused _ NotSetUp
     before (Find word) e none = refused _ NotSetUp

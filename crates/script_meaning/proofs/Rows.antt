@@ -98,10 +98,10 @@ refusals_in_order :
 unfolding digits hex_on_literals utf8_valid_len is_utf8 chars encode
 refusals_in_order = refl
 
--- what this client doesn't carry out: additions and deletions at any stage, and a setup with blocks that nothing else refuses
+-- what this client doesn't carry out: additions and deletions at any stage
 not_built :
-    printed is_built (codes "add 0 a" ∷ codes "doc 1 a" ∷ codes "doc 2 a" ∷ codes "setup 1 0" ∷ codes "setup 1 2" ∷ codes "setup 2 2" ∷ codes "del 1" ∷ codes "find a" ∷ [])
-    ≡ codes "refused: not built yet\nrefused: B is 0\nrefused: not built yet\nset up 1 words 0 blocks\nrefused: not built yet\nfound 2: 1 2\n"
+    printed is_built (codes "add 0 a" ∷ codes "doc 1 a" ∷ codes "doc 2 a" ∷ codes "setup 1 0" ∷ codes "setup 1 2" ∷ codes "del 1" ∷ codes "find a" ∷ [])
+    ≡ codes "refused: not built yet\nrefused: B is 0\nset up 1 words 1 blocks\nrefused: not built yet\nfound 2: 1 2\n"
 unfolding digits hex_on_literals utf8_valid_len is_utf8 chars encode
 not_built = refl
 

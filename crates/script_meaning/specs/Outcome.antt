@@ -7,7 +7,8 @@ use Rattle.client_registry.specs.Command.{Command, Add, Delete, Search}
 use Rattle.client_registry.specs.Run.{History}
 use Rattle.client_registry.specs.Histories.{empty, is_set_up, begun_by, longer}
 use Rattle.client_registry.specs.Live.{found_in}
-use Rattle.sse_script.specs.Shown.{Refusal, NotSetUp, SetUpAlready}
+use Rattle.sse_script.specs.declared.refusal.Refusal.{Refusal}
+use Rattle.sse_script.specs.declared.refusal.Refusal.TheVariants.{NotSetUp, SetUpAlready}
 use Rattle.sse_script.specs.Shown.{Shown, SetUp, Added, Deleted, Found, Refused}
 use Rattle.script_meaning.specs.Lines.{Request, Doc, SetupLine, AddLine, Del, Find}
 use Rattle.script_meaning.specs.Refused.{bad_word, collect_refusal, index_refusal, add_refusal, delete_refusal}

@@ -17,7 +17,8 @@ use Rattle.client_registry.specs.Documents.{docs_refusal}
 use Rattle.client_registry.specs.Acceptance.{setup_refusal}
 use Rattle.client_registry.specs.Run.{History}
 use Rattle.client_registry.specs.Histories.{is_live_in, is_listed_in, counter_in, frames_in}
-use Rattle.sse_script.specs.Shown.{Refusal, Zero, TooLong, BadByte, TooManyWords, RepeatedWord, AlreadyLive, UnknownDocument, TooManyDocuments, TooManyPairs, TooManyBytes, BadParameter, ListTooLong, CounterFull, HistoryFull}
+use Rattle.sse_script.specs.declared.refusal.Refusal.{Refusal}
+use Rattle.sse_script.specs.declared.refusal.Refusal.TheVariants.{Zero, TooLong, BadByte, TooManyWords, RepeatedWord, AlreadyLive, UnknownDocument, TooManyDocuments, TooManyPairs, TooManyBytes, BadParameter, ListTooLong, CounterFull, HistoryFull}
 
 -- The faults of words, documents and setups as refusals; being out of memory refuses nothing.
 

@@ -1,7 +1,7 @@
 pub mod LineWords
 pub mod Collected
-pub mod Exchanged
 pub mod Passing
+pub mod Causes
 pub mod UnderWay
 pub mod Sending
 pub mod PagesRead
@@ -9,8 +9,8 @@ pub mod Reading
 pub mod PagesPassed
 pub mod Replying
 pub mod Parts
-pub mod Carrying
-pub mod SetupCarried
+pub mod Plans
 pub mod Taking
 pub mod Running
 pub mod Opening
+pub mod InMemory

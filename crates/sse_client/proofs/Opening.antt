@@ -1,7 +1,8 @@
 -- A whole run: from the start of its script over the key line, the greeting and the lines to its last line.
-use Rattle.std.proofs.Common.{◌≡◌, ℕ, ◌+◌, ◌≤◌, Bool, false, List, [], ◌∷◌, inr, refl, sym, subst}
+use Rattle.std.proofs.Common.{◌≡◌, ℕ, ◌+◌, ◌≤◌, false, List, [], ◌∷◌, inr, refl, sym, ap, subst}
 use Rattle.std.specs.Prelude.{Option, None, Some, Result, Ok, Err, IfOk, IfErr, IfSome, take}
 use Rattle.std.specs.Io.KnownBytes.{append_known}
+use Rattle.std.proofs.lemmas.List.{append-nil}
 use Rattle.client_registry.specs.Histories.{empty}
 use Rattle.keyed_fn.specs.KeyedFn.{KeyedFn, IsKeyedFn}
 use Rattle.server_core.specs.State.{ServerState}
@@ -12,7 +13,6 @@ use Rattle.script_meaning.specs.Session.{IsFree}
 use Rattle.sse_frames.specs.Frames.{Hello}
 use Rattle.sse_script.specs.Shown.{Cause, NoMemory}
 use Rattle.sse_script.specs.TextLines.{lines_left}
-use Rattle.script_meaning.proofs.Going.{append_known-nothing}
 use Rattle.script_meaning.proofs.Steps.{ContinuesOpening-start, opens-reading, at_key-away, at_key-greeted}
 use Rattle.script_meaning.specs.Carries.{Outside}
 use Rattle.script_meaning.specs.Exchange.{Told}
@@ -21,7 +21,7 @@ use Rattle.script_meaning.specs.Runs.{Ended, ended, moment, OpensFrom, OpensAtKe
 use Rattle.script_meaning.specs.Stops as ends
 use Rattle.script_meaning.specs.Stops.{status_of, stop_text}
 use Rattle.sse_client.specs.Exchanges.{HasExchanged, HasCut}
-use Rattle.sse_client.specs.Stands.{seen, EndsFrom, OpensTo, HasRun}
+use Rattle.sse_client.specs.Stands.{seen, EndsFrom, OpensTo, HasRun, HasRunTo}
 
 -- what follows from what holds of a result holds of it
 pub IfOk-then : {T E : Type 0} (r : Result T E) (P Q : T → Type 0) → ((x : T) → P x → Q x) → IfOk r P → IfOk r Q
@@ -32,38 +32,43 @@ pub IfErr-then : {T E : Type 0} (r : Result T E) (P Q : E → Type 0) → ((e : 
 IfErr-then (Ok x) P Q then p = tt
 IfErr-then (Err e) P Q then p = then e p
 
--- a script from its start
-pub from_start : (f : KeyedFn) (n : ℕ) (reader : List ℕ) (remaining : Option (List ℕ)) (now : Outside) (end : Ended) → n ≡ 0 → reader ≡ [] → OpensFrom f (n + 1) (lines_left reader remaining) now end
-    → OpensFrom f 1 (lines_left [] remaining) now end
-from_start f n reader remaining now end none fresh opens =
-    subst (λ r. OpensFrom f 1 (lines_left r remaining) now end) fresh (subst (λ m. OpensFrom f (m + 1) (lines_left reader remaining) now end) none opens)
-
 -- there was no memory before anything was read
 pub opens_memory : (f : KeyedFn) (left : Option (List (List ℕ))) (now : Outside) → OpensTo f left now now (ends.At NoMemory)
 opens_memory f left now = (None, empty, opens-reading f 1 left now 1 left (ContinuesOpening-start f 1 left now) (ended now None empty (ends.At NoMemory)) (inr refl))
 
-module _ (f : KeyedFn) (key : List ℕ) (number : ℕ) (left behind : Option (List (List ℕ))) (told : Told) (written : Option (List ℕ))
-    (opens : (end : Ended) → OpensAtKey f key number behind (seen told written) end → OpensFrom f 1 left (seen told written) end) where
-  -- the greeting was cut
-  pub opens-away : (new : Told) (c : Cause) → HasCut told new (Hello ∷ []) c → OpensTo f left (seen told written) (seen new written) (ends.At c)
-  opens-away new c cut =
-      let end = ended (seen new written) (Some key) empty (ends.At c) in (
-        Some key,
-        empty,
-        opens end (at_key-away f key number behind (seen told written) end
-            (record { cause = c; stops = refl; events = cut.events; adds = cut.adds; cut = cut.cut; unprinted = refl; same_key = refl; history = refl })),
-      )
+-- Behind the key line, which was read from the start of the script.
 
-  -- the session was opened, and the lines were carried out until the run ended
-  pub opens-greeted : (mid : Told) (end : Outside) (stop : ends.Stop) → HasExchanged told mid [] (Hello ∷ []) → EndsFrom f (moment (opened key) (number + 1) behind false (seen mid written)) end stop
-      → OpensTo f left (seen told written) end stop
-  opens-greeted mid end stop x runs =
-      let e = ended end (Some key) runs.0 stop in (
-        Some key,
-        runs.0,
-        opens e (at_key-greeted f key number behind (seen told written) e (seen mid written)
-            (record { events = x.events; adds = x.adds; exchanged = x.exchanged; unprinted = refl }) runs.1),
-      )
+module _ (f : KeyedFn) (n : ℕ) (reader : List ℕ) (remaining : Option (List ℕ)) (none : n ≡ 0) (fresh : reader ≡ []) (told : Told) (written : Option (List ℕ)) where
+  -- a script from its start
+  pub from_start : (end : Ended) → OpensFrom f (n + 1) (lines_left reader remaining) (seen told written) end → OpensFrom f 1 (lines_left [] remaining) (seen told written) end
+  from_start end opens =
+      subst (λ r. OpensFrom f 1 (lines_left r remaining) (seen told written) end) fresh (subst (λ m. OpensFrom f (m + 1) (lines_left reader remaining) (seen told written) end) none opens)
+
+  module _ (key : List ℕ) (number : ℕ) (behind : Option (List (List ℕ)))
+      (reads : (f : KeyedFn) (now : Outside) (end : Ended) → OpensAtKey f key number behind now end → OpensFrom f (n + 1) (lines_left reader remaining) now end) where
+    opens : (end : Ended) → OpensAtKey f key number behind (seen told written) end → OpensFrom f 1 (lines_left [] remaining) (seen told written) end
+    opens end at = from_start end (reads f (seen told written) end at)
+
+    -- the greeting was cut
+    pub opens-away : (new : Told) (c : Cause) → HasCut told new (Hello ∷ []) c → OpensTo f (lines_left [] remaining) (seen told written) (seen new written) (ends.At c)
+    opens-away new c cut =
+        let end = ended (seen new written) (Some key) empty (ends.At c) in (
+          Some key,
+          empty,
+          opens end (at_key-away f key number behind (seen told written) end
+              (record { cause = c; stops = refl; events = cut.events; adds = cut.adds; cut = cut.cut; unprinted = refl; same_key = refl; history = refl })),
+        )
+
+    -- the session was opened, and the lines were carried out until the run ended
+    pub opens-greeted : (mid : Told) (end : Outside) (stop : ends.Stop) → HasExchanged told mid [] (Hello ∷ []) → EndsFrom f (moment (opened key) (number + 1) behind false (seen mid written)) end stop
+        → OpensTo f (lines_left [] remaining) (seen told written) end stop
+    opens-greeted mid end stop x runs =
+        let e = ended end (Some key) runs.0 stop in (
+          Some key,
+          runs.0,
+          opens e (at_key-greeted f key number behind (seen told written) e (seen mid written)
+              (record { events = x.events; adds = x.adds; exchanged = x.exchanged; unprinted = refl }) runs.1),
+        )
 
 -- a run with its last line
 pub has_run : (f : KeyedFn) (remaining : Option (List ℕ)) (now : Outside) (told told' : Told) (written written' : Option (List ℕ)) (stop : ends.Stop) (status q : ℕ)
@@ -77,10 +82,20 @@ has_run f (Some bytes) now told told' written written' stop status q o same prin
   status_is = is;
 }
 
--- one that came to the end of its script has none
-pub has_run-end : (f : KeyedFn) (remaining : Option (List ℕ)) (now : Outside) (told : Told) (written : Option (List ℕ)) (refused : Bool) (status : ℕ)
-    → OpensTo f (lines_left [] remaining) now (seen told written) (ends.AtEnd refused) → status ≡ status_of (ends.AtEnd refused) → IfSome remaining (λ bytes. HasRun f bytes now (seen told written) status)
-has_run-end f remaining now told written refused status o is = has_run f remaining now told told written written (ends.AtEnd refused) status 0 o refl (sym (append_known-nothing written)) is
+-- what it had printed when it stopped
+pub has_run_to : (f : KeyedFn) (remaining : Option (List ℕ)) (now : Outside) (told told' : Told) (written written' : Option (List ℕ)) (stop : ends.Stop) (status q : ℕ)
+    → OpensTo f (lines_left [] remaining) now (seen told written) stop → told' ≡ told → written' ≡ append_known written (take q (stop_text stop)) → status ≡ status_of stop
+    → IfSome remaining (λ bytes. HasRunTo f bytes now (seen told' written') written status)
+unfolding has_run
+has_run_to f None now told told' written written' stop status q o same printed is = tt
+has_run_to f (Some bytes) now told told' written written' stop status q o same printed is = record {
+  run = has_run f (Some bytes) now told told' written written' stop status q o same printed is;
+  lines = refl;
+}
+
+pub nothing_more : (written : Option (List ℕ)) → written ≡ append_known written []
+nothing_more None = refl
+nothing_more (Some bytes) = ap (λ b. Some b) (sym (append-nil bytes))
 
 -- What follows from a whole run over an honest link from a server that had taken nothing.
 

@@ -10,7 +10,7 @@ use Rattle.keyed_fn.specs.KeyedFn.{KeyedFn}
 use Rattle.sse_outside.specs.declared.device_fault.DeviceFault.{DeviceFault}
 use Rattle.sse_outside.specs.declared.device_fault.DeviceFault.TheVariants as devices
 use Rattle.sse_script.specs.Lines as read
-use Rattle.sse_script.specs.Lines.{line_of, line_by_kind}
+use Rattle.sse_script.specs.Lines.{line_of}
 use Rattle.sse_script.specs.Shown.{BadLine, NoMemory}
 use Rattle.sse_script.specs.TextLines.{TakesLine, SkipsLine}
 use Rattle.sse_script.specs.Texts.{text_of}
@@ -18,7 +18,7 @@ use Rattle.sse_script.specs.Views.{line_view}
 use Rattle.sse_script.specs.declared.line.Line.{Line as ReadLine}
 use Rattle.sse_script.specs.declared.line.Line.TheVariants as reads
 use Rattle.script_meaning.proofs.Following.{after-key}
-use Rattle.script_meaning.proofs.Steps.{IsBad, IsBadFirst, Continues, runs-reading, runs-end, runs-bad, runs-stopped, continues-empty, continues-next, ContinuesOpening, opens-reading, opens-end, opens-bad, opening-empty}
+use Rattle.script_meaning.proofs.Steps.{IsBad, IsBadFirst, Continues, runs-reading, runs-end, runs-bad, runs-stopped, continues-next, ContinuesOpening, opens-reading, opens-end, opens-bad, opening-empty}
 use Rattle.script_meaning.specs.Built.{is_built, comes_to}
 use Rattle.script_meaning.specs.Carries.{Outside, with_answers, text_with}
 use Rattle.script_meaning.specs.Exchange.{Told}
@@ -111,11 +111,6 @@ bad_first (reads.Find word) not_empty not_key = tt
 pub key_told : (f : KeyedFn) (told key : List ℕ) (m n : ℕ) (behind : Option (List (List ℕ))) (now : Outside) (end : Ended) → told ≡ key → m ≡ n → OpensAtKey f told m behind now end → OpensAtKey f key n behind now end
 key_told f told key m n behind now end e counted opens = subst (λ k. OpensAtKey f k n behind now end) e (subst (λ c. OpensAtKey f told c behind now end) counted opens)
 
--- what holds of an error that is passed on holds of the result
-pub IfErr-same : {T E : Type 0} (r : Result T E) (stop : E) (Q : E → Type 0) → IsErrAnd r (λ e. e ≡ stop) → Q stop → IfErr r Q
-IfErr-same (Ok x) stop Q is q = absurd is
-IfErr-same (Err e) stop Q is q = subst Q (sym is) q
-
 -- what holds of a bad line holds of the result that tells it
 pub IfErr-line : {T : Type 0} (r : Result T Stop) (stop : Stop) (m : ℕ) (Q : Stop → Type 0) → IsErrAnd r (λ e. e ≡ stop) → stop ≡ stops.Line m → Q (stops.Line m) → IfErr r Q
 IfErr-line (Ok x) stop m Q is line q = absurd is
@@ -170,17 +165,6 @@ module _ (f : KeyedFn) (start : Moment) (stage : Stage) (number : ℕ) (left : O
       ends_with h end stop
       (runs-stopped f start s.place (number + 1) left refused now s.continues behind text taken request reads (ended end (Some s.place.key) h stop)
       (record { within = stopped s.place s.at; key = refl; history = refl }))
-
-  -- an empty line
-  pub there-empty : (behind : Option (List (List ℕ))) (text : List ℕ) (m : ℕ) → TakesLine left behind text → line_in text ≡ Some Empty → m ≡ number + 1 → IsThere f start stage m behind refused now
-  there-empty behind text m taken reads counted = record {
-    place = s.place;
-    at = s.at;
-    key = s.key;
-    continues =
-        continues-empty f start s.place (number + 1) left refused now s.continues behind text taken (moment s.place (m + 1) behind refused now) reads
-        (ap (λ n. moment s.place (n + 1) behind refused now) counted);
-  }
 
   -- a command that is carried out
   pub there-next : (behind : Option (List (List ℕ))) (text : List ℕ) (request : Request) (m : ℕ) (next : Outside) (went : Stage) (was refused' : Bool) → TakesLine left behind text → line_in text ≡ Some (Command request)

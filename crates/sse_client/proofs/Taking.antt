@@ -1,36 +1,27 @@
 -- How a session takes a command: what it comes to where the session stands, and that this is done.
-use Rattle.std.proofs.Common.{◌≡◌, ◌≢◌, inl, inr, ℕ, Bool, true, false, List, [], ◌∷◌, ◌++◌, length, refl, sym, ap, subst, ◌∙◌}
-use Rattle.std.specs.Prelude.{Option, None, Some, Result, Ok, Err, OnOk, IfOk, IfErr, IfSome, option_map, ◌==◌, if◌then◌else◌}
-use Rattle.std.specs.Option.{option_or}
-use Rattle.std.proofs.lemmas.Bool.{eqb-true}
-use Rattle.std.proofs.lemmas.List.{nil_from_length}
+use Rattle.std.proofs.Common.{◌≡◌, inl, inr, ℕ, true, false, List, [], ◌∷◌, ◌++◌, length, refl, sym, ap, subst, ◌∙◌}
+use Rattle.std.specs.Prelude.{Option, None, Some, Result, Ok, Err, OnOk, IfOk, IfErr, option_map, if◌then◌else◌}
 use Rattle.client_registry.specs.Acceptance.{blocks_of, setup_refusal}
 use Rattle.client_registry.specs.Command.{Search}
 use Rattle.client_registry.specs.Document.{Document}
 use Rattle.client_registry.specs.Documents.{words_of}
-use Rattle.client_registry.specs.FirstClash.{first_clash}
 use Rattle.client_registry.specs.Histories.{is_set_up, longer}
 use Rattle.client_registry.specs.Live.{found_in}
 use Rattle.client_registry.specs.Run.{History, at_first}
 use Rattle.client_registry.specs.Setup.{Setup, setup_of}
-use Rattle.client_registry.specs.declared.faults.SizeFault.{SizeFault}
-use Rattle.client_registry.specs.declared.faults.SizeFault.TheVariants as sizes
-use Rattle.index_setup.specs.Entries.{key_table, label_clash}
-use Rattle.index_setup.specs.Refused.{refused_by_size}
+use Rattle.index_setup.proofs.BuildErrors.{size_accepted}
+use Rattle.index_setup.specs.Entries.{key_table, label_clash, place_clash}
+use Rattle.index_setup.specs.Refused.{build_refusal}
 use Rattle.index_setup.specs.declared.fault.BuildFault.{BuildFault}
-use Rattle.index_setup.specs.declared.fault.BuildFault.TheVariants as builds
 use Rattle.keyed_fn.specs.KeyFormulas.{token_of}
 use Rattle.keyed_fn.specs.KeyedFn.{KeyedFn}
 use Rattle.sse_frames.specs.Frames.{FrameText, SearchFrame}
-use Rattle.sse_model.proofs.Counts.{length-block_positions}
-use Rattle.sse_model.specs.Compared.{Labels, Places, collision_of_setup}
 use Rattle.sse_model.specs.Histories.{frames_behind, collision_behind}
-use Rattle.sse_model.specs.Names.{Table, table}
-use Rattle.sse_model.specs.Positions.{entry_positions, block_positions}
-use Rattle.sse_model.specs.Wire.{frames_of_setup, labels_in}
+use Rattle.sse_model.specs.Names.{table}
+use Rattle.sse_model.specs.Wire.{frames_of_setup}
 use Rattle.sse_script.specs.Shown as says
-use Rattle.sse_script.specs.ShownViews.{shown_view}
-use Rattle.sse_script.specs.declared.shown.Shown.{Shown}
+use Rattle.sse_script.specs.declared.refusal.Refusal.{Refusal}
+use Rattle.sse_script.specs.declared.refusal.Refusal.TheVariants as refusals
 use Rattle.script_meaning.proofs.Going.{Adds-nothing, AreExchanged-none}
 use Rattle.script_meaning.specs.Built.{is_built, comes_to}
 use Rattle.script_meaning.specs.Carries.{frames_by, collision_cause, clash_in_hand, IsSent, StopsIn}
@@ -39,9 +30,10 @@ use Rattle.script_meaning.specs.Lines.{Line, Command, Request, Doc, SetupLine, F
 use Rattle.script_meaning.specs.Outcome.{Place, Outcome, Collects, Refuses, SetsUp, Does, document, unless, before_setup, after_setup, after}
 use Rattle.script_meaning.specs.Refused.{bad_word, collect_refusal, index_refusal, size_refused}
 use Rattle.script_meaning.specs.Stops.{At}
-use Rattle.sse_client.specs.Carried.{key_of}
+use Rattle.sse_client.specs.SetupFaults.{setup_answer}
+use Rattle.sse_client.specs.Stages.{key_of, stage_view}
 use Rattle.sse_client.specs.Exchanges.{HasExchanged, HasSearched, HasCut}
-use Rattle.sse_client.specs.LineFaults.{SaysRefusal, refusal_shown}
+use Rattle.sse_client.specs.LineFaults.{SaysRefusal}
 use Rattle.sse_client.specs.OutcomeViews.{outcome_view, refuses}
 use Rattle.sse_client.specs.Stands.{IsStage, IsAt, GoesOn, Takes, StopsWithin, seen}
 use Rattle.sse_client.specs.Stops.{peer_cause}
@@ -51,17 +43,16 @@ use Rattle.sse_client.specs.declared.outcome.Outcome.{Outcome as Came}
 use Rattle.sse_client.specs.declared.outcome.Outcome.TheVariants as comings
 use Rattle.sse_client.specs.declared.peer_stop.PeerStop.{PeerStop}
 use Rattle.sse_client.specs.declared.peer_stop.PeerStop.TheVariants as peers
-use Rattle.sse_client.specs.Stages.{stage_view}
 use Rattle.sse_client.specs.declared.session.Stage.{Stage}
 use Rattle.sse_client.specs.declared.session.Stage.TheVariants.{Collecting, Searching}
 use Rattle.sse_client.proofs.Collected.{IsAnswer, IsAdded, inside}
 use Rattle.sse_client.proofs.Parts.{AreCut-memory}
-use Rattle.sse_client.proofs.SetupCarried.{IsRefusedPlan, IsPlanAnswer, refusing, IsClashing, clashing_stop}
+use Rattle.sse_client.proofs.Plans.{clash_cause, no_clash-planned, IsRefusedPlan, refused_size, stopped_plan}
 
 -- What a command comes to.
 
 abbrev kept_if : Request → Outcome → Outcome
-kept_if line result = if is_built line result then result else Refuses says.NotBuilt
+kept_if line result = if is_built line then result else Refuses refusals.NotBuilt
 
 module _ (place : Place) (line : Request) where
   pub before : is_set_up place.history ≡ false → comes_to is_built place line ≡ kept_if line (before_setup place.documents line)
@@ -81,7 +72,7 @@ module _ (f : KeyedFn) (told : Told) (next : Stage) (came : Came) (place : Place
     no_clash = no_clash;
   }
 
-  pub goes-refused : (refusal : says.Refusal) → outcome_view came ≡ says.Refused refusal ∷ [] → refuses came ≡ true → IsAt f next place → GoesOn f told told next came place (Refuses refusal)
+  pub goes-refused : (refusal : Refusal) → outcome_view came ≡ says.Refused refusal ∷ [] → refuses came ≡ true → IsAt f next place → GoesOn f told told next came place (Refuses refusal)
   goes-refused refusal view refused at = record { answers = []; sent = quiet_sent (Refuses refusal) refl refl; shown = view; refuses = refused; stands = at }
 
   pub goes-collected : (d : Document) → outcome_view came ≡ [] → refuses came ≡ false → IsAt f next (after (Collects d) place) → GoesOn f told told next came place (Collects d)
@@ -89,17 +80,12 @@ module _ (f : KeyedFn) (told : Told) (next : Stage) (came : Came) (place : Place
 
 -- A document.
 
-comes-doc : (place : Place) (id : ℕ) (texts : List (List ℕ)) (docs : List Document) (r : Option says.Refusal) → is_set_up place.history ≡ false → docs ≡ place.documents → collect_refusal docs (document id texts) ≡ r
+comes-doc : (place : Place) (id : ℕ) (texts : List (List ℕ)) (docs : List Document) (r : Option Refusal) → is_set_up place.history ≡ false → docs ≡ place.documents → collect_refusal docs (document id texts) ≡ r
     → comes_to is_built place (Doc id texts) ≡ unless r (Collects (document id texts))
 comes-doc place id texts docs r none same e =
     before place (Doc id texts) none
-    ∙ ap (λ ds. kept_if (Doc id texts) (unless (collect_refusal ds (document id texts)) (Collects (document id texts)))) (sym same)
-    ∙ ap (λ r. kept_if (Doc id texts) (unless r (Collects (document id texts)))) e
-    ∙ by r
-  where
-    by : (r : Option says.Refusal) → kept_if (Doc id texts) (unless r (Collects (document id texts))) ≡ unless r (Collects (document id texts))
-    by None = refl
-    by (Some refusal) = refl
+    ∙ ap (λ ds. unless (collect_refusal ds (document id texts)) (Collects (document id texts))) (sym same)
+    ∙ ap (λ r. unless r (Collects (document id texts))) e
 
 -- where a session collects, it takes a document or refuses it
 pub takes-doc : {T : Type 0} (f : KeyedFn) (told : Told) (id : ℕ) (texts : List (List ℕ)) (docs new : List Document) (next : Stage) (came : Came) (done : Result T LineFault) (place : Place)
@@ -115,12 +101,12 @@ takes-doc f told id texts docs new next came (Err (faults.Refused shown)) place 
     is : came ≡ comings.Refused shown
     is = inside came (comings.Refused shown) (Ok came) refl (a.refused shown refl)
 
-    by : (r : Option says.Refusal) → collect_refusal docs (document id texts) ≡ r → Some (shown_view shown) ≡ refusal_shown r → GoesOn f told told next came place (comes_to is_built place (Doc id texts))
+    by : (r : Option Refusal) → collect_refusal docs (document id texts) ≡ r → Some shown ≡ r → GoesOn f told told next came place (comes_to is_built place (Doc id texts))
     by None e tells = absurd (cc)
     by (Some refusal) e tells =
-        let line : shown_view shown ≡ says.Refused refusal = cc in
+        let line : shown ≡ refusal = cc in
         subst (GoesOn f told told next came place) (sym (comes-doc place id texts docs (Some refusal) none same e))
-        (goes-refused f told next came place refusal (ap outcome_view is ∙ ap (λ l. l ∷ []) line) (ap refuses is) (at place.documents place (h.kept ∙ same) refl))
+        (goes-refused f told next came place refusal (ap outcome_view is ∙ ap (λ l. says.Refused l ∷ []) line) (ap refuses is) (at place.documents place (h.kept ∙ same) refl))
 takes-doc f told id texts docs new next came (Err faults.NoMemory) place none same at h a = let no : Ok came ≡ Err peers.Memory = a.memory refl in absurd (cc)
 
 -- A search.
@@ -138,15 +124,8 @@ module _ (f : KeyedFn) (place : Place) (word : List ℕ) where
   abbrev searching : Outcome
   searching = Does (Search word ∷ []) (says.Found (found_in place.history word))
 
-  comes-find : (r : Option says.Refusal) → is_set_up place.history ≡ true → bad_word 0 (word ∷ []) ≡ r → comes_to is_built place (Find word) ≡ unless r searching
-  comes-find r up e =
-      behind place (Find word) up
-      ∙ ap (λ r. kept_if (Find word) (unless r searching)) e
-      ∙ by r
-    where
-      by : (r : Option says.Refusal) → kept_if (Find word) (unless r searching) ≡ unless r searching
-      by None = refl
-      by (Some refusal) = refl
+  comes-find : (r : Option Refusal) → is_set_up place.history ≡ true → bad_word 0 (word ∷ []) ≡ r → comes_to is_built place (Find word) ≡ unless r searching
+  comes-find r up e = behind place (Find word) up ∙ ap (λ r. unless r searching) e
 
   token_at : (key : List ℕ) → key ≡ place.key → is_set_up place.history ≡ true → SearchFrame (token_of f key word) ∷ [] ≡ frames_by f place searching
   token_at key same up = ap (λ k. SearchFrame (token_of f k word) ∷ []) same ∙ sym (frames-search f place.key word place.history up)
@@ -194,12 +173,12 @@ module _ (f : KeyedFn) (place : Place) (word : List ℕ) where
       is : came ≡ comings.Refused shown
       is = inside came (comings.Refused shown) answer ok (a.refused shown refl)
 
-      by : (r : Option says.Refusal) → bad_word 0 (word ∷ []) ≡ r → Some (shown_view shown) ≡ refusal_shown r → GoesOn f told told next came place (comes_to is_built place (Find word))
+      by : (r : Option Refusal) → bad_word 0 (word ∷ []) ≡ r → Some shown ≡ r → GoesOn f told told next came place (comes_to is_built place (Find word))
       by None e tells = absurd (cc)
       by (Some refusal) e tells =
-          let line : shown_view shown ≡ says.Refused refusal = cc in
+          let line : shown ≡ refusal = cc in
           subst (GoesOn f told told next came place) (sym (comes-find (Some refusal) up e))
-          (goes-refused f told next came place refusal (ap outcome_view is ∙ ap (λ l. l ∷ []) line) (ap refuses is) at)
+          (goes-refused f told next came place refusal (ap outcome_view is ∙ ap (λ l. says.Refused l ∷ []) line) (ap refuses is) at)
   takes-bad_word told next came faults.NoMemory answer up a ok tells at = let no : answer ≡ Err peers.Memory = a.memory refl in absurd (cc)
 
 -- where there was no memory before anything was sent, the run stops there
@@ -240,51 +219,40 @@ pub at_searching : (stage : Stage) (place : Place) → stage_view stage ≡ None
 at_searching (Collecting client docs) place e up = absurd (cc)
 at_searching (Searching client) place e up = up
 
--- a setup without blocks has the collision of its labels alone
-collision-labels : (t : Table) (s : Setup) (c : Option (ℕ × ℕ)) → blocks_of s ≡ 0 → first_clash (labels_in t (entry_positions 0 s)) ≡ c → collision_of_setup t 0 s ≡ option_map (λ places. Labels places.0 places.1) c
-collision-labels t s c none e =
-    ap (λ c. option_or (option_map (λ (places : ℕ × ℕ). Labels places.0 places.1) c) (option_map (λ (places : ℕ × ℕ). Places places.0 places.1) (first_clash (labels_in t (block_positions 0 s))))) e
-    ∙ ap (λ ps. option_or (option_map (λ (places : ℕ × ℕ). Labels places.0 places.1) c) (option_map (λ (places : ℕ × ℕ). Places places.0 places.1) (first_clash (labels_in t ps)))) (nil_from_length (block_positions 0 s) (length-block_positions 0 s ∙ none))
-    ∙ by c
-  where
-    by : (c : Option (ℕ × ℕ)) → option_or (option_map (λ (places : ℕ × ℕ). Labels places.0 places.1) c) None ≡ option_map (λ (places : ℕ × ℕ). Labels places.0 places.1) c
-    by None = refl
-    by (Some places) = refl
-
 module _ (f : KeyedFn) (key : List ℕ) (docs : List Document) (b big : ℕ) where
   abbrev s : Setup
   s = setup_of docs b big
 
-  clash-labels : (place : Place) (c : Option (ℕ × ℕ)) → key ≡ place.key → blocks_of s ≡ 0 → label_clash f key s ≡ c → clash_in_hand f place (SetsUp s) ≡ option_map collision_cause (option_map (λ places. Labels places.0 places.1) c)
-  clash-labels place c same none e = ap (option_map collision_cause) (collision-labels (table f s.shape (λ epoch. place.key)) s c none (subst (λ k. label_clash f k s ≡ c) same e))
-
   module _ (place : Place) (same_key : key ≡ place.key) (same : docs ≡ place.documents) (fresh : is_set_up place.history ≡ false) where
-    comes-setup : comes_to is_built place (SetupLine b big) ≡ kept_if (SetupLine b big) (unless (index_refusal docs b big) (SetsUp s))
-    comes-setup = before place (SetupLine b big) fresh ∙ ap (λ ds. kept_if (SetupLine b big) (unless (index_refusal ds b big) (SetsUp (setup_of ds b big)))) (sym same)
+    comes-setup : comes_to is_built place (SetupLine b big) ≡ unless (index_refusal docs b big) (SetsUp s)
+    comes-setup = before place (SetupLine b big) fresh ∙ ap (λ ds. unless (index_refusal ds b big) (SetsUp (setup_of ds b big))) (sym same)
 
-    comes-set_up : setup_refusal docs b big ≡ None → blocks_of s ≡ 0 → comes_to is_built place (SetupLine b big) ≡ SetsUp s
-    comes-set_up none blocks =
-        comes-setup
-        ∙ ap (λ r. kept_if (SetupLine b big) (unless (option_map size_refused r) (SetsUp s))) none
-        ∙ ap (λ n. if n == 0 then SetsUp s else Refuses says.NotBuilt) blocks
+    comes-set_up : setup_refusal docs b big ≡ None → comes_to is_built place (SetupLine b big) ≡ SetsUp s
+    comes-set_up none = comes-setup ∙ ap (λ r. unless (option_map size_refused r) (SetsUp s)) none
 
     frames_at : frames_of_setup (key_table f key s) at_first s ≡ frames_by f place (SetsUp s)
     frames_at = ap (λ k. frames_of_setup (table f s.shape (λ epoch. k)) at_first s) same_key
 
-    module _ (none : setup_refusal docs b big ≡ None) (blocks : blocks_of s ≡ 0) (differ : label_clash f key s ≡ None) (old new : Told) where
-      takes-setup : (next : Stage) (came : Came) (words big_blocks : ℕ) → words ≡ length (words_of docs) → big_blocks ≡ 0 → HasExchanged old new [] (frames_of_setup (key_table f key s) at_first s)
-          → outcome_view came ≡ says.SetUp words big_blocks ∷ [] → refuses came ≡ false → stage_view next ≡ None → key_of next ≡ key → GoesOn f old new next came place (comes_to is_built place (SetupLine b big))
-      takes-setup next came words big_blocks counted none_big x view fine at keyed =
-          subst (GoesOn f old new next came place) (sym (comes-set_up none blocks))
+    clash_at : clash_in_hand f place (SetsUp s) ≡ clash_cause (label_clash f key s) (place_clash f key s)
+    clash_at = ap (λ k. clash_cause (label_clash f k s) (place_clash f k s)) (sym same_key)
+
+    module _ (accepted : build_refusal f key docs b big ≡ None) (old new : Told) where
+      no_clash-setup : clash_in_hand f place (SetsUp s) ≡ None
+      no_clash-setup = clash_at ∙ no_clash-planned f key docs b big accepted
+
+      takes-setup : (next : Stage) (came : Came) (words blocks : ℕ) → words ≡ length (words_of docs) → blocks ≡ blocks_of s → HasExchanged old new [] (frames_of_setup (key_table f key s) at_first s)
+          → outcome_view came ≡ says.SetUp words blocks ∷ [] → refuses came ≡ false → stage_view next ≡ None → key_of next ≡ key → GoesOn f old new next came place (comes_to is_built place (SetupLine b big))
+      takes-setup next came words blocks counted counted_blocks x view fine at keyed =
+          subst (GoesOn f old new next came place) (sym (comes-set_up (size_accepted f key s accepted)))
           (record {
             answers = [];
             sent = record {
               events = x.events;
               adds = x.adds;
               exchanged = subst (λ fs. AreExchanged [] fs x.events) frames_at x.exchanged;
-              no_clash = clash-labels place None same_key blocks differ;
+              no_clash = no_clash-setup;
             };
-            shown = view ∙ (λ i. says.SetUp (counted i) ((none_big ∙ sym blocks) i) ∷ []);
+            shown = view ∙ (λ i. says.SetUp (counted i) (counted_blocks i) ∷ []);
             refuses = fine;
             stands = record { key = keyed ∙ same_key; stands = at_searching next (after (SetsUp s) place) at refl };
           })
@@ -292,119 +260,75 @@ module _ (f : KeyedFn) (key : List ℕ) (docs : List Document) (b big : ℕ) whe
       stops-setup : (c : says.Cause) → HasCut old new (frames_of_setup (key_table f key s) at_first s) c → (written : Option (List ℕ))
           → StopsIn f place (comes_to is_built place (SetupLine b big)) (seen old written) (seen new written) (At c)
       stops-setup c cut written =
-          subst (λ result. StopsIn f place result (seen old written) (seen new written) (At c)) (sym (comes-set_up none blocks))
+          subst (λ result. StopsIn f place result (seen old written) (seen new written) (At c)) (sym (comes-set_up (size_accepted f key s accepted)))
           (inr (inl (record {
             cause = c;
             stops = refl;
             events = cut.events;
             adds = cut.adds;
             cut = subst (λ fs. AreCut fs cut.events c) frames_at cut.cut;
-            no_clash = λ _. clash-labels place None same_key blocks differ;
+            no_clash = λ _. no_clash-setup;
             unprinted = refl;
           })))
 
     module _ (T : Type 0) (fault : BuildFault) (plan : IsRefusedPlan T f key docs b big fault) (told : Told) where
-      module _ (next : Stage) (came : Came) (shown : Shown) (view : outcome_view came ≡ shown_view shown ∷ []) (refused : refuses came ≡ true) (at : IsAt f next place) (answer : IsPlanAnswer fault (Ok shown)) where
-        abbrev Goes : Outcome → Type 0
-        Goes result = GoesOn f told told next came place result
+      -- a setup whose plan was refused is refused
+      pub takes-refused_setup : (next : Stage) (came : Came) (shown : Refusal) → outcome_view came ≡ says.Refused shown ∷ [] → refuses came ≡ true → IsAt f next place → setup_answer fault ≡ Ok shown
+          → GoesOn f told told next came place (comes_to is_built place (SetupLine b big))
+      takes-refused_setup next came shown view refused at answer =
+          subst (GoesOn f told told next came place) (sym (comes-setup ∙ ap (λ r. unless r (SetsUp s)) (refused_size f key docs b big T fault plan shown answer)))
+          (goes-refused f told next came place shown view refused at)
 
-        refuses_with : (refusal : says.Refusal) → Some (shown_view shown) ≡ Some (says.Refused refusal) → Goes (Refuses refusal)
-        refuses_with refusal tells =
-            let line : shown_view shown ≡ says.Refused refusal = cc in
-            goes-refused f told next came place refusal (view ∙ ap (λ l. l ∷ []) line) refused at
-
-        memory_not : refusing T fault ≡ refusing T builds.NoMemory → ⊥
-        memory_not e = let is : fault ≡ builds.NoMemory = cc in absurd (cc (answer.memory is))
-
-        no_other : setup_refusal docs b big ≡ None → blocks_of s ≡ 0 → (c : Option (ℕ × ℕ)) → label_clash f key s ≡ c → ⊥
-        no_other none blocks None e =
-            let is : fault ≡ builds.NoMemory = plan.built none blocks e in
-            absurd (cc (answer.memory is))
-        no_other none blocks (Some words) e =
-            let is : refusing T fault ≡ refusing T (builds.LabelClash words.0 words.1) =
-            subst (λ c. IfSome c (λ words. refusing T fault ≡ refusing T (builds.LabelClash words.0 words.1))) e (plan.clash none blocks memory_not) in
-            let clash : fault ≡ builds.LabelClash words.0 words.1 = cc in
-            absurd (cc (answer.clash words.0 words.1 clash))
-
-        by_blocks : setup_refusal docs b big ≡ None → (z : Bool) → (blocks_of s == 0) ≡ z → Goes (if z then SetsUp s else Refuses says.NotBuilt)
-        by_blocks none true z = absurd (no_other none (eqb-true (blocks_of s) 0 z) (label_clash f key s) refl)
-        by_blocks none false z =
-            let some : blocks_of s ≢ 0 = λ e. let zero : (blocks_of s == 0) ≡ true = ap (λ n. n == 0) e in absurd (cc) in
-            let is : refusing T fault ≡ refusing T builds.NotBuilt = plan.not_built none some in
-            let it : fault ≡ builds.NotBuilt = cc in
-            refuses_with says.NotBuilt (answer.not_built it)
-
-        by_size : (r : Option SizeFault) → setup_refusal docs b big ≡ r → Goes (kept_if (SetupLine b big) (unless (option_map size_refused r) (SetsUp s)))
-        by_size None e = by_blocks e (blocks_of s == 0) refl
-        by_size (Some size) e =
-            let is : refusing T fault ≡ refusing T (refused_by_size size) = subst (λ r. IfSome r (λ size. refusing T fault ≡ refusing T (refused_by_size size))) e plan.refused in
-            let it : fault ≡ refused_by_size size = cc in
-            refuses_with (size_refused size) (answer.size size it)
-
-        -- a setup whose plan was refused is refused
-        pub takes-refused_setup : Goes (comes_to is_built place (SetupLine b big))
-        takes-refused_setup = subst Goes (sym comes-setup) (by_size (setup_refusal docs b big) refl)
-
-      finds_clash : (first second : ℕ) (stop : PeerStop) → IsClashing f key docs b big first second → stop ≡ peers.LabelClash first second → (written : Option (List ℕ))
+      -- equal labels and equal places stop the run at the setup, and so does want of memory
+      pub stops-plan : (stop : PeerStop) → setup_answer fault ≡ Err stop → (written : Option (List ℕ))
           → StopsIn f place (comes_to is_built place (SetupLine b big)) (seen told written) (seen told written) (At (peer_cause stop))
-      finds_clash first second stop c is written =
-          subst (λ result. StopsIn f place result (seen told written) (seen told written) (At (peer_cause stop))) (sym (comes-set_up c.0 c.1))
-          (inl (record { cause = says.LabelClash first second; found = clash-labels place (Some (first, second)) same_key c.1 c.2; stops = ap (λ stop. At (peer_cause stop)) is; nothing = refl }))
-
-    -- equal labels stop the run at the setup, and so does want of memory
-    pub stops-plan : (T : Type 0) (fault : BuildFault) (stop : PeerStop) (told : Told) → IsRefusedPlan T f key docs b big fault → IsPlanAnswer fault (Err stop) → (written : Option (List ℕ))
-        → StopsIn f place (comes_to is_built place (SetupLine b big)) (seen told written) (seen told written) (At (peer_cause stop))
-    stops-plan T (builds.BadParameter which value) stop told plan a written = absurd (let no : None ≡ Some (says.Refused (says.BadParameter which value)) = a.size (sizes.BadParameter which value) refl in cc)
-    stops-plan T (builds.ListTooLong word n) stop told plan a written = absurd (let no : None ≡ Some (says.Refused (says.ListTooLong word n)) = a.size (sizes.ListTooLong word n) refl in cc)
-    stops-plan T (builds.TooManyBytes n) stop told plan a written = absurd (let no : None ≡ Some (says.Refused (says.TooManyBytes n)) = a.size (sizes.TooManyBytes n) refl in cc)
-    stops-plan T builds.NotBuilt stop told plan a written = absurd (let no : None ≡ Some (says.Refused says.NotBuilt) = a.not_built refl in cc)
-    stops-plan T (builds.LabelClash first second) stop told plan a written =
-        let is : stop ≡ peers.LabelClash first second = cc (a.clash first second refl) in
-        finds_clash T (builds.LabelClash first second) plan told first second stop (clashing_stop T f key docs b big first second (builds.LabelClash first second) stop plan a is) is written
-    stops-plan T builds.NoMemory stop told plan a written =
-        let is : stop ≡ peers.Memory = cc (a.memory refl) in
-        subst (λ x. StopsIn f place (comes_to is_built place (SetupLine b big)) (seen told written) (seen told written) (At (peer_cause x))) (sym is)
-        (stops-memory f told place (comes_to is_built place (SetupLine b big)) written)
+      stops-plan stop answer written =
+          let why = stopped_plan f key docs b big T fault plan stop answer in
+          elim why.1 [
+            | inl found ↦ subst (λ result. StopsIn f place result (seen told written) (seen told written) (At (peer_cause stop))) (sym (comes-set_up why.0))
+                (inl (record { cause = peer_cause stop; found = clash_at ∙ found; stops = refl; nothing = refl }))
+            | inr memory ↦ subst (λ x. StopsIn f place (comes_to is_built place (SetupLine b big)) (seen told written) (seen told written) (At (peer_cause x))) (sym memory)
+                (stops-memory f told place (comes_to is_built place (SetupLine b big)) written)
+          ]
 
 -- the key and the documents of a session that collects
 abbrev pub IsCollecting : KeyedFn → List ℕ → List Document → Stage → Type 0
 IsCollecting f key docs stage = (place : Place) → IsAt f stage place → (key ≡ place.key) × (docs ≡ place.documents) × (is_set_up place.history ≡ false)
 
-module _ (f : KeyedFn) (key : List ℕ) (old new : Told) (stage : Stage) (docs : List Document) (b big : ℕ) (at : IsCollecting f key docs stage) (none : setup_refusal docs b big ≡ None) (blocks : blocks_of (setup_of docs b big) ≡ 0)
-    (differ : label_clash f key (setup_of docs b big) ≡ None) where
+module _ (f : KeyedFn) (key : List ℕ) (old new : Told) (stage : Stage) (docs : List Document) (b big : ℕ) (at : IsCollecting f key docs stage) (accepted : build_refusal f key docs b big ≡ None) where
   abbrev sent_frames : List FrameText
   sent_frames = frames_of_setup (key_table f key (setup_of docs b big)) at_first (setup_of docs b big)
 
   -- a setup whose sending ended is done
-  pub takes_if_sent : (words big_blocks : ℕ) → words ≡ length (words_of docs) → big_blocks ≡ 0 → (r : Result (Stage × Came) PeerStop) → OnOk r (HasExchanged old new [] sent_frames)
-      → IfOk r (λ done. outcome_view done.1 ≡ says.SetUp words big_blocks ∷ []) → IfOk r (λ done. refuses done.1 ≡ false) → IfOk r (λ done. stage_view done.0 ≡ None) → IfOk r (λ done. key_of done.0 ≡ key)
+  pub takes_if_sent : (words blocks : ℕ) → words ≡ length (words_of docs) → blocks ≡ blocks_of (setup_of docs b big) → (r : Result (Stage × Came) PeerStop) → OnOk r (HasExchanged old new [] sent_frames)
+      → IfOk r (λ done. outcome_view done.1 ≡ says.SetUp words blocks ∷ []) → IfOk r (λ done. refuses done.1 ≡ false) → IfOk r (λ done. stage_view done.0 ≡ None) → IfOk r (λ done. key_of done.0 ≡ key)
       → IfOk r (λ done. Takes f stage (SetupLine b big) old new done.0 done.1)
-  takes_if_sent words big_blocks counted none_big (Ok done) x view fine up keyed = λ place a.
+  takes_if_sent words blocks counted counted_blocks (Ok done) x view fine up keyed = λ place a.
       let p = at place a in
-      takes-setup f key docs b big place p.0 p.1 p.2 none blocks differ old new done.0 done.1 words big_blocks counted none_big x view fine up keyed
-  takes_if_sent words big_blocks counted none_big (Err stop) x view fine up keyed = tt
+      takes-setup f key docs b big place p.0 p.1 p.2 accepted old new done.0 done.1 words blocks counted counted_blocks x view fine up keyed
+  takes_if_sent words blocks counted counted_blocks (Err stop) x view fine up keyed = tt
 
   -- one whose sending was cut stops the run
   pub stops_if_sent : (r : Result (Stage × Came) PeerStop) → IfErr r (λ stop. HasCut old new sent_frames (peer_cause stop)) → IfErr r (λ stop. StopsWithin f stage (SetupLine b big) old new (peer_cause stop))
   stops_if_sent (Ok done) cut = tt
   stops_if_sent (Err stop) cut = λ place a written.
       let p = at place a in
-      stops-setup f key docs b big place p.0 p.1 p.2 none blocks differ old new (peer_cause stop) cut written
+      stops-setup f key docs b big place p.0 p.1 p.2 accepted old new (peer_cause stop) cut written
 
 -- one more setup is refused
-pub takes-set_up_already : (f : KeyedFn) (told : Told) (next : Stage) (came : Came) (place : Place) (b big : ℕ) → is_set_up place.history ≡ true → outcome_view came ≡ says.Refused says.SetUpAlready ∷ [] → refuses came ≡ true → IsAt f next place
+pub takes-set_up_already : (f : KeyedFn) (told : Told) (next : Stage) (came : Came) (place : Place) (b big : ℕ) → is_set_up place.history ≡ true → outcome_view came ≡ says.Refused refusals.SetUpAlready ∷ [] → refuses came ≡ true → IsAt f next place
     → GoesOn f told told next came place (comes_to is_built place (SetupLine b big))
-takes-set_up_already f told next came place b big up view fine at = subst (GoesOn f told told next came place) (sym (behind place (SetupLine b big) up)) (goes-refused f told next came place says.SetUpAlready view fine at)
+takes-set_up_already f told next came place b big up view fine at = subst (GoesOn f told told next came place) (sym (behind place (SetupLine b big) up)) (goes-refused f told next came place refusals.SetUpAlready view fine at)
 
 -- so is a document behind the setup
-pub takes-doc_behind : (f : KeyedFn) (told : Told) (next : Stage) (came : Came) (place : Place) (id : ℕ) (words : List (List ℕ)) → is_set_up place.history ≡ true → outcome_view came ≡ says.Refused says.SetUpAlready ∷ [] → refuses came ≡ true
+pub takes-doc_behind : (f : KeyedFn) (told : Told) (next : Stage) (came : Came) (place : Place) (id : ℕ) (words : List (List ℕ)) → is_set_up place.history ≡ true → outcome_view came ≡ says.Refused refusals.SetUpAlready ∷ [] → refuses came ≡ true
     → IsAt f next place → GoesOn f told told next came place (comes_to is_built place (Doc id words))
-takes-doc_behind f told next came place id words up view fine at = subst (GoesOn f told told next came place) (sym (behind place (Doc id words) up)) (goes-refused f told next came place says.SetUpAlready view fine at)
+takes-doc_behind f told next came place id words up view fine at = subst (GoesOn f told told next came place) (sym (behind place (Doc id words) up)) (goes-refused f told next came place refusals.SetUpAlready view fine at)
 
 -- and a search before it
-pub takes-not_set_up : (f : KeyedFn) (told : Told) (next : Stage) (came : Came) (place : Place) (word : List ℕ) → is_set_up place.history ≡ false → outcome_view came ≡ says.Refused says.NotSetUp ∷ [] → refuses came ≡ true
+pub takes-not_set_up : (f : KeyedFn) (told : Told) (next : Stage) (came : Came) (place : Place) (word : List ℕ) → is_set_up place.history ≡ false → outcome_view came ≡ says.Refused refusals.NotSetUp ∷ [] → refuses came ≡ true
     → IsAt f next place → GoesOn f told told next came place (comes_to is_built place (Find word))
-takes-not_set_up f told next came place word fresh view fine at = subst (GoesOn f told told next came place) (sym (before place (Find word) fresh)) (goes-refused f told next came place says.NotSetUp view fine at)
+takes-not_set_up f told next came place word fresh view fine at = subst (GoesOn f told told next came place) (sym (before place (Find word) fresh)) (goes-refused f told next came place refusals.NotSetUp view fine at)
 
 -- The command of a line.
 
@@ -433,8 +357,8 @@ takes_under f told stage request (Ok done) t = t f told
 takes_under f told stage request (Err stop) t = tt
 
 -- additions and deletions are refused
-pub takes-not_built : (f : KeyedFn) (told : Told) (stage : Stage) (came : Came) (line : Line) (own request : Request) → outcome_view came ≡ says.Refused says.NotBuilt ∷ [] → refuses came ≡ true
-    → ((place : Place) → comes_to is_built place own ≡ Refuses says.NotBuilt) → line ≡ Command own → line ≡ Command request → Takes f stage request told told stage came
+pub takes-not_built : (f : KeyedFn) (told : Told) (stage : Stage) (came : Came) (line : Line) (own request : Request) → outcome_view came ≡ says.Refused refusals.NotBuilt ∷ [] → refuses came ≡ true
+    → ((place : Place) → comes_to is_built place own ≡ Refuses refusals.NotBuilt) → line ≡ Command own → line ≡ Command request → Takes f stage request told told stage came
 takes-not_built f told stage came line own request view fine comes is e = λ place a.
     subst (λ q. GoesOn f told told stage came place (comes_to is_built place q)) (inner own request (sym is ∙ e))
-    (subst (GoesOn f told told stage came place) (sym (comes place)) (goes-refused f told stage came place says.NotBuilt view fine a))
+    (subst (GoesOn f told told stage came place) (sym (comes place)) (goes-refused f told stage came place refusals.NotBuilt view fine a))

@@ -1,5 +1,5 @@
 -- Where a session stands in its script, what it does with a command there, and how a run ends.
-use Rattle.std.specs.Prelude.{◌≡◌, ◌≤◌, Bool, true, false, List, ℕ, map, Option, Some}
+use Rattle.std.specs.Prelude.{◌≡◌, ◌≤◌, Bool, true, false, List, [], ℕ, map, Option, Some}
 use Rattle.client_registry.specs.Histories.{is_set_up}
 use Rattle.client_registry.specs.Live.{in_order}
 use Rattle.client_registry.specs.Run.{History}
@@ -17,7 +17,7 @@ use Rattle.script_meaning.specs.Outcome.{Place, Outcome, after, shown_by, is_ref
 use Rattle.script_meaning.specs.Runs.{Ended, ended, Opens, Ends, Moment, RunsFrom, OpensFrom}
 use Rattle.script_meaning.specs.Stops as ends
 use Rattle.script_meaning.specs.Stops.{status_of}
-use Rattle.sse_client.specs.Carried.{key_of}
+use Rattle.sse_client.specs.Stages.{key_of}
 use Rattle.sse_client.specs.OutcomeViews.{outcome_view, refuses}
 use Rattle.sse_client.specs.Stops.{peer_cause}
 use Rattle.sse_client.specs.declared.outcome.Outcome.{Outcome as Came}
@@ -103,6 +103,11 @@ pub record HasRun (f : KeyedFn) (bytes : List ℕ) (now last : Outside) (status 
   pub ends : Ends end last
   pub status_is : status ≡ status_of end.stop
 
+-- the same, which had printed so much when it stopped, before its last line
+pub record HasRunTo (f : KeyedFn) (bytes : List ℕ) (now last : Outside) (written : Option (List ℕ)) (status : ℕ) : Type 0 where
+  pub run : HasRun f bytes now last status
+  pub lines : run.end.outside.written ≡ written
+
 -- a whole run that, over an honest link from a server that had taken nothing, no collision and no reply stopped, where its
 -- history up to its stop has no collision
 pub record IsHonest (f : KeyedFn) (bytes : List ℕ) (now last : Outside) (status : ℕ) : Type 0 where
@@ -114,3 +119,16 @@ abbrev pub HasHeadline : KeyedFn → List ℕ → Outside → Outside → ℕ �
 HasHeadline f bytes now last status =
     (state : ServerState) → IsOverHonest f now.told last.told state → IsFree f (meaning bytes).key (meaning bytes).history → IsCalm status
     → Headline f (meaning bytes) now last status state
+
+-- a whole run over a server that had taken nothing, with what passed and the server behind it
+pub record HasRunInMemory (f : KeyedFn) (bytes : List ℕ) (old new : Option (List ℕ)) (status : ℕ) : Type 0 where
+  pub told : Told
+  pub state : ServerState
+  pub over : IsOverHonest f (Some []) told state
+  pub honest : IsHonest f bytes (seen (Some []) old) (seen told new) status
+
+-- where its history has no collision, the script did what it means, over a server that had taken nothing
+abbrev pub IsMeant : KeyedFn → List ℕ → Option (List ℕ) → Option (List ℕ) → ℕ → Type 0
+IsMeant f bytes old new status =
+    IsFree f (meaning bytes).key (meaning bytes).history
+    → (told : Told) × (state : ServerState) × Headline f (meaning bytes) (seen (Some []) old) (seen told new) status state

@@ -6,8 +6,7 @@ use Rattle.sse_link.specs.declared.link_fault.LinkFault.{LinkFault as FaultOfLin
 use Rattle.sse_link.specs.declared.link_fault.LinkFault.TheVariants as links
 use Rattle.sse_outside.specs.declared.device_fault.DeviceFault.{DeviceFault}
 use Rattle.sse_outside.specs.declared.device_fault.DeviceFault.TheVariants as devices
-use Rattle.sse_script.specs.Shown.{Cause, BadWords, BadLine, SourceFault, LinkFault, NoMemory, LabelClash, Clash, PeerElsewhere, BadReply}
-use Rattle.sse_script.specs.Stops as ending
+use Rattle.sse_script.specs.Shown.{Cause, LinkFault, NoMemory, LabelClash, PlaceClash, Clash, PeerElsewhere, BadReply}
 use Rattle.sse_script.specs.declared.read_stop.ReadStop.{ReadStop}
 use Rattle.sse_script.specs.declared.read_stop.ReadStop.TheVariants as reads
 use Rattle.sse_client.specs.declared.peer_stop.PeerStop.{PeerStop}
@@ -32,6 +31,7 @@ abbrev pub peer_cause : PeerStop → Cause
 peer_cause peers.Link = LinkFault
 peer_cause peers.Memory = NoMemory
 peer_cause (peers.LabelClash first second) = LabelClash first second
+peer_cause (peers.PlaceClash first second) = PlaceClash first second
 peer_cause (peers.Clash what place) = Clash what place
 peer_cause (peers.Elsewhere got) = PeerElsewhere 0 0 got
 peer_cause (peers.BadReply start) = BadReply (take start.len start.bytes)
@@ -43,15 +43,6 @@ cause_of_fault faults.NoMemory reply = NoMemory
 cause_of_fault faults.OutOfMemory reply = NoMemory
 cause_of_fault faults.StoreFault reply = LinkFault
 cause_of_fault faults.BadReply reply = BadReply (take 16 reply)
-
--- what stopped a run before the end of its input
-abbrev pub stop_view : Stop → ending.Stop
-stop_view stops.Words = ending.At BadWords
-stop_view (stops.Line number) = ending.At (BadLine number)
-stop_view stops.Source = ending.At SourceFault
-stop_view stops.Sink = ending.SinkFault
-stop_view stops.Memory = ending.At NoMemory
-stop_view (stops.Peer stop) = ending.At (peer_cause stop)
 
 -- what reading a line can stop a run with
 abbrev pub IsInputStop : Stop → Type 0

@@ -2,7 +2,7 @@ ghost use Rattle.std.specs.Prelude.{◌≡◌, ◌≢◌, ◌≤◌, ◌^◌, No
 ghost use Rattle.client_registry.specs.WordBytes.{word_bytes};
 ghost use Rattle.script_meaning.specs.Refused.{bad_word, collect_refusal};
 ghost use Rattle.sse_client.specs.LineFaults.{SaysRefusal};
-ghost use Rattle.sse_client.specs.Outcome.{document};
+ghost use Rattle.script_meaning.specs.Outcome.{document};
 
 use crate::line_fault::LineFault;
 use client_registry::{Doc, DocId, Docs, Word};

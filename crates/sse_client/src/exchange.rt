@@ -5,6 +5,7 @@ ghost use Rattle.sse_frames.specs.Replies.{Next, StoreFault, reply_bytes};
 ghost use Rattle.sse_frames.specs.Seen.{seen_reply};
 ghost use Rattle.sse_client.specs.Exchanges.{HasExchanged, HasCut};
 ghost use Rattle.sse_client.specs.Progress.{IsAnswered, IsUnanswered, next_number};
+ghost use Rattle.sse_client.specs.Causes.{PeerCause};
 ghost use Rattle.sse_client.specs.Stops.{peer_cause};
 
 use crate::peer_stop::PeerStop;
@@ -24,10 +25,10 @@ pub(crate) fn exchange<L: Link>(
     ensures answered { IfOk result (λ n. IsAnswered (L.transcript link.old) (L.transcript link.new) frame.now (take n room.new)) }
     ensures unanswered { IfErr result (λ stop. IsUnanswered (L.transcript link.old) (L.transcript link.new) frame.now (peer_cause stop)) }
     ensures size { IfOk result (λ n. n ≤ length room.new) }
-    ensures store { IfOk result (λ n. take n room.new ≡ reply_bytes StoreFault → Rose (L.faults link.old) (L.faults link.new)) }
-    ensures later { L.faults link.old ≤ L.faults link.new }
-    ensures no_label_clash { (first second : ℕ) → result ≢ Err (PeerStop.LabelClash first second) }
-    ensures failed { IsErrOf result PeerStop.Link → Rose (L.faults link.old) (L.faults link.new) }
+    ensures began { L.began link.new ≡ L.began link.old }
+    ensures store_fault { IfOk result (λ n. take n room.new ≡ reply_bytes StoreFault → Rose (L.faults link.old) (L.faults link.new)) }
+    ensures steady { IfOk result (λ n. take n room.new ≢ reply_bytes StoreFault → L.faults link.new ≡ L.faults link.old) }
+    ensures cause { IfErr result (PeerCause (L.faults link.old) (L.faults link.new)) }
 {
     link.send(frame)?;
     let size = link.recv(room)?;
@@ -39,9 +40,9 @@ pub(crate) fn greet<L: Link>(alloc: Global, link: &mut L, room: &mut [u8]) -> Re
     requires { 65544 ≤ length room.old }
     ensures opened { OnOk result (HasExchanged (L.transcript link.old) (L.transcript link.new) [] (Hello ∷ [])) }
     ensures turned_away { IfErr result (λ stop. HasCut (L.transcript link.old) (L.transcript link.new) (Hello ∷ []) (peer_cause stop)) }
-    ensures later { L.faults link.old ≤ L.faults link.new }
-    ensures no_label_clash { (first second : ℕ) → result ≢ Err (PeerStop.LabelClash first second) }
-    ensures failed { IsErrOf result PeerStop.Link → Rose (L.faults link.old) (L.faults link.new) }
+    ensures began { L.began link.new ≡ L.began link.old }
+    ensures steady { OnOk result (L.faults link.new ≡ L.faults link.old) }
+    ensures cause { IfErr result (PeerCause (L.faults link.old) (L.faults link.new)) }
 {
     let mut hello = Vec::new(alloc);
     write_frame(&Frame::Hello, &mut hello)?;

@@ -4,6 +4,8 @@ ghost use Rattle.sse_outside.specs.Causes.{Rose};
 ghost use Rattle.sse_script.specs.Lines.{line_of};
 ghost use Rattle.sse_script.specs.TextLines.{bytes_to_come, lines_left, TakesLine, SkipsLine};
 ghost use Rattle.sse_script.specs.Views.{line_view};
+ghost use Rattle.std.specs.Io.KnownBytes.{IsAtEnd};
+ghost use Rattle.sse_client.specs.Causes.{SourceCause};
 ghost use Rattle.sse_client.specs.Stages.{words_in};
 ghost use Rattle.sse_client.specs.Stops.{IsInputStop};
 
@@ -44,6 +46,7 @@ impl Input {
         ensures line { IfOk result (λ more. more ≡ true →
             TakesLine (lines_left self.old.reader (S.remaining source.old)) (lines_left self.new.reader (S.remaining source.new)) self.new.line.items) }
         ensures end { IfOk result (λ more. more ≡ false → IfSome (lines_left self.old.reader (S.remaining source.old)) (λ lines. lines ≡ [])) }
+        ensures at_end { IfOk result (λ more. more ≡ false → IsAtEnd (S.remaining source.new)) }
         ensures too_long { (number : ℕ) → result ≡ Err (Stop.Line number) →
             SkipsLine (lines_left self.old.reader (S.remaining source.old)) (lines_left self.new.reader (S.remaining source.new)) }
         ensures counted { OnOk result (self.new.number ≡ min (self.old.number + 1) (2 ^ 64 - 1)) }
@@ -51,8 +54,8 @@ impl Input {
         ensures less { IfOk result (λ more. more ≡ true →
             bytes_to_come self.new.reader (S.handed_out source.new) < bytes_to_come self.old.reader (S.handed_out source.old)) }
         ensures kind { IfErr result IsInputStop }
-        ensures later { S.faults source.old ≤ S.faults source.new }
-        ensures failed { IsErrOf result Stop.Source → Rose (S.faults source.old) (S.faults source.new) }
+        ensures steady { OnOk result (S.faults source.new ≡ S.faults source.old) }
+        ensures cause { IfErr result (SourceCause (S.faults source.old) (S.faults source.new)) }
     {
         let next = self.reader.next_line(source, &mut self.line)?;
         self.number = self.number.saturating_add(1);

@@ -1,17 +1,17 @@
 ghost use Rattle.std.specs.Prelude.{◌≡◌, Some};
 ghost use Rattle.script_meaning.specs.Refused.{word_refused, doc_refused, docs_refused};
-ghost use Rattle.sse_client.specs.LineFaults.{fault_shown, refusal_shown};
+ghost use Rattle.sse_client.specs.LineFaults.{fault_refusal};
 
 use client_core::SetupFault;
 use client_registry::{DocFault, DocsFault, WordFault, Zero};
-use sse_script::Shown;
+use sse_script::Refusal;
 use std::alloc::{AllocError, AllocFailed};
 
 /// Why a command of the script isn't carried out, found before anything of it is sent.
 #[derive(Debug, Drop)]
 pub(crate) enum LineFault {
-    /// The command is refused, as this line says.
-    Refused(Shown<'static>),
+    /// The command is refused.
+    Refused(Refusal),
     /// There is no memory for the command.
     NoMemory,
 }
@@ -19,34 +19,34 @@ pub(crate) enum LineFault {
 impl LineFault {
     /// What a fault of the word field at this position, from 0, means.
     pub(crate) fn of_word(fault: WordFault, position: u32) -> LineFault
-        ensures { fault_shown result ≡ refusal_shown (word_refused position fault) }
+        ensures { fault_refusal result ≡ word_refused position fault }
     {
         match fault {
             // A field has at least one byte, so this word isn't met.
-            WordFault::Empty => LineFault::Refused(Shown::BadByte { position, place: 0 }),
-            WordFault::TooLong(n) => LineFault::Refused(Shown::TooLong { position, n }),
-            WordFault::BadByte(place) => LineFault::Refused(Shown::BadByte { position, place }),
+            WordFault::Empty => LineFault::Refused(Refusal::BadByte { position, place: 0 }),
+            WordFault::TooLong(n) => LineFault::Refused(Refusal::TooLong { position, n }),
+            WordFault::BadByte(place) => LineFault::Refused(Refusal::BadByte { position, place }),
         }
     }
 }
 
 impl From<Zero> for LineFault {
-    ghost use Rattle.sse_script.specs.Shown.{Refused as refusing, Zero as zero};
+    ghost use Rattle.sse_script.specs.declared.refusal.Refusal.TheVariants.{Zero as zero};
 
-    ghost from_gives = { λ _ fault. fault_shown fault ≡ Some (refusing zero) };
+    ghost from_gives = { λ _ fault. fault_refusal fault ≡ Some zero };
 
     fn from(_zero: Zero) -> LineFault {
-        LineFault::Refused(Shown::Zero)
+        LineFault::Refused(Refusal::Zero)
     }
 }
 
 impl From<DocFault> for LineFault {
-    ghost from_gives = { λ cause fault. fault_shown fault ≡ refusal_shown (doc_refused cause) };
+    ghost from_gives = { λ cause fault. fault_refusal fault ≡ doc_refused cause };
 
     fn from(fault: DocFault) -> LineFault {
         match fault {
-            DocFault::TooManyWords(n) => LineFault::Refused(Shown::TooManyWords { n }),
-            DocFault::RepeatedWord(position) => LineFault::Refused(Shown::RepeatedWord {
+            DocFault::TooManyWords(n) => LineFault::Refused(Refusal::TooManyWords { n }),
+            DocFault::RepeatedWord(position) => LineFault::Refused(Refusal::RepeatedWord {
                 position,
             }),
             DocFault::NoMemory => LineFault::NoMemory,
@@ -55,13 +55,13 @@ impl From<DocFault> for LineFault {
 }
 
 impl From<DocsFault> for LineFault {
-    ghost from_gives = { λ cause fault. fault_shown fault ≡ refusal_shown (docs_refused cause) };
+    ghost from_gives = { λ cause fault. fault_refusal fault ≡ docs_refused cause };
 
     fn from(fault: DocsFault) -> LineFault {
         match fault {
-            DocsFault::AlreadyLive(id) => LineFault::Refused(Shown::AlreadyLive { id }),
-            DocsFault::TooManyDocuments(n) => LineFault::Refused(Shown::TooManyDocuments { n }),
-            DocsFault::TooManyPairs(n) => LineFault::Refused(Shown::TooManyPairs { n }),
+            DocsFault::AlreadyLive(id) => LineFault::Refused(Refusal::AlreadyLive { id }),
+            DocsFault::TooManyDocuments(n) => LineFault::Refused(Refusal::TooManyDocuments { n }),
+            DocsFault::TooManyPairs(n) => LineFault::Refused(Refusal::TooManyPairs { n }),
             DocsFault::NoMemory => LineFault::NoMemory,
         }
     }

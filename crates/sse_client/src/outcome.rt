@@ -2,10 +2,11 @@ ghost use Rattle.std.specs.Prelude.{◌≡◌, ◌≢◌, ℕ, ◌≤◌, [], ta
 ghost use Rattle.std.specs.Io.KnownBytes.{append_known};
 ghost use Rattle.sse_outside.specs.Causes.{Rose};
 ghost use Rattle.sse_script.specs.Texts.{text_of};
+ghost use Rattle.sse_client.specs.Causes.{PrintCause};
 ghost use Rattle.sse_client.specs.OutcomeViews.{outcome_view, refuses};
 
 use sse_outside::{DeviceFault, Sink};
-use sse_script::{Shown, print};
+use sse_script::{Refusal, Shown, print};
 use std::alloc::Global;
 
 /// What a line of the script came to.
@@ -17,8 +18,8 @@ pub(crate) enum Outcome {
     SetUp { words: u32, blocks: u32 },
     /// A search gave these identifiers, rising.
     Found(Vec<u64>),
-    /// The command was refused, as this line says.
-    Refused(Shown<'static>),
+    /// The command was refused.
+    Refused(Refusal),
 }
 
 impl Outcome {
@@ -34,14 +35,14 @@ impl Outcome {
         ensures all { OnOk result (W.written sink.new ≡ append_known (W.written sink.old) (flat_map text_of (outcome_view self.now))) }
         ensures front { (n : ℕ) × (W.written sink.new ≡ append_known (W.written sink.old) (take n (flat_map text_of (outcome_view self.now)))) }
         ensures silent { IfErr result (λ fault. outcome_view self.now ≢ []) }
-        ensures later { W.faults sink.old ≤ W.faults sink.new }
-        ensures failed { IsErrOf result DeviceFault.Failed → Rose (W.faults sink.old) (W.faults sink.new) }
+        ensures steady { OnOk result (W.faults sink.new ≡ W.faults sink.old) }
+        ensures cause { IfErr result (PrintCause (W.faults sink.old) (W.faults sink.new)) }
     {
         match self {
             Outcome::Nothing => Ok(()),
             Outcome::SetUp { words, blocks } => {
                 let (words, blocks) = (*words, *blocks);
-                print(alloc, sink, &Shown::Setup { words, blocks })
+                print(alloc, sink, &Shown::SetUp { words, blocks })
             }
             Outcome::Found(ids) => print(
                 alloc,
@@ -50,7 +51,10 @@ impl Outcome {
                     ids: ids.as_slice(),
                 },
             ),
-            Outcome::Refused(shown) => print(alloc, sink, shown),
+            Outcome::Refused(refusal) => {
+                let refusal = *refusal;
+                print(alloc, sink, &Shown::Refused(refusal))
+            }
         }
     }
 }

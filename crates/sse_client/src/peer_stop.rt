@@ -13,6 +13,8 @@ pub(crate) enum PeerStop {
     Memory,
     /// Two words of the setup have equal labels.
     LabelClash { first: u32, second: u32 },
+    /// Two blocks of the setup have equal places.
+    PlaceClash { first: u32, second: u32 },
     /// The server reported a collision.
     Clash { what: u8, place: u32 },
     /// The server expects another update frame than the client has.
@@ -53,7 +55,7 @@ impl PeerStop {
     pub(crate) fn of_fault(fault: ReplyFault, reply: &[u8]) -> PeerStop
         ensures cause { peer_cause result ≡ cause_of_fault fault reply.now }
         ensures link { result ≡ PeerStop.Link → fault ≡ ReplyFault.StoreFault }
-        ensures no_label_clash { (first second : ℕ) → result ≢ PeerStop.LabelClash first second }
+        ensures store { fault ≡ ReplyFault.StoreFault → result ≡ PeerStop.Link }
     {
         match fault {
             ReplyFault::Clash { what, place } => PeerStop::Clash { what, place },

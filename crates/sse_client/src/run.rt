@@ -1,5 +1,5 @@
 ghost use Rattle.std.specs.Prelude.{◌≡◌, ◌≢◌, ◌≤◌, ◌+◌, ◌^◌, ◌||◌, ℕ, List, [], Bool, false, None, Err, length, map, take, string_bytes, IsErrOf, IfErr, IfOk, OnOk, IfSome};
-ghost use Rattle.std.specs.Io.KnownBytes.{append_known};
+ghost use Rattle.std.specs.Io.KnownBytes.{append_known, IsAtEnd};
 ghost use Rattle.client_registry.specs.Histories.{empty};
 ghost use Rattle.keyed_fn.specs.KeyedFn.{KeyedFn, keyed_fn};
 ghost use Rattle.sse_outside.specs.Causes.{Rose};
@@ -14,9 +14,10 @@ ghost use Rattle.script_meaning.specs.Outcome.{Place};
 ghost use Rattle.script_meaning.specs.Runs.{Ended, ended, moment, OpensFrom, OpensAtKey};
 ghost use Rattle.script_meaning.specs.Stops as ends;
 ghost use Rattle.script_meaning.specs.Stops.{status_of, stop_text};
-ghost use Rattle.sse_client.specs.Call.{IsRun};
-ghost use Rattle.sse_client.specs.Stages.{words_in};
-ghost use Rattle.sse_client.specs.Stands.{IsAt, seen, stop_seen, has_refused, CarriesOut, StopsRun, EndsFrom, OpensTo, HasRun, IsHonest, HasHeadline};
+ghost use Rattle.sse_client.specs.Words.{IsRun};
+ghost use Rattle.sse_client.specs.Causes.{LinkCause, SourceCause, SinkCause};
+ghost use Rattle.sse_client.specs.Stages.{key_of, words_in};
+ghost use Rattle.sse_client.specs.Stands.{IsAt, seen, stop_seen, has_refused, CarriesOut, StopsRun, EndsFrom, OpensTo, HasRun, HasRunTo, IsHonest, HasHeadline, HasRunInMemory, IsMeant};
 ghost use Rattle.sse_client.specs.Stops.{IsInputStop};
 
 use crate::exchange::greet;
@@ -29,12 +30,13 @@ use client_core::Client;
 use client_registry::Docs;
 use keyed_fn::Keyed;
 use server_core::Server;
+use server_tables::BucketTables;
 use sse_frames::REPLY_ROOM;
 use sse_link::{Link, SteadyLoopback};
-use sse_outside::{Disk, Sink, Source, SteadyDisk};
+use sse_outside::{Disk, Sink, Source, SteadyDisk, SteadySink, SteadySource};
 use sse_script::{Line, print};
 use std::alloc::Global;
-use word_keys::MasterKey;
+use word_keys::{MasterKey, PreparedMaster};
 
 /// Whether a script that came to its end had a command that was refused.
 #[derive(Debug, Clone, Copy, PartialEq, Eq)]
@@ -75,9 +77,16 @@ pub fn sse_run<K: Keyed, L: Link, D: Disk, S: Source, W: Sink>(
         IsHonest (keyed_fn K.prf K.pad) bytes (seen (L.transcript link.old) (W.written sink.old)) (seen (L.transcript link.new) (W.written sink.new)) result) }
     ensures headline { IsRun (map (λ word. string_bytes word) words.now) → IfSome (S.remaining source.old) (λ bytes.
         HasHeadline (keyed_fn K.prf K.pad) bytes (seen (L.transcript link.old) (W.written sink.old)) (seen (L.transcript link.new) (W.written sink.new)) result) }
+    ensures at_end { result ≤ 1 → IsAtEnd (S.remaining source.new) }
     ensures source_failed { result ≡ 3 → Rose (S.faults source.old) (S.faults source.new) }
+    ensures source_steady { result ≢ 3 → S.faults source.new ≡ S.faults source.old }
     ensures sink_failed { result ≡ 4 → Rose (W.faults sink.old) (W.faults sink.new) }
+    ensures sink_steady { result ≤ 1 → W.faults sink.new ≡ W.faults sink.old }
+    ensures sink_before { IsRun (map (λ word. string_bytes word) words.now) → result ≢ 4 → (then : W) × (W.faults then ≡ W.faults sink.old) × IfSome (S.remaining source.old) (λ bytes.
+        HasRunTo (keyed_fn K.prf K.pad) bytes (seen (L.transcript link.old) (W.written sink.old)) (seen (L.transcript link.new) (W.written sink.new)) (W.written then) result) }
     ensures link_failed { result ≡ 5 → Rose (L.faults link.old) (L.faults link.new) }
+    ensures link_steady { result ≢ 5 → L.faults link.new ≡ L.faults link.old }
+    ensures began { L.began link.new ≡ L.began link.old }
     ensures disk { disk.new ≡ disk.old }
     ensures known { (result ≤ 9) × (result ≢ 6) }
 {
@@ -97,9 +106,16 @@ fn whole_run<K: Keyed, L: Link, S: Source, W: Sink>(
 ) -> u8
     ensures runs { IfSome (S.remaining source.old) (λ bytes.
         HasRun (keyed_fn K.prf K.pad) bytes (seen (L.transcript link.old) (W.written sink.old)) (seen (L.transcript link.new) (W.written sink.new)) result) }
+    ensures sink_before { result ≢ 4 → (then : W) × (W.faults then ≡ W.faults sink.old) × IfSome (S.remaining source.old) (λ bytes.
+        HasRunTo (keyed_fn K.prf K.pad) bytes (seen (L.transcript link.old) (W.written sink.old)) (seen (L.transcript link.new) (W.written sink.new)) (W.written then) result) }
+    ensures at_end { result ≤ 1 → IsAtEnd (S.remaining source.new) }
     ensures source_failed { result ≡ 3 → Rose (S.faults source.old) (S.faults source.new) }
+    ensures source_steady { result ≢ 3 → S.faults source.new ≡ S.faults source.old }
     ensures sink_failed { result ≡ 4 → Rose (W.faults sink.old) (W.faults sink.new) }
+    ensures sink_steady { result ≤ 1 → W.faults sink.new ≡ W.faults sink.old }
     ensures link_failed { result ≡ 5 → Rose (L.faults link.old) (L.faults link.new) }
+    ensures link_steady { result ≢ 5 → L.faults link.new ≡ L.faults link.old }
+    ensures began { L.began link.new ≡ L.began link.old }
     ensures known { (result ≤ 9) × (result ≢ 6) }
 {
     match run_script(alloc, keyed, link, source, sink) {
@@ -137,21 +153,24 @@ fn run_script<K: Keyed, L: Link, S: Source, W: Sink>(
         (seen (L.transcript link.new) (W.written sink.new)) (ends.AtEnd (has_refused refusals))) }
     ensures stopped { IfErr result (λ stop. OpensTo (keyed_fn K.prf K.pad) (lines_left [] (S.remaining source.old)) (seen (L.transcript link.old) (W.written sink.old))
         (seen (L.transcript link.new) (W.written sink.new)) (stop_seen stop)) }
-    ensures source_later { S.faults source.old ≤ S.faults source.new }
-    ensures source_failed { IsErrOf result Stop.Source → Rose (S.faults source.old) (S.faults source.new) }
-    ensures sink_later { W.faults sink.old ≤ W.faults sink.new }
-    ensures sink_failed { IsErrOf result Stop.Sink → Rose (W.faults sink.old) (W.faults sink.new) }
-    ensures link_later { L.faults link.old ≤ L.faults link.new }
-    ensures link_failed { IsErrOf result (Stop.Peer PeerStop.Link) → Rose (L.faults link.old) (L.faults link.new) }
+    ensures at_end { OnOk result (IsAtEnd (S.remaining source.new)) }
+    ensures source_steady { OnOk result (S.faults source.new ≡ S.faults source.old) }
+    ensures source_cause { IfErr result (SourceCause (S.faults source.old) (S.faults source.new)) }
+    ensures sink_steady { OnOk result (W.faults sink.new ≡ W.faults sink.old) }
+    ensures sink_cause { IfErr result (SinkCause (W.faults sink.old) (W.faults sink.new)) }
+    ensures began { L.began link.new ≡ L.began link.old }
+    ensures link_steady { OnOk result (L.faults link.new ≡ L.faults link.old) }
+    ensures link_cause { IfErr result (LinkCause (L.faults link.old) (L.faults link.new)) }
 {
     let mut input = Input::new(alloc)?;
     let key = key_line(source, &mut input)?;
     let mut room = vec![in alloc; 0u8; REPLY_ROOM]?;
     greet(alloc, link, &mut room)?;
-    let docs = Docs::new(alloc, key.prepare(keyed).hash_keys(keyed));
+    let master = key.prepare(keyed);
+    let docs = Docs::new(alloc, master.hash_keys(keyed));
     let stage = Stage::Collecting(Client::fresh(key), docs);
     run_lines(
-        alloc, keyed, link, &mut room, source, sink, &mut input, stage,
+        alloc, keyed, &master, link, &mut room, source, sink, &mut input, stage,
     )
 }
 
@@ -165,8 +184,8 @@ fn key_line<S: Source>(source: &mut S, input: &mut Input) -> Result<MasterKey, S
         OpensFrom f (input.old.number + 1) (lines_left input.old.reader (S.remaining source.old)) now (ended now None empty (stop_seen stop))) }
     ensures few_left { OnOk result (input.new.number + bytes_to_come input.new.reader (S.handed_out source.new) ≤ 2 ^ 63) }
     ensures kind { IfErr result IsInputStop }
-    ensures later { S.faults source.old ≤ S.faults source.new }
-    ensures failed { IsErrOf result Stop.Source → Rose (S.faults source.old) (S.faults source.new) }
+    ensures source_steady { OnOk result (S.faults source.new ≡ S.faults source.old) }
+    ensures source_cause { IfErr result (SourceCause (S.faults source.old) (S.faults source.new)) }
 {
     'lines: loop {
         if !input.advance(source)? {
@@ -184,6 +203,7 @@ fn key_line<S: Source>(source: &mut S, input: &mut Input) -> Result<MasterKey, S
 fn run_lines<K: Keyed, L: Link, S: Source, W: Sink>(
     alloc: Global,
     keyed: &K,
+    master: &PreparedMaster<K>,
     link: &mut L,
     room: &mut [u8],
     source: &mut S,
@@ -191,6 +211,7 @@ fn run_lines<K: Keyed, L: Link, S: Source, W: Sink>(
     input: &mut Input,
     mut stage: Stage,
 ) -> Result<Refusals, Stop>
+    requires prepared { master.now ≡ key_of stage }
     requires room { 65544 ≤ length room.old }
     requires few { input.old.number + bytes_to_come input.old.reader (S.handed_out source.old) ≤ 2 ^ 63 }
     ensures ended { IfOk result (λ refusals. (place : Place) → IsAt (keyed_fn K.prf K.pad) stage place →
@@ -199,12 +220,14 @@ fn run_lines<K: Keyed, L: Link, S: Source, W: Sink>(
     ensures stopped { IfErr result (λ stop. (place : Place) → IsAt (keyed_fn K.prf K.pad) stage place →
         EndsFrom (keyed_fn K.prf K.pad) (moment place (input.old.number + 1) (lines_left input.old.reader (S.remaining source.old)) false (seen (L.transcript link.old) (W.written sink.old)))
         (seen (L.transcript link.new) (W.written sink.new)) (stop_seen stop)) }
-    ensures source_later { S.faults source.old ≤ S.faults source.new }
-    ensures source_failed { IsErrOf result Stop.Source → Rose (S.faults source.old) (S.faults source.new) }
-    ensures sink_later { W.faults sink.old ≤ W.faults sink.new }
-    ensures sink_failed { IsErrOf result Stop.Sink → Rose (W.faults sink.old) (W.faults sink.new) }
-    ensures link_later { L.faults link.old ≤ L.faults link.new }
-    ensures link_failed { IsErrOf result (Stop.Peer PeerStop.Link) → Rose (L.faults link.old) (L.faults link.new) }
+    ensures at_end { OnOk result (IsAtEnd (S.remaining source.new)) }
+    ensures source_steady { OnOk result (S.faults source.new ≡ S.faults source.old) }
+    ensures source_cause { IfErr result (SourceCause (S.faults source.old) (S.faults source.new)) }
+    ensures sink_steady { OnOk result (W.faults sink.new ≡ W.faults sink.old) }
+    ensures sink_cause { IfErr result (SinkCause (W.faults sink.old) (W.faults sink.new)) }
+    ensures began { L.began link.new ≡ L.began link.old }
+    ensures link_steady { OnOk result (L.faults link.new ≡ L.faults link.old) }
+    ensures link_cause { IfErr result (LinkCause (L.faults link.old) (L.faults link.new)) }
 {
     let mut refusals = Refusals::None;
     'lines: loop {
@@ -215,7 +238,9 @@ fn run_lines<K: Keyed, L: Link, S: Source, W: Sink>(
             Line::Empty => {}
             Line::Key(_) => return Err(Stop::Line(input.number())),
             line => {
-                let (next, refused) = carry_out(alloc, keyed, link, room, sink, stage, line)?;
+                let (next, refused) = carry_out(
+                    alloc, keyed, master, link, room, sink, stage, line,
+                )?;
                 stage = next;
                 refusals = refusals.or(refused);
             }
@@ -227,30 +252,37 @@ fn run_lines<K: Keyed, L: Link, S: Source, W: Sink>(
 fn carry_out<K: Keyed, L: Link, W: Sink>(
     alloc: Global,
     keyed: &K,
+    master: &PreparedMaster<K>,
     link: &mut L,
     room: &mut [u8],
     sink: &mut W,
     stage: Stage,
     line: Line<'_>,
 ) -> Result<(Stage, bool), Stop>
+    requires prepared { master.now ≡ key_of stage }
     requires room { 65544 ≤ length room.old }
     requires words { words_in (line_view line) ≤ 2 ^ 19 }
     ensures carries { IfOk result (λ done. (request : Request) → line_read (line_view line.entry) ≡ requests.Command request →
         CarriesOut (keyed_fn K.prf K.pad) stage request (seen (L.transcript link.old) (W.written sink.old)) (seen (L.transcript link.new) (W.written sink.new)) done.0 done.1) }
     ensures stops { IfErr result (λ stop. (request : Request) → line_read (line_view line.entry) ≡ requests.Command request →
         StopsRun (keyed_fn K.prf K.pad) stage request (seen (L.transcript link.old) (W.written sink.old)) (seen (L.transcript link.new) (W.written sink.new)) (stop_seen stop)) }
+    ensures same_key { IfOk result (λ done. key_of done.0 ≡ key_of stage) }
     ensures no_source { result ≢ Err Stop.Source }
-    ensures sink_later { W.faults sink.old ≤ W.faults sink.new }
-    ensures sink_failed { IsErrOf result Stop.Sink → Rose (W.faults sink.old) (W.faults sink.new) }
-    ensures link_later { L.faults link.old ≤ L.faults link.new }
-    ensures link_failed { IsErrOf result (Stop.Peer PeerStop.Link) → Rose (L.faults link.old) (L.faults link.new) }
+    ensures sink_steady { OnOk result (W.faults sink.new ≡ W.faults sink.old) }
+    ensures sink_cause { IfErr result (SinkCause (W.faults sink.old) (W.faults sink.new)) }
+    ensures began { L.began link.new ≡ L.began link.old }
+    ensures link_steady { OnOk result (L.faults link.new ≡ L.faults link.old) }
+    ensures link_cause { IfErr result (LinkCause (L.faults link.old) (L.faults link.new)) }
 {
-    let (next, outcome) = take_line(alloc, keyed, link, room, stage, line)?;
+    let (next, outcome) = take_line(alloc, keyed, master, link, room, stage, line)?;
     outcome.print(alloc, sink)?;
     Ok((next, outcome.is_refusal()))
 }
 
 /// The same over a server in this process that begins with nothing, and a disk in memory: neither ever fails.
+///
+/// Where source and sink didn't fail and memory wasn't wanting, the run did what its script means, unless values collide
+/// that have to differ.
 pub fn run_in_memory<K: Keyed + Copy, S: Source, W: Sink>(
     alloc: Global,
     words: &[String],
@@ -262,12 +294,45 @@ pub fn run_in_memory<K: Keyed + Copy, S: Source, W: Sink>(
     ensures words_status { (IsRun (map (λ word. string_bytes word) words.now) → ⊥) → result ≡ 2 }
     ensures words_line { (IsRun (map (λ word. string_bytes word) words.now) → ⊥) →
         (n : ℕ) × (W.written sink.new ≡ append_known (W.written sink.old) (take n (text_of (Stopped BadWords)))) }
+    ensures runs { IsRun (map (λ word. string_bytes word) words.now) → IfSome (S.remaining source.old) (λ bytes.
+        HasRunInMemory (keyed_fn K.prf K.pad) bytes (W.written sink.old) (W.written sink.new) result) }
+    ensures headline { IsRun (map (λ word. string_bytes word) words.now) → result ≢ 3 → result ≢ 4 → result ≢ 7 → IfSome (S.remaining source.old) (λ bytes.
+        IsMeant (keyed_fn K.prf K.pad) bytes (W.written sink.old) (W.written sink.new) result) }
+    ensures at_end { result ≤ 1 → IsAtEnd (S.remaining source.new) }
     ensures source_failed { result ≡ 3 → Rose (S.faults source.old) (S.faults source.new) }
+    ensures source_steady { result ≢ 3 → S.faults source.new ≡ S.faults source.old }
     ensures sink_failed { result ≡ 4 → Rose (W.faults sink.old) (W.faults sink.new) }
+    ensures sink_steady { result ≤ 1 → W.faults sink.new ≡ W.faults sink.old }
     ensures no_link_fault { result ≢ 5 }
     ensures known { (result ≤ 9) × (result ≢ 6) }
 {
-    let mut link = SteadyLoopback::new(alloc, *keyed, Server::new(alloc));
+    let server = Server::new(BucketTables::new(alloc));
+    let mut link = SteadyLoopback::new(alloc, *keyed, server);
     let mut disk = SteadyDisk::new(alloc);
-    sse_run(alloc, words, keyed, &mut link, &mut disk, source, sink)
+    let status = sse_run(alloc, words, keyed, &mut link, &mut disk, source, sink);
+    // Its contract says that all that passed is honest.
+    let _passed = link.transcript();
+    status
+}
+
+/// The same over a script in memory and a sink that keeps what is printed: no device fails, so that the run did what
+/// its script means unless memory was wanting or values collide that have to differ.
+pub fn run_on_bytes<K: Keyed + Copy>(
+    alloc: Global,
+    words: &[String],
+    keyed: &K,
+    source: &mut SteadySource,
+    sink: &mut SteadySink,
+) -> u8
+    ensures words_status { (IsRun (map (λ word. string_bytes word) words.now) → ⊥) → result ≡ 2 }
+    ensures words_line { (IsRun (map (λ word. string_bytes word) words.now) → ⊥) →
+        (n : ℕ) × (⟦<SteadySink as Sink>⟧.written sink.new ≡ append_known (⟦<SteadySink as Sink>⟧.written sink.old) (take n (text_of (Stopped BadWords)))) }
+    ensures runs { IsRun (map (λ word. string_bytes word) words.now) → IfSome (⟦<SteadySource as Source>⟧.remaining source.old) (λ bytes.
+        HasRunInMemory (keyed_fn K.prf K.pad) bytes (⟦<SteadySink as Sink>⟧.written sink.old) (⟦<SteadySink as Sink>⟧.written sink.new) result) }
+    ensures headline { IsRun (map (λ word. string_bytes word) words.now) → result ≢ 7 → IfSome (⟦<SteadySource as Source>⟧.remaining source.old) (λ bytes.
+        IsMeant (keyed_fn K.prf K.pad) bytes (⟦<SteadySink as Sink>⟧.written sink.old) (⟦<SteadySink as Sink>⟧.written sink.new) result) }
+    ensures no_fault { (result ≢ 3) × (result ≢ 4) × (result ≢ 5) }
+    ensures known { (result ≤ 9) × (result ≢ 6) }
+{
+    run_in_memory(alloc, words, keyed, source, sink)
 }

@@ -1,10 +1,11 @@
-ghost use Rattle.std.specs.Prelude.{◌≡◌, ◌≢◌, ◌≤◌, ℕ, [], ◌∷◌, Err, length, IfErr, IfOk, IsErrOf};
+ghost use Rattle.std.specs.Prelude.{◌≡◌, ◌≢◌, ◌≤◌, ℕ, [], ◌∷◌, Err, length, IfErr, IfOk, IsErrOf, OnOk};
 ghost use Rattle.client_registry.specs.WordBytes.{word_bytes};
 ghost use Rattle.keyed_fn.specs.KeyFormulas.{token_of};
 ghost use Rattle.keyed_fn.specs.KeyedFn.{keyed_fn};
 ghost use Rattle.sse_frames.specs.Frames.{SearchFrame};
 ghost use Rattle.sse_outside.specs.Causes.{Rose};
 ghost use Rattle.sse_client.specs.Exchanges.{HasSearched, HasCut};
+ghost use Rattle.sse_client.specs.Causes.{PeerCause};
 ghost use Rattle.sse_client.specs.Stops.{peer_cause};
 
 use crate::peer_stop::PeerStop;
@@ -13,26 +14,29 @@ use client_registry::Word;
 use keyed_fn::Keyed;
 use sse_link::Link;
 use std::alloc::Global;
+use word_keys::PreparedMaster;
 
 /// Searches the store for a word, and answers the identifiers that came back, rising.
 pub(crate) fn search<K: Keyed, L: Link>(
     alloc: Global,
     keyed: &K,
+    master: &PreparedMaster<K>,
     client: &Client<Ready>,
     word: &Word,
     link: &mut L,
     room: &mut [u8],
 ) -> Result<Vec<u64>, PeerStop>
-    requires { 65544 ≤ length room.old }
+    requires prepared { master.now ≡ client.now.key }
+    requires room { 65544 ≤ length room.old }
     ensures found { IfOk result (λ found. HasSearched (L.transcript link.old) (L.transcript link.new)
         (SearchFrame (token_of (keyed_fn K.prf K.pad) client.now.key (word_bytes word.now))) found.items) }
     ensures stopped { IfErr result (λ stop. HasCut (L.transcript link.old) (L.transcript link.new)
         (SearchFrame (token_of (keyed_fn K.prf K.pad) client.now.key (word_bytes word.now)) ∷ []) (peer_cause stop)) }
-    ensures later { L.faults link.old ≤ L.faults link.new }
-    ensures no_label_clash { (first second : ℕ) → result ≢ Err (PeerStop.LabelClash first second) }
-    ensures failed { IsErrOf result PeerStop.Link → Rose (L.faults link.old) (L.faults link.new) }
+    ensures began { L.began link.new ≡ L.began link.old }
+    ensures steady { OnOk result (L.faults link.new ≡ L.faults link.old) }
+    ensures cause { IfErr result (PeerCause (L.faults link.old) (L.faults link.new)) }
 {
-    link.send(&client.search_frame(keyed, word))?;
+    link.send(&client.search_frame(keyed, master, word))?;
     let mut found = Found::new(alloc);
     'pages: loop {
         let size = link.recv(room)?;

@@ -1,28 +1,25 @@
-ghost use Rattle.std.specs.Prelude.{◌≡◌, ◌≢◌, ◌≤◌, ◌^◌, ℕ, List, [], ◌∷◌, false, Some, None, Err, length, map, option_map, IfOk, IfErr, OnOk, IsErrOf, IsTrue};
-ghost use Rattle.std.specs.Result.{result_ok};
+ghost use Rattle.std.specs.Prelude.{◌≡◌, ◌≢◌, ◌≤◌, ◌^◌, ℕ, List, [], ◌∷◌, false, None, Err, length, map, IfOk, IfErr, OnOk, OnErr, IsErrOf, IsTrue, Ok};
 ghost use Rattle.sse_outside.specs.Causes.{Rose};
-ghost use Rattle.client_registry.specs.declared.faults.SizeFault.{SizeFault};
-ghost use Rattle.index_setup.specs.Refused.{refused_by_size};
 ghost use Rattle.keyed_fn.specs.KeyedFn.{KeyedFn, keyed_fn};
 ghost use Rattle.sse_script.specs.Lines as lines;
 ghost use Rattle.sse_script.specs.Shown as says;
-ghost use Rattle.sse_script.specs.ShownViews.{shown_view};
+ghost use Rattle.sse_script.specs.declared.refusal.Refusal.{Refusal as Reason};
 ghost use Rattle.sse_script.specs.Views.{line_view};
-ghost use Rattle.sse_script.specs.declared.shown.Shown.{Shown as Printed};
-ghost use Rattle.script_meaning.specs.Refused.{size_refused};
-ghost use Rattle.sse_client.specs.Carried.{key_of};
+ghost use Rattle.sse_client.specs.SetupFaults.{setup_answer};
+ghost use Rattle.sse_client.specs.Stages.{key_of};
 ghost use Rattle.sse_client.specs.Progress.{AreNumbered};
 ghost use Rattle.sse_client.specs.OutcomeViews.{outcome_view, refuses};
-ghost use Rattle.client_core.specs.Sending.{frame_list};
+ghost use Rattle.client_core.specs.Sending.{planned_frames};
 ghost use Rattle.std.specs.List.{AllByRecursion};
 ghost use Rattle.sse_frames.specs.Frames.{FrameText, IsFrame, frame_bytes};
+ghost use Rattle.sse_client.specs.Causes.{PeerCause};
 ghost use Rattle.sse_client.specs.Stops.{peer_cause};
 ghost use Rattle.script_meaning.specs.Exchange.{Told};
 ghost use Rattle.script_meaning.specs.Lines as requests;
 ghost use Rattle.script_meaning.specs.Lines.{Request, line_read};
 ghost use Rattle.sse_client.specs.Exchanges.{HasExchanged, HasCut};
 ghost use Rattle.sse_client.specs.Stands.{Takes, StopsWithin};
-ghost use Rattle.sse_client.specs.Stages.{stage_view, words_in};
+ghost use Rattle.sse_client.specs.Stages.{stage_view, words_in, MayStop};
 
 use crate::documents::{add_document, word_of};
 use crate::line_fault::LineFault;
@@ -34,8 +31,9 @@ use client_core::{Client, Fresh, Planned, Ready, SetupFault};
 use client_registry::Docs;
 use keyed_fn::Keyed;
 use sse_link::Link;
-use sse_script::{Fields, Line, Shown};
+use sse_script::{Fields, Line, Refusal};
 use std::alloc::Global;
+use word_keys::PreparedMaster;
 
 /// How far a session is: documents are collected until a setup is accepted, and then searched.
 #[derive(Drop)]
@@ -48,26 +46,31 @@ pub(crate) enum Stage {
 pub(crate) fn take_line<K: Keyed, L: Link>(
     alloc: Global,
     keyed: &K,
+    master: &PreparedMaster<K>,
     link: &mut L,
     room: &mut [u8],
     stage: Stage,
     line: Line<'_>,
 ) -> Result<(Stage, Outcome), PeerStop>
+    requires prepared { master.now ≡ key_of stage }
     requires room { 65544 ≤ length room.old }
     requires words { words_in (line_view line) ≤ 2 ^ 19 }
     ensures takes { IfOk result (λ done. (request : Request) → line_read (line_view line.entry) ≡ requests.Command request →
         Takes (keyed_fn K.prf K.pad) stage request (L.transcript link.old) (L.transcript link.new) done.0 done.1) }
     ensures stops { IfErr result (λ stop. (request : Request) → line_read (line_view line.entry) ≡ requests.Command request →
         StopsWithin (keyed_fn K.prf K.pad) stage request (L.transcript link.old) (L.transcript link.new) (peer_cause stop)) }
-    ensures later { L.faults link.old ≤ L.faults link.new }
-    ensures failed { IsErrOf result PeerStop.Link → Rose (L.faults link.old) (L.faults link.new) }
+    ensures may_stop { OnErr result (MayStop stage (line_view line.entry)) }
+    ensures same_key { IfOk result (λ done. key_of done.0 ≡ key_of stage) }
+    ensures began { L.began link.new ≡ L.began link.old }
+    ensures steady { OnOk result (L.faults link.new ≡ L.faults link.old) }
+    ensures cause { IfErr result (PeerCause (L.faults link.old) (L.faults link.new)) }
 {
     match line {
         Line::Empty | Line::Key(_) => Ok((stage, Outcome::Nothing)),
         Line::Doc { id, words } => collect(alloc, stage, id, words),
         Line::Setup { b, big } => set_up(alloc, keyed, link, room, stage, b, big),
-        Line::Add { .. } | Line::Del { .. } => Ok((stage, Outcome::Refused(Shown::NotBuilt))),
-        Line::Find { word } => find(alloc, keyed, link, room, stage, word),
+        Line::Add { .. } | Line::Del { .. } => Ok((stage, Outcome::Refused(Refusal::NotBuilt))),
+        Line::Find { word } => find(alloc, keyed, master, link, room, stage, word),
     }
 }
 
@@ -82,6 +85,7 @@ fn collect(
     ensures takes { IfOk result (λ done. (f : KeyedFn) (told : Told) → Takes f stage (requests.Doc id fields.entry) told told done.0 done.1) }
     ensures key { IfOk result (λ done. key_of done.0 ≡ key_of stage) }
     ensures memory { IfErr result (λ stop. stop ≡ PeerStop.Memory) }
+    ensures may_stop { OnErr result (MayStop stage (lines.Doc id fields.entry)) }
 {
     match stage {
         Stage::Collecting(client, mut docs) => {
@@ -90,7 +94,7 @@ fn collect(
         }
         Stage::Searching(client) => Ok((
             Stage::Searching(client),
-            Outcome::Refused(Shown::SetUpAlready),
+            Outcome::Refused(Refusal::SetUpAlready),
         )),
     }
 }
@@ -98,14 +102,14 @@ fn collect(
 /// What a line without a line of its own comes to: nothing, or its refusal.
 fn refusal_of(done: Result<(), LineFault>) -> Result<Outcome, PeerStop>
     ensures nothing { OnOk done (result ≡ Ok Outcome.Nothing) }
-    ensures refused { (shown : Printed) → done ≡ Err (LineFault.Refused shown) → result ≡ Ok (Outcome.Refused shown) }
+    ensures refused { (refusal : Reason) → done ≡ Err (LineFault.Refused refusal) → result ≡ Ok (Outcome.Refused refusal) }
     ensures memory { IsErrOf done LineFault.NoMemory → result ≡ Err PeerStop.Memory }
-    ensures link { result ≢ Err PeerStop.Link }
-    ensures no_label_clash { (first second : ℕ) → result ≢ Err (PeerStop.LabelClash first second) }
+    ensures stops { OnErr result (IsErrOf done LineFault.NoMemory) }
+    ensures not_link { result ≢ Err PeerStop.Link }
 {
     match done {
         Ok(()) => Ok(Outcome::Nothing),
-        Err(LineFault::Refused(shown)) => Ok(Outcome::Refused(shown)),
+        Err(LineFault::Refused(refusal)) => Ok(Outcome::Refused(refusal)),
         Err(LineFault::NoMemory) => Err(PeerStop::Memory),
     }
 }
@@ -123,8 +127,11 @@ fn set_up<K: Keyed, L: Link>(
     requires { 65544 ≤ length room.old }
     ensures takes { IfOk result (λ done. Takes (keyed_fn K.prf K.pad) stage (requests.SetupLine b big) (L.transcript link.old) (L.transcript link.new) done.0 done.1) }
     ensures stops { IfErr result (λ stop. StopsWithin (keyed_fn K.prf K.pad) stage (requests.SetupLine b big) (L.transcript link.old) (L.transcript link.new) (peer_cause stop)) }
-    ensures later { L.faults link.old ≤ L.faults link.new }
-    ensures failed { IsErrOf result PeerStop.Link → Rose (L.faults link.old) (L.faults link.new) }
+    ensures may_stop { OnErr result (MayStop stage (lines.SetupLine b big)) }
+    ensures same_key { IfOk result (λ done. key_of done.0 ≡ key_of stage) }
+    ensures began { L.began link.new ≡ L.began link.old }
+    ensures steady { OnOk result (L.faults link.new ≡ L.faults link.old) }
+    ensures cause { IfErr result (PeerCause (L.faults link.old) (L.faults link.new)) }
 {
     match stage {
         Stage::Collecting(client, docs) => {
@@ -138,7 +145,7 @@ fn set_up<K: Keyed, L: Link>(
         }
         Stage::Searching(client) => Ok((
             Stage::Searching(client),
-            Outcome::Refused(Shown::SetUpAlready),
+            Outcome::Refused(Refusal::SetUpAlready),
         )),
     }
 }
@@ -150,39 +157,36 @@ fn send_setup<L: Link>(
     link: &mut L,
     room: &mut [u8],
 ) -> Result<(Stage, Outcome), PeerStop>
-    requires frames { AllByRecursion IsFrame (frame_list planned.frames) }
+    requires frames { AllByRecursion IsFrame (planned_frames planned) }
     requires room { 65544 ≤ length room.old }
-    ensures exchanged { (frames : List FrameText) → frame_list planned.frames ≡ map frame_bytes frames → AreNumbered 0 frames →
+    ensures exchanged { (frames : List FrameText) → planned_frames planned ≡ map frame_bytes frames → AreNumbered 0 frames →
         OnOk result (HasExchanged (L.transcript link.old) (L.transcript link.new) [] frames) }
-    ensures stopped { (frames : List FrameText) → frame_list planned.frames ≡ map frame_bytes frames → AreNumbered 0 frames →
+    ensures stopped { (frames : List FrameText) → planned_frames planned ≡ map frame_bytes frames → AreNumbered 0 frames →
         IfErr result (λ stop. HasCut (L.transcript link.old) (L.transcript link.new) frames (peer_cause stop)) }
-    ensures shown { IfOk result (λ done. outcome_view done.1 ≡ says.SetUp planned.words planned.blocks ∷ []) }
+    ensures shown { IfOk result (λ done. outcome_view done.1 ≡ says.SetUp planned.index.words planned.index.blocks ∷ []) }
     ensures accepted { IfOk result (λ done. refuses done.1 ≡ false) }
     ensures set_up { IfOk result (λ done. stage_view done.0 ≡ None) }
     ensures key { IfOk result (λ done. key_of done.0 ≡ client.key) }
-    ensures later { L.faults link.old ≤ L.faults link.new }
-    ensures no_label_clash { (first second : ℕ) → result ≢ Err (PeerStop.LabelClash first second) }
-    ensures failed { IsErrOf result PeerStop.Link → Rose (L.faults link.old) (L.faults link.new) }
+    ensures began { L.began link.new ≡ L.began link.old }
+    ensures steady { OnOk result (L.faults link.new ≡ L.faults link.old) }
+    ensures cause { IfErr result (PeerCause (L.faults link.old) (L.faults link.new)) }
 {
     let (words, blocks) = (planned.words(), planned.blocks());
     let ready = catch_up(client.commit(planned), link, room)?;
     Ok((Stage::Searching(ready), Outcome::SetUp { words, blocks }))
 }
 
-/// The line of a refused setup; equal labels and want of memory end the run instead.
-fn setup_refusal(fault: SetupFault) -> Result<Shown<'static>, PeerStop>
-    ensures size { (size : SizeFault) → fault ≡ refused_by_size size → option_map shown_view (result_ok result) ≡ Some (says.Refused (size_refused size)) }
-    ensures not_built { fault ≡ SetupFault.NotBuilt → option_map shown_view (result_ok result) ≡ Some (says.Refused says.NotBuilt) }
-    ensures clash { (first second : ℕ) → fault ≡ SetupFault.LabelClash first second → result ≡ Err (PeerStop.LabelClash first second) }
-    ensures memory { fault ≡ SetupFault.NoMemory → result ≡ Err PeerStop.Memory }
-    ensures link { result ≢ Err PeerStop.Link }
+/// Why a setup is refused; equal labels, equal places and want of memory end the run instead.
+fn setup_refusal(fault: SetupFault) -> Result<Refusal, PeerStop>
+    ensures answer { result ≡ setup_answer fault }
+    ensures not_link { result ≢ Err PeerStop.Link }
 {
     match fault {
-        SetupFault::BadParameter { which, value } => Ok(Shown::BadParameter { which, value }),
-        SetupFault::ListTooLong { word, n } => Ok(Shown::ListTooLong { word, n }),
-        SetupFault::TooManyBytes(n) => Ok(Shown::TooManyBytes { n }),
-        SetupFault::NotBuilt => Ok(Shown::NotBuilt),
+        SetupFault::BadParameter { which, value } => Ok(Refusal::BadParameter { which, value }),
+        SetupFault::ListTooLong { word, n } => Ok(Refusal::ListTooLong { word, n }),
+        SetupFault::TooManyBytes(n) => Ok(Refusal::TooManyBytes { n }),
         SetupFault::LabelClash { first, second } => Err(PeerStop::LabelClash { first, second }),
+        SetupFault::PlaceClash { first, second } => Err(PeerStop::PlaceClash { first, second }),
         SetupFault::NoMemory => Err(PeerStop::Memory),
     }
 }
@@ -191,26 +195,32 @@ fn setup_refusal(fault: SetupFault) -> Result<Shown<'static>, PeerStop>
 fn find<K: Keyed, L: Link>(
     alloc: Global,
     keyed: &K,
+    master: &PreparedMaster<K>,
     link: &mut L,
     room: &mut [u8],
     stage: Stage,
     field: &[u8],
 ) -> Result<(Stage, Outcome), PeerStop>
-    requires { 65544 ≤ length room.old }
+    requires prepared { master.now ≡ key_of stage }
+    requires room { 65544 ≤ length room.old }
     ensures takes { IfOk result (λ done. Takes (keyed_fn K.prf K.pad) stage (requests.Find field.now) (L.transcript link.old) (L.transcript link.new) done.0 done.1) }
     ensures stops { IfErr result (λ stop. StopsWithin (keyed_fn K.prf K.pad) stage (requests.Find field.now) (L.transcript link.old) (L.transcript link.new) (peer_cause stop)) }
-    ensures later { L.faults link.old ≤ L.faults link.new }
-    ensures no_label_clash { (first second : ℕ) → result ≢ Err (PeerStop.LabelClash first second) }
-    ensures failed { IsErrOf result PeerStop.Link → Rose (L.faults link.old) (L.faults link.new) }
+    ensures may_stop { OnErr result (MayStop stage (lines.Find field.now)) }
+    ensures same_key { IfOk result (λ done. key_of done.0 ≡ key_of stage) }
+    ensures began { L.began link.new ≡ L.began link.old }
+    ensures steady { OnOk result (L.faults link.new ≡ L.faults link.old) }
+    ensures cause { IfErr result (PeerCause (L.faults link.old) (L.faults link.new)) }
 {
     match stage {
         Stage::Collecting(client, docs) => Ok((
             Stage::Collecting(client, docs),
-            Outcome::Refused(Shown::NotSetUp),
+            Outcome::Refused(Refusal::NotSetUp),
         )),
         Stage::Searching(client) => {
             let outcome = match word_of(field, 0) {
-                Ok(word) => Outcome::Found(search(alloc, keyed, &client, &word, link, room)?),
+                Ok(word) => Outcome::Found(search(
+                    alloc, keyed, master, &client, &word, link, room,
+                )?),
                 Err(fault) => refusal_of(Err(fault))?,
             };
             Ok((Stage::Searching(client), outcome))

@@ -5,6 +5,7 @@ ghost use Rattle.sse_frames.specs.Frames.{FrameText, IsFrame, frame_bytes};
 ghost use Rattle.sse_outside.specs.Causes.{Rose};
 ghost use Rattle.sse_client.specs.Exchanges.{HasExchanged, HasCut};
 ghost use Rattle.sse_client.specs.Progress.{AreNumbered};
+ghost use Rattle.sse_client.specs.Causes.{PeerCause};
 ghost use Rattle.sse_client.specs.Stops.{peer_cause};
 
 use crate::exchange::exchange;
@@ -25,9 +26,9 @@ pub(crate) fn catch_up<L: Link>(
         OnOk result (HasExchanged (L.transcript link.old) (L.transcript link.new) [] frames) }
     ensures unsent { (frames : List FrameText) → to_send client.state ≡ map frame_bytes frames → AreNumbered client.state.next frames →
         IfErr result (λ stop. HasCut (L.transcript link.old) (L.transcript link.new) frames (peer_cause stop)) }
-    ensures later { L.faults link.old ≤ L.faults link.new }
-    ensures no_label_clash { (first second : ℕ) → result ≢ Err (PeerStop.LabelClash first second) }
-    ensures failed { IsErrOf result PeerStop.Link → Rose (L.faults link.old) (L.faults link.new) }
+    ensures began { L.began link.new ≡ L.began link.old }
+    ensures steady { OnOk result (L.faults link.new ≡ L.faults link.old) }
+    ensures cause { IfErr result (PeerCause (L.faults link.old) (L.faults link.new)) }
 {
     'frames: loop {
         let size = exchange(link, client.frame(), room)?;

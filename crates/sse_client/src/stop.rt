@@ -1,6 +1,5 @@
 ghost use Rattle.std.specs.Prelude.{◌≡◌, ◌≢◌, ◌≤◌, option_map};
-ghost use Rattle.sse_script.specs.Shown as says;
-ghost use Rattle.sse_script.specs.ShownViews.{shown_view};
+ghost use Rattle.sse_script.specs.ShownViews.{cause_view, shown_view};
 ghost use Rattle.sse_script.specs.Stops.{cause_status};
 ghost use Rattle.script_meaning.specs.Stops.{status_of, stop_line};
 ghost use Rattle.sse_client.specs.Stands.{stop_seen};
@@ -8,7 +7,7 @@ ghost use Rattle.sse_client.specs.Stops.{peer_cause};
 
 use crate::peer_stop::PeerStop;
 use sse_outside::DeviceFault;
-use sse_script::{ReadStop, Shown};
+use sse_script::{Cause, ReadStop, Shown};
 use std::alloc::AllocError;
 
 /// What ends a run before the end of its input.
@@ -52,16 +51,17 @@ impl Stop {
         ensures { option_map shown_view result ≡ stop_line (stop_seen self.now) }
     {
         match self {
-            Stop::Words => Some(Shown::BadWords),
-            Stop::Line(number) => Some(Shown::BadLine { number: *number }),
-            Stop::Source => Some(Shown::SourceFault),
+            Stop::Words => Some(Shown::Stopped(Cause::BadWords)),
+            Stop::Line(number) => Some(Shown::Stopped(Cause::BadLine { number: *number })),
+            Stop::Source => Some(Shown::Stopped(Cause::SourceFault)),
             Stop::Sink => None,
-            Stop::Memory => Some(Shown::NoMemory),
-            Stop::Peer(stop) => Some(peer_shown(stop)),
+            Stop::Memory => Some(Shown::Stopped(Cause::NoMemory)),
+            Stop::Peer(stop) => Some(Shown::Stopped(cause_of(stop))),
         }
     }
 }
 
+/// Its status.
 fn peer_status(stop: &PeerStop) -> u8
     ensures status { result ≡ cause_status (peer_cause stop.now) }
     ensures least { 5 ≤ result }
@@ -72,32 +72,38 @@ fn peer_status(stop: &PeerStop) -> u8
         PeerStop::Link => 5,
         PeerStop::Memory => 7,
         PeerStop::LabelClash { .. } => 8,
+        PeerStop::PlaceClash { .. } => 8,
         PeerStop::Clash { .. } => 8,
         PeerStop::Elsewhere { .. } => 9,
         PeerStop::BadReply(_) => 9,
     }
 }
 
-fn peer_shown(stop: &PeerStop) -> Shown<'_>
-    ensures { shown_view result ≡ says.Stopped (peer_cause stop.now) }
+/// The cause that is printed.
+fn cause_of(stop: &PeerStop) -> Cause<'_>
+    ensures { cause_view result ≡ peer_cause stop.now }
 {
     match stop {
-        PeerStop::Link => Shown::LinkFault,
-        PeerStop::Memory => Shown::NoMemory,
-        PeerStop::LabelClash { first, second } => Shown::LabelClash {
+        PeerStop::Link => Cause::LinkFault,
+        PeerStop::Memory => Cause::NoMemory,
+        PeerStop::LabelClash { first, second } => Cause::LabelClash {
             first: *first,
             second: *second,
         },
-        PeerStop::Clash { what, place } => Shown::Clash {
+        PeerStop::PlaceClash { first, second } => Cause::PlaceClash {
+            first: *first,
+            second: *second,
+        },
+        PeerStop::Clash { what, place } => Cause::Clash {
             what: *what,
             place: *place,
         },
-        PeerStop::Elsewhere { got } => Shown::PeerElsewhere {
+        PeerStop::Elsewhere { got } => Cause::PeerElsewhere {
             low: 0,
             high: 0,
             got: *got,
         },
-        PeerStop::BadReply(start) => Shown::BadReply {
+        PeerStop::BadReply(start) => Cause::BadReply {
             reply: start.as_slice(),
         },
     }

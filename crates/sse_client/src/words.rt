@@ -1,5 +1,5 @@
 ghost use Rattle.std.specs.Prelude.{◌≡◌, map, Some, string_bytes};
-ghost use Rattle.sse_client.specs.Call.{IsRun};
+ghost use Rattle.sse_client.specs.Words.{IsRun};
 
 /// What the words of the command line ask for.
 #[derive(Debug, Clone, Copy, PartialEq, Eq)]

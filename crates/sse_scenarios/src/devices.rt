@@ -1,6 +1,7 @@
 use crate::running::{SCRIPT, run_over};
 use keyed_fn::Real;
 use server_core::Server;
+use server_tables::BucketTables;
 use sse_link::{Fail as FailingCall, Loopback};
 use std::test::Fail;
 
@@ -38,7 +39,7 @@ fn failing_devices(rt: HostRuntime) -> Result<(), Fail> {
         let mut link = Loopback::new(
             alloc,
             Real,
-            Server::new(alloc),
+            Server::new(BucketTables::new(alloc)),
             Vec::from_slice(alloc, link)?,
         );
         let ended = run_over(alloc, &Real, &mut link, SCRIPT, source, sink)?;

@@ -4,9 +4,9 @@
 #![tactic(auto)]
 
 #[cfg(test)]
-mod devices;
+mod clashes;
 #[cfg(test)]
-mod equal_labels;
+mod devices;
 #[cfg(test)]
 mod made_up_links;
 #[cfg(test)]

@@ -1,7 +1,10 @@
 use crate::running::{SCRIPT, run_over};
 use keyed_fn::Real;
 use server_core::Server;
+use server_tables::BucketTables;
+use sse_client::run_on_bytes;
 use sse_link::{Passed, SteadyLoopback};
+use sse_outside::{SteadySink, SteadySource};
 use std::alloc::{AllocError, Global};
 use std::test::Fail;
 
@@ -23,13 +26,28 @@ const TRANSCRIPT: [&str; 10] = [
 #[test]
 fn the_worked_example(rt: HostRuntime) -> Result<(), Fail> {
     let alloc = rt.alloc();
-    let mut link = SteadyLoopback::new(alloc, Real, Server::new(alloc));
+    let mut link = SteadyLoopback::new(alloc, Real, Server::new(BucketTables::new(alloc)));
     let ended = run_over(alloc, &Real, &mut link, SCRIPT, &[], &[])?;
     assert_eq!(rt; ended.status, 0);
     assert_eq!(rt; link.transcript().len(), TRANSCRIPT.len());
     for (passed, line) in link.transcript().iter().zip(TRANSCRIPT) {
         assert_eq!(rt; line_of(alloc, passed)?.as_str(), line);
     }
+    Ok(())
+}
+
+#[test]
+fn the_worked_example_in_memory(rt: HostRuntime) -> Result<(), Fail> {
+    let alloc = rt.alloc();
+    let words = vec![in alloc; String::from_str(alloc, "run")?]?;
+    let mut source = SteadySource::new(Vec::from_slice(alloc, SCRIPT)?);
+    let mut sink = SteadySink::new(alloc);
+    let status = run_on_bytes(alloc, &words, &Real, &mut source, &mut sink);
+    assert_eq!(rt; status, 0);
+    assert_eq!(rt;
+        sink.bytes(),
+        b"set up 2 words 0 blocks\nfound 2: 3 9\n".as_slice()
+    );
     Ok(())
 }
 

@@ -6,6 +6,7 @@ use Rattle.sse_client.proofs.Passing.{IfErr-from, IsAnswered-same}
 use Rattle.sse_client.specs.Exchanges.{HasCut}
 use Rattle.sse_client.specs.Stops.{peer_cause}
 use Rattle.sse_client.proofs.Parts.{HasCut-memory, IsBegun-unanswered, IsBegun-answered, HasCut-begun, shows_to_hello, shows_elsewhere}
+use Rattle.sse_client.proofs.Causes.{PeerCause-fault, store_told}
 use Rattle.sse_client.proofs.exchange.greet.Goals as goal
 
 behind_nothing : (old new front : List ℕ) → old ≡ [] → new ≡ old ++ front → new ≡ front
@@ -53,3 +54,10 @@ returns-in-Some-clause-turned_away g c =
     let spelled : c.deref.result.now ≡ frame_bytes Hello = c.deref.ensures.value ∙ behind_nothing c.new-hello.result.items c.write_frame.new.out.items (frame_bytes Hello) c.new-hello.ensures.items c.in_ok-write_frame.ensures.ok in
     HasCut-begun old new Hello [] _ (IsBegun-answered old new c.deref.result.now reply Hello _ spelled answered
     (shows_elsewhere reply c.in-Some.got (search rules) (search rules) c.in-Some.ensures.found))
+
+pub returns-clause-cause : goal.returns-clause-cause
+returns-clause-cause g c =
+    let reply = c.split_at.result.0.now in
+    PeerCause-fault (g.L.Link.faults c.args.link.now) (g.L.Link.faults c.exchange.new.link) reply c.fault_of.result c.fault_of.ensures.store (store_told reply c.fault_of.result c.fault_of.ensures.fault)
+    (λ e. c.in_ok-size.ensures.store_fault (sym c.split_at.ensures.front ∙ e)) (λ other. c.in_ok-size.ensures.steady (λ e. other (c.split_at.ensures.front ∙ e)))
+    c.of_fault.result c.of_fault.ensures.link c.of_fault.ensures.store

@@ -3,7 +3,8 @@ use Rattle.std.specs.Prelude.{Bool}
 use Rattle.keyed_fn.specs.KeyedFn.{keyed_fn}
 use Rattle.sse_client.specs.Stands.{CarriesOut, seen}
 use Rattle.sse_client.specs.Stops.{stop_of_sink}
-use Rattle.sse_client.proofs.Running.{carries-printed, stops-unprinted, IfErr-same}
+use Rattle.sse_client.proofs.Passing.{IfErr-from}
+use Rattle.sse_client.proofs.Running.{carries-printed, stops-unprinted}
 use Rattle.sse_client.proofs.run.carry_out.Goals as goal
 
 pub returns-clause-carries : goal.returns-clause-carries
@@ -24,6 +25,6 @@ returns-in_err-print-clause-stops g c =
     let before = g.W.Sink.written c.args.sink.now in
     let after = g.W.Sink.written c.print.new.sink in
     let fault = c.in_err-print.field-0.0 in
-    IfErr-same c.from_residual-in_err-print.result (stop_of_sink fault) _ c.from_residual-in_err-print.ensures.1
+    IfErr-from c.from_residual-in_err-print.result (stop_of_sink fault) _ c.from_residual-in_err-print.ensures.1
     (λ request e. stops-unprinted f c.args.stage c.in_ok-next.next c.in_ok-next.outcome request old new before after (c.in_ok-next.ensures.takes request e) fault c.in_err-print.ensures.front.0
     c.in_err-print.ensures.silent c.in_err-print.ensures.front.1)

@@ -3,13 +3,14 @@ use Rattle.sse_script.specs.Views.{line_view}
 use Rattle.sse_script.specs.declared.line.Line.{Line}
 use Rattle.script_meaning.proofs.Steps.{IsBadFirst, opens-key}
 use Rattle.script_meaning.specs.Lines.{line_read}
-use Rattle.sse_client.proofs.Running.{line_in-read, line_in-none, IfErr-line, opening-next, bad_first, key_told, opening-bad, opening-input, opening-end, IfErr-same}
+use Rattle.sse_client.proofs.Passing.{IfErr-from}
+use Rattle.sse_client.proofs.Running.{line_in-read, line_in-none, IfErr-line, opening-next, bad_first, key_told, opening-bad, opening-input, opening-end}
 use Rattle.sse_client.proofs.run.key_line.Goals as goal
 
 pub returns-in_err-advance-clause-stopped : goal.returns-in_err-advance-clause-stopped
 returns-in_err-advance-clause-stopped g c =
     let stop = c.in_err-advance.field-0.0 in
-    IfErr-same c.from_residual.result stop _ c.from_residual.ensures.1
+    IfErr-from c.from_residual.result stop _ c.from_residual.ensures.1
     (λ f now. opening-input f _ _ now c.lines.input.number _ (c.lines.invariant.opening f now) _ stop c.in_err-advance.ensures.kind
     (λ m e. c.in_err-advance.ensures.too_long m (search e)) (λ m e. let n = c.in_err-advance.ensures.counted_long m (search e) in omega (arith, n, c.lines.invariant.few)))
 
@@ -27,7 +28,7 @@ returns-in_err-line-clause-stopped g c =
 
 pub lines-preserved : goal.lines-preserved
 lines-preserved g c = record {
-  source = omega (arith, c.lines.invariant.source, c.in_ok-advance.ensures.later);
+  source = c.in_ok-advance.ensures.steady ∙ c.lines.invariant.source;
   few = omega (arith, c.lines.invariant.few, c.in_ok-advance.ensures.counted, c.in_ok-advance.ensures.less (search rules));
   opening = λ f now.
       let text = c.advance.new.self.line.items in

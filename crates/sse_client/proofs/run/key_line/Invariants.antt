@@ -1,4 +1,4 @@
-use Rattle.std.proofs.Common.{◌≤◌, ◌+◌, ◌^◌}
+use Rattle.std.proofs.Common.{◌≤◌, ◌+◌, ◌^◌, ◌≡◌}
 use Rattle.keyed_fn.specs.KeyedFn.{KeyedFn}
 use Rattle.sse_script.specs.TextLines.{bytes_to_come, lines_left}
 use Rattle.script_meaning.proofs.Steps.{ContinuesOpening}
@@ -7,7 +7,7 @@ use Rattle.sse_client.proofs.run.key_line.Given as goal
 
 abbrev pub invariant-lines : goal.invariant-lines
 invariant-lines g l = record {
-  source : g.S.Source.faults l.fn.source ≤ g.S.Source.faults l.source;
+  source : g.S.Source.faults l.source ≡ g.S.Source.faults l.fn.source;
   few : l.input.number + bytes_to_come l.input.reader (g.S.Source.handed_out l.source) ≤ 2 ^ 63;
   opening : (f : KeyedFn) (now : Outside)
       → ContinuesOpening f (l.fn.input.number + 1) (lines_left l.fn.input.reader (g.S.Source.remaining l.fn.source)) now (l.input.number + 1) (lines_left l.input.reader (g.S.Source.remaining l.source));

@@ -1,19 +1,22 @@
-use Rattle.std.proofs.Common.{◌≤◌, ◌+◌, ◌^◌, false, length}
+use Rattle.std.proofs.Common.{◌≤◌, ◌+◌, ◌^◌, false, length, ◌≡◌}
 use Rattle.keyed_fn.specs.KeyedFn.{keyed_fn}
 use Rattle.sse_script.specs.TextLines.{bytes_to_come, lines_left}
 use Rattle.script_meaning.specs.Outcome.{Place}
 use Rattle.script_meaning.specs.Runs.{moment}
+use Rattle.sse_client.specs.Stages.{key_of}
 use Rattle.sse_client.specs.Stands.{IsAt, seen, has_refused}
 use Rattle.sse_client.proofs.Running.{IsThere}
 use Rattle.sse_client.proofs.run.run_lines.Given as goal
 
 abbrev pub invariant-lines : goal.invariant-lines
 invariant-lines g l = record {
+  prepared : l.master ≡ key_of l.stage;
   room : 65544 ≤ length l.room;
   few : l.input.number + bytes_to_come l.input.reader (g.S.Source.handed_out l.source) ≤ 2 ^ 63;
-  source : g.S.Source.faults l.fn.source ≤ g.S.Source.faults l.source;
-  sink : g.W.Sink.faults l.fn.sink ≤ g.W.Sink.faults l.sink;
-  link : g.L.Link.faults l.fn.link ≤ g.L.Link.faults l.link;
+  source : g.S.Source.faults l.source ≡ g.S.Source.faults l.fn.source;
+  sink : g.W.Sink.faults l.sink ≡ g.W.Sink.faults l.fn.sink;
+  began : g.L.Link.began l.link ≡ g.L.Link.began l.fn.link;
+  link : g.L.Link.faults l.link ≡ g.L.Link.faults l.fn.link;
   there : (place : Place) → IsAt (keyed_fn g.K.Keyed.prf g.K.Keyed.pad) l.fn.stage place
       → IsThere (keyed_fn g.K.Keyed.prf g.K.Keyed.pad) (moment place (l.fn.input.number + 1) (lines_left l.fn.input.reader (g.S.Source.remaining l.fn.source)) false (seen (g.L.Link.transcript l.fn.link) (g.W.Sink.written l.fn.sink)))
       l.stage l.input.number (lines_left l.input.reader (g.S.Source.remaining l.source)) (has_refused l.refusals) (seen (g.L.Link.transcript l.link) (g.W.Sink.written l.sink));

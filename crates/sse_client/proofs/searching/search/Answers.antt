@@ -1,4 +1,4 @@
-use Rattle.std.proofs.Common.{take, true, false, [], ◌∷◌, Err, rules, refl, sym, ap, subst, arith}
+use Rattle.std.proofs.Common.{take, true, false, [], ◌∷◌, Err, rules, refl, sym, ap, subst, arith, ◌∙◌}
 use Rattle.client_core.specs.Pages.{IsNextPage, is_done}
 use Rattle.client_registry.specs.WordBytes.{word_bytes}
 use Rattle.keyed_fn.specs.KeyFormulas.{token_of}
@@ -9,13 +9,15 @@ use Rattle.sse_frames.specs.Replies.{Page}
 use Rattle.sse_link.specs.Events.{Received}
 use Rattle.sse_model.proofs.KeyValues.{IsValue-table}
 use Rattle.sse_model.specs.Names.{name, Token}
-use Rattle.sse_client.specs.Progress.{Adds}
+use Rattle.script_meaning.specs.Exchange.{Adds}
 use Rattle.sse_client.specs.Stops.{peer_cause, stop_of_link}
 use Rattle.sse_client.proofs.Passing.{IfErr-from, Adds-same, IsUnanswered-send, from_outside}
 use Rattle.sse_client.proofs.Reading.{IsReading-next}
 use Rattle.sse_client.specs.Exchanges.{HasCut}
 use Rattle.sse_client.proofs.Parts.{IsBegun-unanswered, HasCut-begun}
 use Rattle.sse_client.proofs.PagesPassed.{HasSearched-last, HasCut-reading, HasCut-refused}
+use Rattle.sse_client.specs.Causes.{PeerCause}
+use Rattle.sse_client.proofs.Causes.{PeerCause-fault, page_no_store, store_refused}
 use Rattle.sse_client.proofs.searching.search.Goals as goal
 
 -- the token of a word has 160 bytes
@@ -52,7 +54,8 @@ pages-preserved g c =
     record {
       room = search rules;
       due = c.in_ok-size.ensures.due_after.1 (record { ids = after.0; is = subst (IsReply (Page false after.0)) c.split_at.ensures.front page.reply });
-      later = omega (arith, c.pages.invariant.later, c.recv.ensures.later);
+      began = c.recv.ensures.began_kept ∙ c.pages.invariant.began;
+      steady = c.in_ok-size.ensures.steady (λ e. page_no_store c.pages.found.pages reply false after.0 page (c.split_at.ensures.front ∙ e)) ∙ c.pages.invariant.steady;
       few = omega (arith, page.within, after.3);
       reading =
           IsReading-next old now new token c.pages.found.ids.items c.page.new.self.ids.items c.pages.found.pages c.page.new.self.pages reply after.0 c.pages.invariant.reading one page after.2 after.3;
@@ -102,3 +105,12 @@ returns-in-Err-clause-stopped g c =
     let one : Adds now new (Received reply ∷ []) = Adds-same now new (take c.in_ok-size.size c.recv.new.out) reply c.split_at.ensures.front c.in_ok-size.ensures.told in
     subst (HasCut old new (SearchFrame token ∷ [])) (sym c.of_fault.ensures.cause)
     (HasCut-refused old now new token c.pages.found.ids.items c.pages.found.pages reply c.in-Err.fault c.pages.invariant.reading c.pages.invariant.few one c.in-Err.ensures.after.0)
+
+pub returns-in-Err-clause-cause : goal.returns-in-Err-clause-cause
+returns-in-Err-clause-cause g c =
+    let reply = c.split_at.result.0.now in
+    let new = g.L.Link.faults c.recv.new.self in
+    subst (λ before. PeerCause before new c.of_fault.result) c.pages.invariant.steady
+    (PeerCause-fault (g.L.Link.faults c.pages.link) new reply c.in-Err.fault (λ e. c.in-Err.ensures.store (ap Err e)) (store_refused c.pages.found.pages reply c.in-Err.fault c.in-Err.ensures.after.0)
+    (λ e. c.in_ok-size.ensures.store_fault (sym c.split_at.ensures.front ∙ e)) (λ other. c.in_ok-size.ensures.steady (λ e. other (c.split_at.ensures.front ∙ e)))
+    c.of_fault.result c.of_fault.ensures.link c.of_fault.ensures.store)

@@ -10,7 +10,8 @@ abbrev pub invariant-pages : goal.invariant-pages
 invariant-pages g l = record {
   room : 65544 ≤ length l.room;
   due : g.L.Link.reply_due l.link ≡ true;
-  later : g.L.Link.faults l.fn.link ≤ g.L.Link.faults l.link;
+  began : g.L.Link.began l.link ≡ g.L.Link.began l.fn.link;
+  steady : g.L.Link.faults l.link ≡ g.L.Link.faults l.fn.link;
   few : l.found.pages ≤ MAX_PAGES;
   reading : IsReading (g.L.Link.transcript l.fn.link) (g.L.Link.transcript l.link)
       (token_of (keyed_fn g.K.Keyed.prf g.K.Keyed.pad) l.fn.client.key (word_bytes l.fn.word)) l.found.ids.items l.found.pages;

@@ -1,19 +1,22 @@
-use Rattle.std.proofs.Common.{◌≡◌, [], ◌∷◌, Ok, refl, sym, ap, subst, ◌∙◌}
+use Rattle.std.proofs.Common.{◌≡◌, [], ◌∷◌, Ok, Err, refl, sym, ap, subst, ◌∙◌}
 use Rattle.client_registry.specs.WordBytes.{word_bytes}
 use Rattle.keyed_fn.specs.KeyFormulas.{token_of}
 use Rattle.keyed_fn.specs.KeyedFn.{keyed_fn}
 use Rattle.sse_frames.specs.Frames.{SearchFrame}
-use Rattle.sse_client.specs.Carried.{key_of}
+use Rattle.sse_client.specs.Stages.{key_of}
 use Rattle.sse_client.specs.OutcomeViews.{outcome_view, refuses}
 use Rattle.sse_client.specs.Stops.{peer_cause}
 use Rattle.sse_client.specs.declared.session.Stage.{Stage}
 use Rattle.sse_client.specs.declared.session.Stage.TheVariants.{Collecting, Searching}
-use Rattle.sse_client.proofs.Passing.{IfErr-from}
+use Rattle.sse_client.proofs.Passing.{IfErr-from, may_stop}
 use Rattle.script_meaning.specs.Lines as requests
 use Rattle.script_meaning.specs.Built as built
 use Rattle.sse_client.specs.Exchanges.{HasSearched, HasCut}
 use Rattle.sse_client.specs.Stands.{IsAt, GoesOn, StopsWithin}
 use Rattle.sse_client.proofs.Taking.{takes-find, stops-find, takes-bad_word, takes-not_set_up, stops-bad_word, searching_still}
+use Rattle.sse_client.specs.Stages.{MayStop}
+use Rattle.sse_client.specs.declared.line_fault.LineFault.TheVariants as faults
+use Rattle.sse_script.specs.Lines as lines
 use Rattle.sse_client.proofs.session.find.Goals as goal
 use Rattle.sse_client.proofs.session.find.Goals.{in-Ok+in_ok-search-in-Ok, in-Err+in_ok-outcome-in-Err}
 
@@ -74,3 +77,14 @@ returns-after-word_of-clause-takes g c = λ place a.
           (record { nothing = w.refusal_of.ensures.nothing; refused = w.refusal_of.ensures.refused; memory = w.refusal_of.ensures.memory })
           (w.in_ok-outcome-in-Err.was ∙ ap (λ came. Ok came) (sym w.outcome-is)) w.in-Err.ensures.refused here)
     ]
+
+pub returns-in_err-search-in-Ok-clause-may_stop : goal.returns-in_err-search-in-Ok-clause-may_stop
+returns-in_err-search-in-Ok-clause-may_stop g c =
+    may_stop c.from_residual.result (MayStop c.args.stage (lines.Find c.args.field.now)) (subst (λ s. MayStop s (lines.Find c.args.field.now)) (sym c.in-Searching.is) c.in-Ok.ensures.good)
+
+pub returns-in_err-outcome-in-Err-clause-may_stop :
+    goal.returns-in_err-outcome-in-Err-clause-may_stop
+returns-in_err-outcome-in-Err-clause-may_stop g c =
+    may_stop c.from_residual-in_err-outcome-in-Err.result (MayStop c.args.stage (lines.Find c.args.field.now))
+    (let is : c.in-Err.fault ≡ faults.NoMemory = cc (c.in_err-outcome-in-Err.ensures.stops) in
+    subst (λ s. MayStop s (lines.Find c.args.field.now)) (sym c.in-Searching.is) (c.in-Err.ensures.memory (ap (λ e. Err e) is)))

@@ -1,4 +1,4 @@
-use Rattle.std.proofs.Common.{take, rules, sym, subst, arith}
+use Rattle.std.proofs.Common.{take, rules, sym, subst, ◌∙◌, ap, Some}
 use Rattle.sse_client.specs.Progress.{IsAnswered}
 use Rattle.sse_client.specs.Stops.{peer_cause}
 use Rattle.sse_client.proofs.Passing.{IsAnswered-same, IfErr-from}
@@ -6,6 +6,8 @@ use Rattle.client_core.specs.Sending.{to_send}
 use Rattle.sse_client.specs.Exchanges.{HasCut}
 use Rattle.sse_client.proofs.Sending.{IsSending-next, IsSending-last, HasCut-unanswered, HasCut-answered}
 use Rattle.sse_client.proofs.UnderWay.{first_frame, frames_behind}
+use Rattle.sse_client.specs.Causes.{PeerCause}
+use Rattle.sse_client.proofs.Causes.{PeerCause-fault, store_told, took_no_store}
 use Rattle.sse_client.proofs.setting_up.catch_up.Goals as goal
 
 pub exchange-requires-clause-frame : goal.exchange-requires-clause-frame
@@ -20,7 +22,8 @@ frames-preserved g c =
     let answered : IsAnswered now new c.frame.result.now reply = IsAnswered-same now new c.frame.result.now (take c.in_ok-size.size c.exchange.new.room) reply c.split_at.ensures.front c.in_ok-size.ensures.answered in
     record {
       room = search rules;
-      later = omega (arith, c.frames.invariant.later, c.exchange.ensures.later);
+      began = c.exchange.ensures.began ∙ c.frames.invariant.began;
+      steady = c.in_ok-size.ensures.steady (λ e. took_no_store c.frames.client.state.next reply c.in-Behind.ensures.after.0 (c.split_at.ensures.front ∙ e)) ∙ c.frames.invariant.steady;
       grammar = frames_behind (to_send c.frames.client.state) (to_send c.in-Behind.next.state) c.in-Behind.ensures.after.3 c.frames.invariant.grammar;
       key = search rules;
       sending = λ frames owed.
@@ -56,3 +59,12 @@ returns-in-Stopped-clause-unsent g c frames owed numbered =
     subst (HasCut old new frames) (sym c.of_fault.ensures.cause)
     (HasCut-answered old now new c.frames.client.state frames c.frame.result.now reply c.in-Stopped.fault (c.frames.invariant.sending frames (owed, numbered)) c.frame.ensures answered
     c.in-Stopped.ensures.after.0 c.in-Stopped.ensures.after.2)
+
+pub returns-in-Stopped-clause-cause : goal.returns-in-Stopped-clause-cause
+returns-in-Stopped-clause-cause g c =
+    let reply = c.split_at.result.0.now in
+    let new = g.L.Link.faults c.exchange.new.link in
+    subst (λ before. PeerCause before new c.of_fault.result) c.frames.invariant.steady
+    (PeerCause-fault (g.L.Link.faults c.frames.link) new reply c.in-Stopped.fault (λ e. c.in-Stopped.ensures.store (ap Some e)) (store_told reply c.in-Stopped.fault c.in-Stopped.ensures.after.2)
+    (λ e. c.in_ok-size.ensures.store_fault (sym c.split_at.ensures.front ∙ e)) (λ other. c.in_ok-size.ensures.steady (λ e. other (c.split_at.ensures.front ∙ e)))
+    c.of_fault.result c.of_fault.ensures.link c.of_fault.ensures.store)

@@ -9,7 +9,8 @@ use Rattle.sse_client.proofs.setting_up.catch_up.Given as goal
 abbrev pub invariant-frames : goal.invariant-frames
 invariant-frames g l = record {
   room : 65544 ≤ length l.room;
-  later : g.L.Link.faults l.fn.link ≤ g.L.Link.faults l.link;
+  began : g.L.Link.began l.link ≡ g.L.Link.began l.fn.link;
+  steady : g.L.Link.faults l.link ≡ g.L.Link.faults l.fn.link;
   grammar : AllByRecursion IsFrame (to_send l.client.state);
   key : l.client.key ≡ l.fn.client.key;
   sending : (frames : List FrameText) → AreOwed l.fn.client.state frames → IsSending (g.L.Link.transcript l.fn.link) (g.L.Link.transcript l.link) l.client.state frames;
