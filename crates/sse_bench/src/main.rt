@@ -3,7 +3,10 @@
 //! round the whole process. It stands on the crates whose calls it makes, and proves nothing of them.
 #![tactic(auto)]
 
+mod additions;
 mod row;
+mod searches;
+mod tables;
 
 use row::Row;
 use std::process::ExitCode;
@@ -11,6 +14,9 @@ use std::{env, io};
 
 /// The status of a run whose words name no row, or no count of turns.
 const NO_ROW: u8 = 2;
+
+/// The status of a run that was out of memory, or put a label in twice.
+const FAILED: u8 = 1;
 
 fn main(rt: HostRuntime) -> io::Result<ExitCode> {
     let words: Vec<String> = env::args(&rt)?.skip(1).collect(rt.alloc())?;
@@ -21,7 +27,9 @@ fn main(rt: HostRuntime) -> io::Result<ExitCode> {
         )?;
         return Ok(ExitCode::from(NO_ROW));
     };
-    let sum = row.run(turns);
+    let Ok(sum) = row.run(rt.alloc(), turns) else {
+        return Ok(ExitCode::from(FAILED));
+    };
     println!(rt; "{sum}")?;
     Ok(ExitCode::SUCCESS)
 }

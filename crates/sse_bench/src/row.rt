@@ -1,10 +1,16 @@
+use crate::tables::{Labels, fill, fill_plain};
+use crate::{additions, searches};
 use keyed_fn::{Keyed, PreparedKey, Real};
+use server_tables::{BucketTables, SortedTables, TableFault};
 use sha2::{Digest, Sha256};
+use std::alloc::Global;
 
 /// The names of all rows.
-pub(crate) const NAMES: &str = "prepared raw digests";
+pub(crate) const NAMES: &str =
+    "prepared raw digests sorted buckets alike plain searches revoked calls revoked_calls \
+    behind_few behind_many";
 
-/// The key of all rows, 32 bytes.
+/// The key of the rows of keyed calls, 32 bytes.
 const KEY: [u8; 32] = [7; 32];
 
 /// What is done in each turn.
@@ -16,6 +22,26 @@ pub(crate) enum Row {
     Raw,
     /// A digest of SHA-256 of 8 bytes: one block.
     Digests,
+    /// An addition into sorted tables, and its look-up once all are there.
+    Sorted,
+    /// The same into tables in buckets.
+    Buckets,
+    /// The same, where all labels begin with the same four bytes.
+    Alike,
+    /// The same into a plain `HashMap`.
+    Plain,
+    /// A search for 10,240 identifiers, of which none is revoked.
+    Searches,
+    /// The same where a tenth is.
+    Revoked,
+    /// The keyed calls of the first of these searches.
+    Calls,
+    /// Those of the second.
+    RevokedCalls,
+    /// A search for one identifier, which was added, where the server has 10^4 additions.
+    BehindFew,
+    /// The same where it has 10^6.
+    BehindMany,
 }
 
 impl Row {
@@ -27,13 +53,49 @@ impl Row {
             Some(Row::Raw)
         } else if name == "digests" {
             Some(Row::Digests)
+        } else if name == "sorted" {
+            Some(Row::Sorted)
+        } else if name == "buckets" {
+            Some(Row::Buckets)
+        } else if name == "alike" {
+            Some(Row::Alike)
+        } else if name == "plain" {
+            Some(Row::Plain)
+        } else if name == "searches" {
+            Some(Row::Searches)
+        } else if name == "revoked" {
+            Some(Row::Revoked)
+        } else if name == "calls" {
+            Some(Row::Calls)
+        } else if name == "revoked_calls" {
+            Some(Row::RevokedCalls)
+        } else if name == "behind_few" {
+            Some(Row::BehindFew)
+        } else if name == "behind_many" {
+            Some(Row::BehindMany)
         } else {
             None
         }
     }
 
-    /// Makes so many turns, and answers the sum of the first bytes that came, modulo 2^64.
-    pub(crate) fn run(self, turns: u64) -> u64 {
+    /// Makes so many turns, and answers a sum of what came, modulo 2^64.
+    pub(crate) fn run(self, alloc: Global, turns: u64) -> Result<u64, TableFault> {
+        match self {
+            Row::Prepared | Row::Raw | Row::Digests => Ok(self.hash(turns)),
+            Row::Sorted => fill(&mut SortedTables::new(alloc), Labels::Spread, turns),
+            Row::Buckets => fill(&mut BucketTables::new(alloc), Labels::Spread, turns),
+            Row::Alike => fill(&mut BucketTables::new(alloc), Labels::Alike, turns),
+            Row::Plain => Ok(fill_plain(alloc, Labels::Spread, turns)?),
+            Row::Searches => Ok(searches::search(alloc, false, turns)?),
+            Row::Revoked => Ok(searches::search(alloc, true, turns)?),
+            Row::Calls => Ok(searches::calls(false, turns)),
+            Row::RevokedCalls => Ok(searches::calls(true, turns)),
+            Row::BehindFew => Ok(additions::search(alloc, 10_000, turns)?),
+            Row::BehindMany => Ok(additions::search(alloc, 1_000_000, turns)?),
+        }
+    }
+
+    fn hash(self, turns: u64) -> u64 {
         let key = PreparedKey::new(&Real, &KEY);
         let mut sum = 0u64;
         for number in 0..turns {
@@ -41,7 +103,7 @@ impl Row {
             let [first, ..] = match self {
                 Row::Prepared => key.prf(&Real, &input),
                 Row::Raw => Real.prf(&KEY, &input),
-                Row::Digests => Sha256::digest(&input),
+                _ => Sha256::digest(&input),
             };
             sum = sum.wrapping_add(u64::from(first));
         }
