@@ -1,0 +1,261 @@
+"""What the examples share: a shelf of texts, and a search of it by bin/sse_local.
+
+The program is given a script under a key that is made for this one run. Script and answers go through pipes
+alone, so no key and no word is left behind in a file, however the run ends.
+
+A word is a run of letters, digits and the marks that combine with them, in lower case; queries are read in the
+same way. Finding words in texts is outside what is proved: a word that isn't taken here can't be found.
+"""
+import argparse
+import collections
+import os
+import random
+import secrets
+import signal
+import subprocess
+import sys
+import unicodedata
+
+# docs/FORMATS.md, "Limits"
+WORD_BYTES = 64
+DOCUMENT_WORDS = 4096
+SETUP_DOCUMENTS = 2**18
+SETUP_PAIRS = 2**20
+INDEX_BYTES = 2**28
+
+# B, and what is tried for b: the largest hides the most. A smaller one is taken only where the index would be too
+# large, so b tells the server no more than the counts of words and blocks do, which it sees in any case.
+BLOCK = 256
+CELLS = (64, 32, 16, 8)
+
+HERE = os.path.dirname(os.path.abspath(__file__))
+NAME = os.path.basename(sys.argv[0])
+
+
+class Unreadable(Exception):
+    """Why there is nothing to search in."""
+
+
+class WordCharacters(dict):
+    """For str.translate: a character that a word may have stays, any other becomes a space."""
+
+    def __missing__(self, code):
+        is_kept = unicodedata.category(chr(code))[0] in "LMN"
+        self[code] = chr(code) if is_kept else " "
+        return self[code]
+
+
+WORD_CHARACTERS = WordCharacters()
+
+
+def words_of(text):
+    """The words of a text in turn, repeats included."""
+    return unicodedata.normalize("NFC", text.lower()).translate(WORD_CHARACTERS).split()
+
+
+def is_too_long(word):
+    """A character has at most four bytes, so a short word needn't be written as bytes."""
+    return len(word) * 4 > WORD_BYTES and len(word.encode()) > WORD_BYTES
+
+
+def fault_of(query):
+    """Why a query is no word, or None where it is one."""
+    words = words_of(query)
+    if any("\udc80" <= character <= "\udcff" for character in query):
+        return "it isn't UTF-8"
+    if not words:
+        return "it has no letter and no digit"
+    if len(words) > 1:
+        return f"it is {len(words)} words, and a search is for one"
+    if is_too_long(words[0]):
+        return f"it has {len(words[0].encode())} bytes, and a word at most {WORD_BYTES}"
+    return None
+
+
+def on_a_line(name):
+    """A name as it is; one with a line end, another control character or a byte that is no text, as a shell
+    reads it: $'..'."""
+    if name.isprintable():
+        return name
+    quoted = ""
+    for character in name:
+        if character in "\\'":
+            quoted += "\\" + character
+        elif character.isprintable():
+            quoted += character
+        else:
+            quoted += "".join(f"\\x{byte:02x}" for byte in os.fsencode(character))
+    return f"$'{quoted}'"
+
+
+def say(line):
+    print(f"{NAME}: {line}", file=sys.stderr)
+
+
+class Shelf:
+    """Named texts with the words of each, and what was left out."""
+
+    def __init__(self):
+        self.names = []
+        self.documents = []  # for each: the place of its name, and at most DOCUMENT_WORDS different words
+        self.left_out = {}  # what it was: how often, and where first
+
+    def leave_out(self, what, where):
+        count, first = self.left_out.get(what, (0, where))
+        self.left_out[what] = (count + 1, first)
+
+    def decoded(self, content, where, charset="utf-8"):
+        """The bytes as text; those that aren't in the character set are counted and part words."""
+        try:
+            return content.decode(charset)
+        except UnicodeDecodeError:
+            self.leave_out("texts' bytes that aren't in their character set", where)
+            return content.decode(charset, "replace")
+
+    def put(self, name, text):
+        """A text with more than DOCUMENT_WORDS different words becomes several documents of one name."""
+        words = []
+        for word in dict.fromkeys(words_of(text)):
+            if is_too_long(word):
+                self.leave_out(f"words of more than {WORD_BYTES} bytes", name)
+            else:
+                words.append(word)
+        for start in range(0, len(words), DOCUMENT_WORDS):
+            self.documents.append((len(self.names), words[start : start + DOCUMENT_WORDS]))
+        self.names.append(name)
+
+    def search(self, queries):
+        """Prints for each query that is a word the names of the texts that hold it. Returns the status."""
+        for what, (count, first) in self.left_out.items():
+            say(f"left out: {what}: {count}, the first in {on_a_line(first)}")
+        wanted = []
+        for query in queries:
+            fault = fault_of(query)
+            if fault is None:
+                wanted += words_of(query)
+            else:
+                say(f"{on_a_line(query)} is no word: {fault}")
+        status = self.answer(wanted) if wanted else 0
+        return status or int(len(wanted) < len(queries))
+
+    def answer(self, wanted):
+        identifiers, script = self.script(wanted)
+        lines, status = run(script.encode())
+        if status not in (0, 1):
+            say(lines[-1] if lines else f"the program ended with {status}")
+            return status
+        # the setup, each addition and each search print one line; a document prints one where it is refused
+        found = lines[-len(wanted) :]
+        refused = collections.Counter(line for line in lines[: -len(wanted)] if line.startswith("refused: "))
+        for refusal in refused:
+            say(refusal)
+        if "refused: not set up" in found:
+            say("the store wasn't set up")
+            if any(line.startswith(("refused: list of word", "refused: too many bytes")) for line in refused):
+                say(self.longest_list())
+            return status
+        if refused:
+            say(f"not searched: documents: {sum(refused.values())} of {len(self.documents)}")
+        for word, line in zip(wanted, found):
+            # found <n>: <identifier> ..
+            places = sorted({identifiers[identifier] for identifier in line.partition(":")[2].split()})
+            print(f"{word}: {len(places)}")
+            for place in places:
+                print(f"  {on_a_line(self.names[place])}")
+        return status
+
+    def longest_list(self):
+        counts = collections.Counter(word for _, words in self.documents for word in words)
+        word, count = counts.most_common(1)[0]
+        return (
+            f"the longest list: {word}, in {count} texts; "
+            f"a list has at most b * B * B of them, and an index {INDEX_BYTES} bytes"
+        )
+
+    def script(self, wanted):
+        """A name's place by identifier, and the script. Numbers and order are drawn at random, so that they say
+        nothing of the texts. What one setup doesn't hold is added behind it."""
+        key = secrets.token_hex(32)
+        documents = random.SystemRandom().sample(self.documents, len(self.documents))
+        identifiers = {}
+        while len(identifiers) < len(documents):
+            identifier = str(secrets.randbelow(2**64 - 1) + 1)
+            identifiers.setdefault(identifier, documents[len(identifiers)][0])
+        lines = [" ".join([identifier, *words]) for identifier, (_, words) in zip(identifiers, documents)]
+        count = first_setup([words for _, words in documents])
+        script = [f"key {key}"]
+        script += [f"doc {line}" for line in lines[:count]]
+        script += [f"setup {cell_for(words for _, words in documents[:count])} {BLOCK}"]
+        script += [f"add {line}" for line in lines[count:]]
+        script += [f"find {word}" for word in wanted]
+        return identifiers, "\n".join(script) + "\n"
+
+
+def first_setup(documents):
+    """How many of the documents one setup holds."""
+    pairs = 0
+    for count, words in enumerate(documents[:SETUP_DOCUMENTS]):
+        pairs += len(words)
+        if pairs > SETUP_PAIRS:
+            return count
+    return min(len(documents), SETUP_DOCUMENTS)
+
+
+def cell_for(documents):
+    """b, the largest with which the index keeps its limit of bytes."""
+    counts = collections.Counter()
+    for words in documents:
+        counts.update(words)
+    lengths = counts.values()
+    return next((b for b in CELLS if index_bytes(lengths, b) <= INDEX_BYTES), CELLS[-1])
+
+
+def index_bytes(lengths, b):
+    """The bytes of an index of lists of these lengths."""
+    blocks = 0
+    for length in lengths:
+        if length > b:
+            data = -(-length // BLOCK)
+            blocks += data if data <= b else data + -(-data // BLOCK)
+    return len(lengths) * (17 + 8 * b) + blocks * 8 * BLOCK
+
+
+def run(script):
+    """The lines that the program prints, and its status."""
+    program = os.environ.get("SSE_LOCAL") or os.path.join(HERE, os.pardir, "bin", "sse_local")
+    try:
+        ended = subprocess.run([program, "run"], input=script, stdout=subprocess.PIPE, check=False)
+    except OSError as error:
+        raise Unreadable(f"{program}: {error.strerror} (`make` builds it)") from error
+    return ended.stdout.decode().splitlines(), ended.returncode if ended.returncode >= 0 else 128 - ended.returncode
+
+
+def main(description, source, read):
+    """An example: `read(source, shelf)` puts the texts of the source on the shelf, then the words are searched.
+
+    It ends with 0; with 1 where a query was no word or the store refused something; with 2 where it was called
+    in another way, or the source can't be read; else with the status of the program (docs/FORMATS.md).
+    """
+    for number in (signal.SIGINT, signal.SIGTERM, signal.SIGHUP):
+        if signal.getsignal(number) != signal.SIG_IGN:
+            # leaves by way of subprocess.run, which ends the program first
+            signal.signal(number, lambda number, _: sys.exit(128 + number))
+    sys.stdout.reconfigure(encoding="utf-8")
+    sys.stderr.reconfigure(encoding="utf-8", errors="backslashreplace")
+    parser = argparse.ArgumentParser(description=description, formatter_class=argparse.RawDescriptionHelpFormatter)
+    parser.add_argument("source", metavar=source)
+    parser.add_argument("words", metavar="WORD", nargs="+")
+    asked = parser.parse_args()
+    shelf = Shelf()
+    try:
+        read(asked.source, shelf)
+        status = shelf.search(asked.words)
+        sys.stdout.flush()
+    except BrokenPipeError:
+        # whoever read the answers has seen enough
+        os.dup2(os.open(os.devnull, os.O_WRONLY), sys.stdout.fileno())
+        status = 128 + signal.SIGPIPE
+    except (Unreadable, OSError) as error:
+        say(error)
+        status = 2
+    sys.exit(status)
