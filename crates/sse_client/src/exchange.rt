@@ -29,6 +29,8 @@ pub(crate) fn exchange<L: Link>(
     ensures store_fault { IfOk result (λ n. take n room.new ≡ reply_bytes StoreFault → Rose (L.faults link.old) (L.faults link.new)) }
     ensures steady { IfOk result (λ n. take n room.new ≢ reply_bytes StoreFault → L.faults link.new ≡ L.faults link.old) }
     ensures cause { IfErr result (PeerCause (L.faults link.old) (L.faults link.new)) }
+    ensures no_label_clash { (first second : ℕ) → result ≢ Err (PeerStop.LabelClash first second) }
+    ensures no_place_clash { (first second : ℕ) → result ≢ Err (PeerStop.PlaceClash first second) }
 {
     link.send(frame)?;
     let size = link.recv(room)?;
@@ -43,6 +45,8 @@ pub(crate) fn greet<L: Link>(alloc: Global, link: &mut L, room: &mut [u8]) -> Re
     ensures began { L.began link.new ≡ L.began link.old }
     ensures steady { OnOk result (L.faults link.new ≡ L.faults link.old) }
     ensures cause { IfErr result (PeerCause (L.faults link.old) (L.faults link.new)) }
+    ensures no_label_clash { (first second : ℕ) → result ≢ Err (PeerStop.LabelClash first second) }
+    ensures no_place_clash { (first second : ℕ) → result ≢ Err (PeerStop.PlaceClash first second) }
 {
     let mut hello = Vec::new(alloc);
     write_frame(&Frame::Hello, &mut hello)?;

@@ -29,6 +29,8 @@ pub(crate) fn catch_up<L: Link>(
     ensures began { L.began link.new ≡ L.began link.old }
     ensures steady { OnOk result (L.faults link.new ≡ L.faults link.old) }
     ensures cause { IfErr result (PeerCause (L.faults link.old) (L.faults link.new)) }
+    ensures no_label_clash { (first second : ℕ) → result ≢ Err (PeerStop.LabelClash first second) }
+    ensures no_place_clash { (first second : ℕ) → result ≢ Err (PeerStop.PlaceClash first second) }
 {
     'frames: loop {
         let size = exchange(link, client.frame(), room)?;
