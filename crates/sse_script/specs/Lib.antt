@@ -1,3 +1,4 @@
+pub mod FaultTexts
 pub mod Fields
 pub mod Lines
 pub mod Numbers

@@ -3,7 +3,7 @@ use Rattle.std.specs.Prelude.{ℕ, List, [], ◌∷◌, ◌++◌, length, take, 
 use Rattle.std.specs.List.{concat}
 use Rattle.hex.specs.Hex.{encode_lower}
 use Rattle.sse_script.specs.declared.refusal.Refusal.{Refusal}
-use Rattle.sse_script.specs.declared.refusal.Refusal.TheVariants.{NotSetUp, SetUpAlready, Zero, TooLong, BadByte, TooManyWords, RepeatedWord, AlreadyLive, UnknownDocument, TooManyDocuments, TooManyPairs, TooManyBytes, BadParameter, ListTooLong, CounterFull, HistoryFull, NotBuilt}
+use Rattle.sse_script.specs.declared.refusal.Refusal.TheVariants.{NotSetUp, SetUpAlready, Zero, TooLong, BadByte, TooManyWords, RepeatedWord, AlreadyLive, UnknownDocument, TooManyDocuments, TooManyPairs, TooManyBytes, BadParameter, ListTooLong, CounterFull, HistoryFull}
 use Rattle.sse_script.specs.Shown.{Cause, BadWords, BadLine, SourceFault, LinkFault, DiskFault, NoMemory, LabelClash, PlaceClash, NumberClash, Clash, PeerElsewhere, BadReply}
 use Rattle.sse_script.specs.Shown.{Shown, SetUp, Added, Deleted, Found, Refused, Stopped}
 
@@ -25,7 +25,6 @@ refusal_text (BadParameter which value) = (if which == 0 then codes "b" else cod
 refusal_text (ListTooLong word n) = codes "list of word " ∷ decimal word ∷ codes " has " ∷ decimal n ∷ codes " identifiers" ∷ []
 refusal_text (CounterFull position) = codes "counter of word " ∷ decimal position ∷ codes " is full" ∷ []
 refusal_text HistoryFull = codes "history is full" ∷ []
-refusal_text NotBuilt = codes "not built yet" ∷ []
 
 -- two of a kind that are equal
 abbrev pub equal_text : List ℕ → ℕ → ℕ → List (List ℕ)

@@ -13,14 +13,6 @@ pub fn one(alloc: Global, front: &str, n: u64, back: &str) -> Result<String, All
     format!(in alloc; "{front}{n}{back}")
 }
 
-/// What is wrong with the word at this position, and a number; the line's end behind it.
-pub fn word(alloc: Global, position: u32, wrong: &str, n: u64) -> Result<String, AllocError>
-    ensures { IfOk result (λ text. string_bytes text
-        ≡ concat (codes "refused: word " ∷ decimal position ∷ wrong.now ∷ decimal n ∷ (10 ∷ []) ∷ [])) }
-{
-    format!(in alloc; "refused: word {position}{wrong}{n}\n")
-}
-
 /// Two things of a kind that are equal, by their numbers; the line's end behind it.
 pub fn equal(alloc: Global, things: &str, first: u32, second: u32) -> Result<String, AllocError>
     ensures { IfOk result (λ text. string_bytes text
@@ -38,6 +30,7 @@ pub fn bad_reply(alloc: Global, reply: &[u8]) -> Result<String, AllocError>
     format!(in alloc; "stopped: reply {digits}\n")
 }
 
+/// The first 16 bytes, or all where there are fewer.
 fn at_most_16(bytes: &[u8]) -> &[u8]
     ensures { result.now ≡ take 16 bytes.now }
 {

@@ -63,6 +63,7 @@ fn by_kind<'a>(kind: &[u8], fields: Fields<'a>) -> Option<Line<'a>>
     }
 }
 
+/// `key`: one field, the master key.
 fn key_line(mut fields: Fields<'_>) -> Option<Line<'_>>
     ensures { option_map line_view result ≡ lines.key_line fields.entry }
 {
@@ -82,6 +83,7 @@ fn numbered(mut fields: Fields<'_>) -> Option<(u64, Fields<'_>)>
     Some((id, fields))
 }
 
+/// `setup`: two numbers.
 fn setup_line(mut fields: Fields<'_>) -> Option<Line<'_>>
     ensures { option_map line_view result ≡ lines.setup_line fields.entry }
 {
@@ -95,6 +97,7 @@ fn setup_line(mut fields: Fields<'_>) -> Option<Line<'_>>
     Some(Line::Setup { b, big })
 }
 
+/// `del`: one number.
 fn delete_line(mut fields: Fields<'_>) -> Option<Line<'_>>
     ensures { option_map line_view result ≡ lines.delete_line fields.entry }
 {
@@ -106,6 +109,7 @@ fn delete_line(mut fields: Fields<'_>) -> Option<Line<'_>>
     Some(Line::Del { id })
 }
 
+/// `find`: one field, the word.
 fn find_line(mut fields: Fields<'_>) -> Option<Line<'_>>
     ensures { option_map line_view result ≡ lines.find_line fields.entry }
 {

@@ -1,4 +1,8 @@
-/// Why a command is refused. Positions of words and numbers of words count from 0.
+use std::error::Error;
+use std::fmt;
+
+/// Why a command is refused; its text is what the printed line has behind `refused: `. Positions of words and numbers
+/// of words count from 0.
 #[derive(Clone, Copy, Debug)]
 pub enum Refusal {
     /// There is no setup yet.
@@ -33,6 +37,41 @@ pub enum Refusal {
     CounterFull { position: u32 },
     /// There were as many updates as can be numbered.
     HistoryFull,
-    /// The command needs what isn't built yet.
-    NotBuilt,
 }
+
+impl fmt::Display for Refusal {
+    ghost use Rattle.std.specs.Prelude.{Some};
+    ghost use Rattle.std.specs.List.{concat};
+    ghost use Rattle.sse_script.specs.Texts.{refusal_text};
+
+    ghost output = { λ refusal. Some (concat (refusal_text refusal)) };
+
+    fn fmt<W: fmt::Write>(&self, f: &mut fmt::Formatter<W>) -> fmt::Result {
+        match self {
+            Refusal::NotSetUp => f.write_str("not set up"),
+            Refusal::SetUpAlready => f.write_str("set up already"),
+            Refusal::Zero => f.write_str("identifier zero"),
+            Refusal::TooLong { position, n } => write!(f, "word {position} is too long: {n}"),
+            Refusal::BadByte { position, place } => {
+                write!(f, "word {position} has a bad byte at {place}")
+            }
+            Refusal::TooManyWords { n } => write!(f, "too many words: {n}"),
+            Refusal::RepeatedWord { position } => write!(f, "word {position} is repeated"),
+            Refusal::AlreadyLive { id } => write!(f, "document {id} is live"),
+            Refusal::UnknownDocument { id } => write!(f, "unknown document {id}"),
+            Refusal::TooManyDocuments { n } => write!(f, "too many documents: {n}"),
+            Refusal::TooManyPairs { n } => write!(f, "too many pairs: {n}"),
+            Refusal::TooManyBytes { n } => write!(f, "too many bytes: {n}"),
+            Refusal::BadParameter { which: 0, value } => write!(f, "b is {value}"),
+            Refusal::BadParameter { value, .. } => write!(f, "B is {value}"),
+            Refusal::ListTooLong { word, n } => write!(
+                f,
+                "list of word {word} has {n} identifiers"
+            ),
+            Refusal::CounterFull { position } => write!(f, "counter of word {position} is full"),
+            Refusal::HistoryFull => f.write_str("history is full"),
+        }
+    }
+}
+
+impl Error for Refusal {}

@@ -119,7 +119,7 @@ fn a_line_has_at_most_2_to_19_bytes(rt: HostRuntime) -> Result<(), Fail> {
 }
 
 /// Lines to be printed, and their texts, which are those of an independent program.
-const PRINTED: [(Shown<'static>, &str); 36] = [
+const PRINTED: [(Shown<'static>, &str); 35] = [
     (
         Shown::SetUp {
             words: 2,
@@ -201,10 +201,6 @@ const PRINTED: [(Shown<'static>, &str); 36] = [
     (
         Shown::Refused(Refusal::HistoryFull),
         "refused: history is full\n",
-    ),
-    (
-        Shown::Refused(Refusal::NotBuilt),
-        "refused: not built yet\n",
     ),
     (Shown::Stopped(Cause::BadWords), "stopped: words\n"),
     (
