@@ -38,7 +38,7 @@ pub fn write_numbers(numbers: &[u64], out: &mut [u8])
     requires { 8 * length numbers.now ≤ length out.old }
     ensures { out.new ≡ number_bytes numbers.now ++ replicate (length out.old - 8 * length numbers.now) 0 }
 {
-    'numbers: for (i, number) in numbers.iter().enumerate() {
+    for (i, number) in numbers.iter().enumerate() {
         out[8 * i..8 * i + 8].copy_from_slice(&number.to_be_bytes());
     }
     out[8 * numbers.len()..].fill(0);

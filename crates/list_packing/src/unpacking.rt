@@ -18,7 +18,7 @@ pub fn unpack(block: &[u8]) -> Result<usize, HoleInBlock>
     ensures none { OnErr result (leading.leading (numbers_of block.now) ≡ None) }
 {
     let count = count_leading(block);
-    'places: for place in count..block.len() / 8 {
+    for place in count..block.len() / 8 {
         if number_at(block, place) != 0 {
             return Err(HoleInBlock(place as u64));
         }
@@ -32,7 +32,7 @@ fn count_leading(numbers: &[u8]) -> usize
     ensures { result ≡ leading.leading_count (numbers_of numbers.now) }
 {
     let all = numbers.len() / 8;
-    'places: for place in 0..all {
+    for place in 0..all {
         if number_at(numbers, place) == 0 {
             return place;
         }

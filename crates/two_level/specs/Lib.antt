@@ -4,3 +4,4 @@ pub mod Planned
 pub mod Laid
 pub mod Opened
 pub mod Read
+pub mod Texts

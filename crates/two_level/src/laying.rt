@@ -69,7 +69,7 @@ fn write_pointers(ranks: &[u32], out: &mut [u8])
     requires { 8 * length ranks.now ≤ length out.old }
     ensures { out.new ≡ number_bytes (pointers ranks.now) ++ replicate (length out.old - 8 * length ranks.now) 0 }
 {
-    'ranks: for (i, rank) in ranks.iter().enumerate() {
+    for (i, rank) in ranks.iter().enumerate() {
         let pointer = u64::from(*rank) + 1;
         out[8 * i..8 * i + 8].copy_from_slice(&pointer.to_be_bytes());
     }

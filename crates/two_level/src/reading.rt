@@ -68,7 +68,7 @@ fn first_bad_pointer(pointers: &[u8], blocks: u32) -> Option<u64>
     requires { length pointers.now % 8 ≡ 0 }
     ensures { result ≡ bad_pointer blocks (numbers_of pointers.now) }
 {
-    'places: for place in 0..pointers.len() / 8 {
+    for place in 0..pointers.len() / 8 {
         if list_packing::number_at(pointers, place) > u64::from(blocks) {
             return Some(place as u64);
         }

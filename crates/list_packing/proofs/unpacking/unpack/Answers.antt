@@ -16,26 +16,26 @@ use Rattle.list_packing.proofs.unpacking.unpack.Goals as goal
 abbrev answer : Option ℕ → ℕ → Result ℕ HoleInBlock
 answer hole count = option_map_or (λ place. Err (record { 0 = place })) hole (Ok count)
 
-pub places-init : goal.places-init
-places-init c = let ns = numbers_of c.args.block.now in first_hole-behind ns ∙ ap (λ k. position_from is_number k (drop k ns)) (sym c.count_leading-count.ensures)
+pub loop-place-init : goal.loop-place-init
+loop-place-init c = let ns = numbers_of c.args.block.now in first_hole-behind ns ∙ ap (λ k. position_from is_number k (drop k ns)) (sym c.count_leading-count.ensures)
 
-pub places-preserved : goal.places-preserved
-places-preserved c =
+pub loop-place-preserved : goal.loop-place-preserved
+loop-place-preserved c =
     let ns = numbers_of c.args.block.now in
-    let i = c.places.place in
+    let i = c.loop-place.place in
     let within : i < length ns = omega (arith, length-numbers_of c.args.block.now c.requires) in
     let test : is_number (get_or ns i 0) ≡ false = ap not (eq-eqb (get_or ns i 0) 0 (sym c.number_at.ensures ∙ c.if-number_at-ne0.false)) in
-    c.places.invariant ∙ at_drop_more (position_from is_number i) ns i 0 within
+    c.loop-place.invariant ∙ at_drop_more (position_from is_number i) ns i 0 within
     ∙ ap (λ b. cond b (Some i) (position_from is_number (i + 1) (drop (i + 1) ns))) test
 
 pub returns-then-number_at-ne0 : goal.returns-then-number_at-ne0
 returns-then-number_at-ne0 c =
     let ns = numbers_of c.args.block.now in
-    let i = c.places.place in
+    let i = c.loop-place.place in
     let within : i < length ns = omega (arith, length-numbers_of c.args.block.now c.requires) in
     let test : is_number (get_or ns i 0) ≡ true = ap not (ne_eqb (get_or ns i 0) 0 (λ e. c.if-number_at-ne0.true (c.number_at.ensures ∙ e))) in
     let hole : first_hole ns ≡ Some i =
-    c.places.invariant ∙ at_drop_more (position_from is_number i) ns i 0 within
+    c.loop-place.invariant ∙ at_drop_more (position_from is_number i) ns i 0 within
     ∙ ap (λ b. cond b (Some i) (position_from is_number (i + 1) (drop (i + 1) ns))) test in
     record {
       exact = sym (ap (λ o. answer o (leading_count ns)) hole);
@@ -47,10 +47,10 @@ returns-then-number_at-ne0 c =
 pub returns : goal.returns
 returns c =
     let ns = numbers_of c.args.block.now in
-    let i = c.places.place in
+    let i = c.loop-place.place in
     let count = c.count_leading-count.result in
     let none : first_hole ns ≡ None =
-    c.places.invariant ∙ ap (position_from is_number i) (drop_all i ns (omega (arith, length-numbers_of c.args.block.now c.requires, c.places-test.false))) in
+    c.loop-place.invariant ∙ ap (position_from is_number i) (drop_all i ns (omega (arith, length-numbers_of c.args.block.now c.requires, c.loop-place-test.false))) in
     record {
       exact =
           ap (λ n. answer None n) c.count_leading-count.ensures

@@ -6,5 +6,5 @@ use Rattle.list_packing.proofs.LeadingLemmas.{is_number}
 use Rattle.list_packing.proofs.unpacking.unpack.Given as goal
 
 -- the first hole is the first one from here on
-abbrev pub invariant-places : goal.invariant-places
-invariant-places l = first_hole (numbers_of l.block) ≡ position_from is_number l.place (drop l.place (numbers_of l.block))
+abbrev pub invariant-loop-place : goal.invariant-loop-place
+invariant-loop-place l = first_hole (numbers_of l.block) ≡ position_from is_number l.place (drop l.place (numbers_of l.block))

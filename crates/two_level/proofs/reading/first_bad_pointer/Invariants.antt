@@ -6,5 +6,5 @@ use Rattle.two_level.specs.Read.{bad_pointer}
 use Rattle.two_level.proofs.reading.first_bad_pointer.Given as goal
 
 -- the first bad pointer is the first one from here on
-abbrev pub invariant-places : goal.invariant-places
-invariant-places l = bad_pointer l.blocks (numbers_of l.pointers) ≡ position_from (λ pointer. nat_lt l.blocks pointer) l.place (drop l.place (numbers_of l.pointers))
+abbrev pub invariant-loop-place : goal.invariant-loop-place
+invariant-loop-place l = bad_pointer l.blocks (numbers_of l.pointers) ≡ position_from (λ pointer. nat_lt l.blocks pointer) l.place (drop l.place (numbers_of l.pointers))
