@@ -1,12 +1,12 @@
-use crate::{pad_into, xor_in_place};
+use crate::{pad_into, xor};
 
-// The key of RFC 8439, 2.3.2 and 2.4.2.
+/// The key of RFC 8439, 2.3.2 and 2.4.2.
 const COUNTED_KEY: [u8; 32] = [
     0, 1, 2, 3, 4, 5, 6, 7, 8, 9, 10, 11, 12, 13, 14, 15, 16, 17, 18, 19, 20, 21, 22, 23, 24, 25,
     26, 27, 28, 29, 30, 31,
 ];
 
-// The number whose eight bytes, low byte first, are 00 00 00 4a 00 00 00 00, as in 2.4.2.
+/// The number whose eight bytes, low byte first, are 00 00 00 4a 00 00 00 00, as in 2.4.2.
 const COUNTED_PAD: u64 = 1241513984;
 
 const PLAINTEXT: &[u8] =
@@ -23,6 +23,7 @@ const CIPHERTEXT: [u8; 114] = [
     0x87, 0x4d,
 ];
 
+/// The first block of A.1, and the beginning of block 1 of 2.4.2.
 #[test]
 fn key_stream_rfc8439(rt: HostRuntime) {
     let rows: [([u8; 32], u64, usize, [u8; 16]); 2] = [
@@ -55,13 +56,15 @@ fn key_stream_rfc8439(rt: HostRuntime) {
     }
 }
 
-// 2.4.2 whole, its counter beginning at 1: the text stands behind a block of zeros.
+/// 2.4.2 whole, its counter beginning at 1: the first block of the pad is left out. Encrypted, and decrypted again.
 #[test]
 fn encryption_rfc8439_2_4_2(rt: HostRuntime) {
-    let mut bytes = [0; 178];
-    bytes[64..].copy_from_slice(PLAINTEXT);
-    xor_in_place(&mut bytes, &COUNTED_KEY, COUNTED_PAD);
-    assert_eq!(rt; &bytes[64..], CIPHERTEXT.as_slice());
-    xor_in_place(&mut bytes, &COUNTED_KEY, COUNTED_PAD);
-    assert_eq!(rt; &bytes[64..], PLAINTEXT);
+    let mut pad = [0; 178];
+    pad_into(&COUNTED_KEY, COUNTED_PAD, &mut pad);
+    let mut bytes = [0; 114];
+    bytes.copy_from_slice(PLAINTEXT);
+    xor(&mut bytes, &pad[64..]);
+    assert_eq!(rt; bytes.as_slice(), CIPHERTEXT.as_slice());
+    xor(&mut bytes, &pad[64..]);
+    assert_eq!(rt; bytes.as_slice(), PLAINTEXT);
 }

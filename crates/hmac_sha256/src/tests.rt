@@ -119,6 +119,7 @@ fn in_pieces(key: &[u8], text: &[u8], first: usize) -> Option<[u8; 32]> {
     Some(state.finish())
 }
 
+/// The test cases of RFC 4231: in one call, in two pieces, and twice under a prepared key.
 #[test]
 fn hmac_sha256_rfc_4231(rt: HostRuntime) {
     for case in RFC_4231 {
@@ -130,6 +131,7 @@ fn hmac_sha256_rfc_4231(rt: HostRuntime) {
     }
 }
 
+/// Keys and texts of lengths about the size of a block, each in the same three ways.
 #[test]
 fn codes_of_python(rt: HostRuntime) {
     for (key, text, code) in BY_LENGTH {

@@ -90,6 +90,7 @@ fn part_key(part: u8) -> [u8; 32] {
     PreparedKey::new(&Real, MASTER).prf(&Real, &input)
 }
 
+/// The function of the store, under a bare key and under a prepared one.
 #[test]
 fn codes_of_real(rt: HostRuntime) {
     for (part, number, code) in CODES {
@@ -102,6 +103,7 @@ fn codes_of_real(rt: HostRuntime) {
     }
 }
 
+/// The toy function, under a bare key and under a prepared one.
 #[test]
 fn codes_of_toy(rt: HostRuntime) {
     for (part, number, code) in TOY_CODES {
@@ -111,6 +113,7 @@ fn codes_of_toy(rt: HostRuntime) {
     }
 }
 
+/// The fronts of four pads of the store.
 #[test]
 fn pads_of_real(rt: HostRuntime) {
     for (part, number, front) in PADS {

@@ -22,6 +22,7 @@ const OPENED: [&[u8; 8]; 3] = [
     b"\xbb\x68\x31\x44\x09\xfa\x27\xf3",
 ];
 
+/// Each call of a token once, and its bytes read and written.
 #[test]
 fn calls_of_a_token(rt: HostRuntime) {
     let token = Token::from_bytes(TOKEN);

@@ -3,3 +3,4 @@ pub mod MemSink
 pub mod MemSource
 pub mod StdSink
 pub mod Told
+pub mod Texts

@@ -12,6 +12,7 @@ pub struct FailingCalls {
 }
 
 impl FailingCalls {
+    /// No call was made yet, and those of the numbers in `listed` will fail.
     pub fn new(listed: Vec<u64>) -> FailingCalls
         ensures listed { result.listed ≡ listed }
         ensures first { result.call ≡ 0 }

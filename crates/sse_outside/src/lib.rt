@@ -30,7 +30,6 @@ pub use mem_source::MemSource;
 pub use printing::print_all;
 pub use sink::Sink;
 pub use source::Source;
-pub use std::alloc::AllocError as NoMemory;
 pub use std_sink::StdSink;
 pub use std_source::StdSource;
 pub use steady_disk::SteadyDisk;

@@ -76,6 +76,7 @@ mod tests {
     use crate::print_all;
     use std::test::Fail;
 
+    /// The second of three writes fails, and what it was to write is not there.
     #[test]
     fn listed_writes_fail_and_take_nothing(rt: HostRuntime) -> Result<(), Fail> {
         let mut sink = MemSink::new(rt.alloc(), vec![in rt.alloc(); 1]?);

@@ -109,6 +109,7 @@ mod tests {
         }
     }
 
+    /// Four writes over a writer that takes a byte, is interrupted twice, takes a byte, fails, and then takes nothing.
     #[test]
     fn an_interrupted_write_goes_on_and_other_errors_and_a_full_device_are_faults(rt: HostRuntime) {
         let mut sink = StdSink::new(Scripted(&[
@@ -130,6 +131,7 @@ mod tests {
         }
     }
 
+    /// A vector as a writer: the bytes of two writes, in their order.
     #[test]
     fn a_vector_tells_what_was_written(rt: HostRuntime) -> Result<(), Fail> {
         let mut sink = StdSink::new(Vec::new(rt.alloc()));

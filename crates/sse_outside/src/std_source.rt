@@ -117,6 +117,7 @@ mod tests {
         }
     }
 
+    /// Four reads over a reader that gives a byte, fails, is interrupted twice, gives a byte, and ends.
     #[test]
     fn an_interrupted_read_goes_on_and_other_errors_are_faults(rt: HostRuntime) {
         let mut source = StdSource::new(Scripted(&[
@@ -141,6 +142,7 @@ mod tests {
         assert_eq!(rt; source.handed_out, 2);
     }
 
+    /// Three bytes short of the limit of bytes, three are read, and then a read fails.
     #[test]
     fn no_byte_is_read_behind_the_limit(rt: HostRuntime) {
         let mut source = StdSource::new(b"abcd".as_slice());

@@ -44,6 +44,7 @@ impl Disk for SteadyDisk {
 mod tests {
     use super::*;
 
+    /// An empty disk has no byte at its front and none far behind it.
     #[test]
     fn a_new_disk_is_empty(rt: HostRuntime) {
         let mut disk = SteadyDisk::new(rt.alloc());

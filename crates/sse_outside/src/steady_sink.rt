@@ -54,6 +54,7 @@ mod tests {
         sink.write(&room[..count]).ok()
     }
 
+    /// Five bytes passed on in reads of at most three.
     #[test]
     fn what_is_read_is_written(rt: HostRuntime) -> Result<(), Fail> {
         let mut source = SteadySource::new(b"abcde".to_vec(rt.alloc())?);
