@@ -11,7 +11,7 @@ use Rattle.sse_frames.specs.Replies.{Next, Took, Number, Clash, Page, OutOfPlace
 use Rattle.search_token.specs.TokenKeys.{keys_of_bytes}
 use Rattle.server_core.specs.declared.stage.Stage.TheVariants.{Filling, Ready}
 use Rattle.server_core.specs.State.{ServerState, at_first}
-use Rattle.server_core.specs.Search.{block_at, listed, found}
+use Rattle.server_core.specs.Search.{listed, found}
 use Rattle.server_core.specs.Refusal.{clash}
 use Rattle.server_core.specs.Step.{step, taken}
 

@@ -13,7 +13,7 @@ use Rattle.two_level.specs.Plan.{CellKind, Identifiers, DataPointers, BlockPoint
 use Rattle.two_level.specs.Opened.{numbers_of, leading, kind_of, joined, followed, opened, listed}
 use Rattle.server_core.specs.Search.{block_at, setup_ids, added_at, added_from, shown, found}
 use Rattle.server_core.specs.State.{ServerState}
-use Rattle.server_core.specs.Way.{Place, InCell, InBlock, InAddition, in_blocks, opened_way, listed_way, setup_way, added_way, way, added_id, ids_at, ids_along}
+use Rattle.server_core.specs.Way.{Place, InCell, InAddition, in_blocks, opened_way, listed_way, setup_way, added_way, way, added_id, ids_at, ids_along}
 use Rattle.server_core.proofs.SearchLemmas.{joined-assoc, joined-nothing, joined-end}
 
 module _ (f : KeyedFn) (s : ServerState) (keys : TokenKeys) where

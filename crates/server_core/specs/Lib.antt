@@ -5,3 +5,4 @@ pub mod State
 pub mod Step
 pub mod Views
 pub mod Way
+pub mod Texts

@@ -122,7 +122,7 @@ fn push_added<K: Keyed, T: Tables>(
 {
     let labels = token.plus_labels(keyed);
     let stored = tables.plus_len() as u64;
-    'counters: for c in 0..stored {
+    for c in 0..stored {
         let Some(mut sealed) = tables.plus(&labels.label(keyed, c)) else {
             return Ok(());
         };
@@ -146,7 +146,7 @@ fn keep_shown<K: Keyed, T: Tables>(tables: &T, keyed: &K, token: &Token, ids: &m
     }
     let numbers = token.revocations(keyed);
     let mut kept = 0;
-    'ids: for at in 0..ids.len() {
+    for at in 0..ids.len() {
         let id = ids[at];
         if !tables.is_revoked(&numbers.number(keyed, id)) {
             ids[kept] = id;

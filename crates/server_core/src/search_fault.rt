@@ -2,6 +2,8 @@ ghost use Rattle.std.specs.Prelude.{◌≡◌};
 ghost use Rattle.server_core.specs.declared.search_fault.SearchFault.TheVariants.{NoMemory};
 
 use std::alloc::{AllocError, AllocFailed};
+use std::error::Error;
+use std::fmt;
 
 /// Why a search gives no list.
 #[derive(Clone, Copy, Debug, PartialEq, Eq)]
@@ -14,6 +16,23 @@ pub enum SearchFault {
     /// Out of memory.
     NoMemory,
 }
+
+impl fmt::Display for SearchFault {
+    ghost use Rattle.std.specs.Prelude.{Some};
+    ghost use Rattle.server_core.specs.Texts.{search_fault_text};
+
+    ghost output = { λ fault. Some (search_fault_text fault) };
+
+    fn fmt<W: fmt::Write>(&self, f: &mut fmt::Formatter<W>) -> fmt::Result {
+        match self {
+            SearchFault::OutOfPlace => f.write_str("the setup is not whole"),
+            SearchFault::BadList => f.write_str("what the token finds is no list"),
+            SearchFault::NoMemory => f.write_str("out of memory"),
+        }
+    }
+}
+
+impl Error for SearchFault {}
 
 impl From<AllocError> for SearchFault {
     ghost from_gives = { λ _ e. e ≡ NoMemory };

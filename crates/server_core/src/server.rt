@@ -205,6 +205,7 @@ impl<T: Tables> Server<T> {
         }
     }
 
+    /// The answer to an update frame: the refusal, or that it was taken.
     fn answer_update(&mut self, frame: &Frame<'_>) -> Answer
         requires update { IsSome (update_number (seen frame.now)) }
         requires grammar { InGrammar (seen frame.now) }
@@ -225,6 +226,7 @@ impl<T: Tables> Server<T> {
         }
     }
 
+    /// The answer to a search with the 160 bytes of a token; `out` has what it found.
     fn answer_search<K: Keyed>(&self, keyed: &K, token: &[u8], out: &mut Vec<u64>) -> Answer
         requires { length token.now ≡ 160 }
         ensures ready { is_ready self.now.state.stage ≡ true → result ≢ Answer.NoMemory → answer_replies result out.new.items ≡ answers (keyed_fn K.prf K.pad) self.now.state (SearchFrame token.now) }
@@ -243,7 +245,7 @@ impl<T: Tables> Server<T> {
         }
     }
 
-    // The first cause that stands, other than want of memory.
+    /// The first cause that stands, other than out of memory.
     fn refusal(&self, frame: &Frame<'_>) -> Option<Refuse>
         requires { InGrammar (seen frame.now) }
         ensures cause { option_map refuse_reply result ≡ refusal self.now.state (seen frame.now) }
@@ -260,7 +262,7 @@ impl<T: Tables> Server<T> {
         self.clash(frame)
     }
 
-    // Whether the frame is one for this stage.
+    /// Whether the frame is one for this stage.
     fn is_in_place(&self, frame: &Frame<'_>) -> bool
         requires { InGrammar (seen frame.now) }
         ensures { result ≡ in_place self.now.state (seen frame.now) }
@@ -278,7 +280,7 @@ impl<T: Tables> Server<T> {
         }
     }
 
-    // Whether the entries are cells of this setup, and no more than it still lacks.
+    /// Whether the entries are cells of this setup, and no more than it still lacks.
     fn has_place(&self, width: u16, entries: &[u8]) -> bool
         ensures { result ≡ ((width == 1 + 8 * self.now.state.shape.b) && is_nil self.now.state.array && nat_le (map.len self.now.state.dictionary + length (entries_in width entries.now)) self.now.state.words) }
     {
@@ -293,7 +295,7 @@ impl<T: Tables> Server<T> {
         entry_count(entries, width) <= words - held
     }
 
-    // Whether the blocks are blocks of this setup, which has all its entries, and no more than it still lacks.
+    /// Whether the blocks are blocks of this setup, which has all its entries, and no more than it still lacks.
     fn has_place_behind(&self, width: u16, blocks: &[u8]) -> bool
         requires { 0 < width }
         ensures { result ≡ ((width == 8 * self.now.state.shape.big) && (map.len self.now.state.dictionary == self.now.state.words) && nat_le (length self.now.state.array + length (items_in width blocks.now)) self.now.state.blocks) }
@@ -309,7 +311,7 @@ impl<T: Tables> Server<T> {
         item_count(blocks, width) <= most - held
     }
 
-    // Whether the setup has all its entries and blocks.
+    /// Whether the setup has all its entries and blocks.
     fn is_whole(&self) -> bool
         ensures { result ≡ ((map.len self.now.state.dictionary == self.now.state.words) && (length self.now.state.array == self.now.state.blocks)) }
     {
@@ -317,7 +319,7 @@ impl<T: Tables> Server<T> {
             && self.tables.block_len() == self.blocks as usize
     }
 
-    // The first collision of a frame that is in place with what the server holds.
+    /// The first collision of a frame that is in place with what the server holds.
     fn clash(&self, frame: &Frame<'_>) -> Option<Refuse>
         requires grammar { InGrammar (seen frame.now) }
         requires placed { in_place self.now.state (seen frame.now) ≡ true }
@@ -345,7 +347,7 @@ impl<T: Tables> Server<T> {
         }
     }
 
-    // Takes the memory that `apply` needs for a frame.
+    /// Takes the memory that `apply` needs for a frame.
     fn make_room(&mut self, frame: &Frame<'_>) -> Result<(), AllocError>
         requires { InGrammar (seen frame.now) }
         ensures kept { self.new.state ≡ self.old.state }
@@ -374,8 +376,8 @@ impl<T: Tables> Server<T> {
     }
 }
 
-// The collision at this place of a frame's list, where there is one: of labels of lists (1), of labels of additions (2),
-// or of revocation numbers (3).
+/// The collision at this place of a frame's list, where there is one: of labels of lists (1), of labels of additions (2),
+/// or of revocation numbers (3).
 fn clash_at(what: u8, place: Option<usize>) -> Option<Refuse>
     requires { IfSome place (λ at. at < 2 ^ 32) }
     ensures cause { option_map refuse_reply result ≡ clash_at what place }

@@ -86,6 +86,7 @@ const NOTHING: &[u8] =
 const TO_ITSELF: &[u8] =
     b"\x00\x00\x00\x22\x03\x00\x00\x00\x01\x00\x09\x00\x01\xc3\xc5\xc7\xc9\xcb\xcd\xcf\xd1\xd3\xd5\xd7\xd9\xdb\xdd\xdf\xe1\xc6\xc5\xc6\xc7\xc8\xc9\xca\xcb\xcd";
 
+/// A setup of this dictionary frame, and a search that gets this answer.
 fn setup(dict: &'static [u8], answer: Answer) -> [(&'static [u8], Answer); 4] {
     [
         (BEGIN, Answer::Took(0)),
@@ -103,7 +104,7 @@ const SELF: [(&[u8], Answer); 5] = [
     (SEARCH, Answer::Found),
 ];
 
-// Whether a new server gives these answers to frames in a row, and has found these at the end.
+/// Whether a new server gives these answers to frames in a row, and has found these at the end.
 fn answers(rt: &impl Abort, alloc: Global, frames: &[(&[u8], Answer)], wanted: &[u64]) {
     let mut server = Server::new(SortedTables::new(alloc));
     let mut found = Vec::new(alloc);
@@ -116,11 +117,13 @@ fn answers(rt: &impl Abort, alloc: Global, frames: &[(&[u8], Answer)], wanted: &
     assert_eq!(rt; found.as_slice(), wanted);
 }
 
+/// A setup, a search, an addition and a deletion, and what is refused between them.
 #[test]
 fn a_whole_connection_is_answered(rt: HostRuntime) {
     answers(&rt, rt.alloc(), &WHOLE, &[1]);
 }
 
+/// Cells of an unknown kind, of a block that is not there, of nothing, and of a block that points to itself.
 #[test]
 fn cells_that_nobody_made_are_answered(rt: HostRuntime) {
     answers(&rt, rt.alloc(), &setup(UNKNOWN, Answer::BadList), &[]);

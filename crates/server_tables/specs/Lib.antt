@@ -6,3 +6,4 @@ pub mod Places
 pub mod Room
 pub mod Slots
 pub mod TablesView
+pub mod Texts

@@ -6,11 +6,12 @@ const A: [u8; 16] = [1; 16];
 
 const B: [u8; 16] = [2; 16];
 
+/// Whether something was found, and is these bytes.
 fn is_piece(found: Option<&[u8]>, wanted: &[u8]) -> bool {
     found.is_some_and(|piece| piece == wanted)
 }
 
-// Each call through the bound: what was put in is there, each refusal comes, and nothing is left behind `clear`.
+/// Each call through the bound: what was put in is there, each refusal comes, and nothing is left behind `clear`.
 fn keeps_what_it_is_given<T: Tables>(rt: &impl Abort, tables: &mut T) -> Result<(), Fail> {
     tables.reserve(2, 3, 1, 4, 1, 1)?;
 
@@ -52,8 +53,8 @@ fn keeps_what_it_is_given<T: Tables>(rt: &impl Abort, tables: &mut T) -> Result<
     Ok(())
 }
 
-// 200 labels whose first four bytes are the same, put in by no order, are each found; a size that no memory has is
-// refused.
+/// 200 labels whose first four bytes are the same, put in by no order, are each found; a size that no memory has is
+/// refused.
 fn finds_labels_that_begin_alike<T: Tables>(rt: &impl Abort, tables: &mut T) -> Result<(), Fail> {
     assert!(rt; tables.reserve(usize::MAX, usize::MAX, 0, 0, 0, 0).is_err());
     for n in 0..200u8 {
@@ -101,6 +102,7 @@ fn finds_labels_that_begin_alike<T: Tables>(rt: &impl Abort, tables: &mut T) -> 
     Ok(())
 }
 
+/// Tables whose labels stand in sorted vectors.
 #[test]
 fn sorted_tables_are_tables(rt: HostRuntime) -> Result<(), Fail> {
     let mut tables = SortedTables::new(rt.alloc());
@@ -108,6 +110,7 @@ fn sorted_tables_are_tables(rt: HostRuntime) -> Result<(), Fail> {
     finds_labels_that_begin_alike(&rt, &mut tables)
 }
 
+/// Tables whose labels stand in hash tables.
 #[test]
 fn bucket_tables_are_tables(rt: HostRuntime) -> Result<(), Fail> {
     let mut tables = BucketTables::new(rt.alloc());

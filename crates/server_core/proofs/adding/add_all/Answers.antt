@@ -1,4 +1,4 @@
-use Rattle.std.proofs.Common.{◌≡◌, List, ◌∷◌, length, None, sym, ap, subst, ◌∙◌, arith}
+use Rattle.std.proofs.Common.{◌≡◌, List, ◌∷◌, length, None, sym, ap, subst, ◌∙◌}
 use Rattle.sse_frames.specs.Frames.{Entry, Rises, labels_of}
 use Rattle.sse_frames.specs.Seen.{entries_in}
 use Rattle.server_tables.specs.Contents.{Contents}

@@ -1,4 +1,4 @@
-use Rattle.std.proofs.Common.{◌+◌, ap, length, arith}
+use Rattle.std.proofs.Common.{ap, length, arith}
 use Rattle.std.proofs.Math.Nat.{div-le_self}
 use Rattle.server_core.proofs.EntryLemmas.{length-entries_in}
 use Rattle.server_core.proofs.adding.first_added.Goals as goal

@@ -1,9 +1,8 @@
-use Rattle.std.proofs.Common.{◌≡◌, ℕ, ◌+◌, ◌*◌, ◌/◌, ◌%◌, ◌≤◌, length, take, Some, None, sym, ap, ◌∙◌, arith}
-use Rattle.std.specs.Prelude.{option_and_then}
+use Rattle.std.proofs.Common.{◌≡◌, ◌+◌, ◌*◌, ◌%◌, length, take, Some, sym, ap, ◌∙◌, arith}
 use Rattle.std.proofs.lemmas.List.{length-take-le}
 use Rattle.keyed_fn.specs.KeyedFn.{keyed_fn}
 use Rattle.list_packing.proofs.NumbersLemmas.{length-numbers_of}
-use Rattle.two_level.specs.Opened.{numbers_of, leading, joined, followed}
+use Rattle.two_level.specs.Opened.{numbers_of, joined, followed}
 use Rattle.server_core.specs.Search.{block_at}
 use Rattle.server_core.proofs.SearchLemmas.{lower, lower-more, lower-none, joined-none}
 use Rattle.server_core.proofs.blocks.follow_twice.Goals as goal

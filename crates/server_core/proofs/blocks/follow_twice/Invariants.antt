@@ -1,4 +1,4 @@
-use Rattle.std.proofs.Common.{◌≡◌, ◌+◌, ◌*◌, ◌%◌, ◌^◌, ◌≤◌, length, Some}
+use Rattle.std.proofs.Common.{◌≡◌, ◌+◌, ◌*◌, ◌%◌, ◌≤◌, length, Some}
 use Rattle.keyed_fn.specs.KeyedFn.{keyed_fn}
 use Rattle.two_level.specs.Opened.{numbers_of, joined, followed}
 use Rattle.server_core.specs.Search.{block_at}

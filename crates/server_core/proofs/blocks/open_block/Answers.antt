@@ -1,4 +1,4 @@
-use Rattle.std.proofs.Common.{◌≡◌, ◌+◌, ◌*◌, ◌-◌, ◌%◌, ◌≤◌, List, length, take, suc, Some, None, refl, sym, ap, ◌∙◌, arith}
+use Rattle.std.proofs.Common.{◌≡◌, ◌*◌, ◌-◌, ◌%◌, length, take, Some, refl, sym, ap, ◌∙◌, arith}
 use Rattle.std.specs.Prelude.{option_and_then}
 use Rattle.std.proofs.lemmas.List.{take-append-le}
 use Rattle.keyed_fn.specs.KeyedFn.{keyed_fn}
@@ -7,10 +7,9 @@ use Rattle.keyed_fn.specs.Xored.{xored}
 use Rattle.std.proofs.lemmas.List.FromFn.{length-map-range_with_len}
 use Rattle.list_packing.proofs.NumbersLemmas.{numbers_of-take}
 use Rattle.two_level.specs.Opened.{numbers_of, leading}
-use Rattle.server_core.specs.Holds.{IsBlock}
 use Rattle.server_core.specs.Search.{block_at}
 use Rattle.server_core.proofs.CellLemmas.{IsBlock-at}
-use Rattle.server_core.proofs.SearchLemmas.{block_at-there, block_at-missing, block_past}
+use Rattle.server_core.proofs.SearchLemmas.{block_at-there}
 use Rattle.server_core.proofs.blocks.open_block.Goals as goal
 
 pub returns-then-pointer-eq0-clause-bad_list : goal.returns-then-pointer-eq0-clause-bad_list

@@ -1,4 +1,4 @@
-use Rattle.std.proofs.Common.{length, take, drop, ◌∷◌, ap, sym, ◌∙◌, arith}
+use Rattle.std.proofs.Common.{◌∷◌, sym, ◌∙◌, arith}
 use Rattle.sse_frames.specs.Seen.{items_in}
 use Rattle.server_core.proofs.EntryLemmas.{items_in-few, items_in-more}
 use Rattle.server_core.proofs.entries.next_block.Goals as goal

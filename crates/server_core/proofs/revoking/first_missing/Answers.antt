@@ -1,4 +1,4 @@
-use Rattle.std.proofs.Common.{◌+◌, ap, length, arith}
+use Rattle.std.proofs.Common.{ap, length, arith}
 use Rattle.std.proofs.Math.Nat.{div-le_self}
 use Rattle.server_core.proofs.EntryLemmas.{length-items_in}
 use Rattle.server_core.proofs.revoking.first_missing.Goals as goal

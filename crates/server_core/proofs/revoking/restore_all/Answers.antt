@@ -1,4 +1,4 @@
-use Rattle.std.proofs.Common.{◌≡◌, List, ◌∷◌, not, length, None, ℕ, sym, ap, subst, ◌∙◌, arith}
+use Rattle.std.proofs.Common.{◌≡◌, List, ◌∷◌, not, None, ℕ, sym, ap, subst, ◌∙◌}
 use Rattle.std.specs.FinSet as set
 use Rattle.std.specs.List.{position_from}
 use Rattle.sse_frames.specs.Frames.{Rises}

@@ -1,10 +1,10 @@
-use Rattle.std.proofs.Common.{◌≡◌, ℕ, ◌*◌, ◌-◌, ◌++◌, List, [], Option, length, take, drop, Some, None, sym, ap, ◌∙◌, arith}
+use Rattle.std.proofs.Common.{◌≡◌, ℕ, ◌*◌, ◌-◌, ◌++◌, List, Option, length, take, drop, Some, sym, ap, ◌∙◌, arith}
 use Rattle.std.specs.Prelude.{slice_index}
 use Rattle.std.proofs.lemmas.List.{length-drop, take-take}
 use Rattle.std.proofs.lemmas.Result.{on_ok_weaker}
 use Rattle.keyed_fn.specs.KeyedFn.{keyed_fn}
 use Rattle.list_packing.proofs.NumbersLemmas.{numbers_of-take}
-use Rattle.two_level.specs.Opened.{numbers_of, joined, followed, listed}
+use Rattle.two_level.specs.Opened.{numbers_of, joined, followed}
 use Rattle.server_core.specs.Search.{block_at}
 use Rattle.server_core.proofs.SearchLemmas.{listed-parts, opened-identifiers, opened-data, opened-blocks, lower, joined-nothing}
 use Rattle.server_core.proofs.search.read_list.Goals as goal

@@ -1,9 +1,9 @@
-use Rattle.std.proofs.Common.{ℕ, List, Option, not, None, sym, ap, ◌∙◌}
+use Rattle.std.proofs.Common.{ℕ, Option, not, sym, ap, ◌∙◌}
 use Rattle.std.specs.FinSet as set
 use Rattle.std.specs.List.{position_from}
 use Rattle.sse_frames.specs.Frames.{AddFrame, DeleteFrame}
 use Rattle.sse_frames.specs.Seen.{seen, entries_in, items_in}
-use Rattle.server_core.specs.Refusal.{clash, clash_at, first_known, first_of_two}
+use Rattle.server_core.specs.Refusal.{clash, clash_at, first_of_two}
 use Rattle.server_core.proofs.EntryLemmas.{is_none}
 use Rattle.server_core.proofs.server.Server.clash.Goals as goal
 
