@@ -8,3 +8,4 @@ pub mod Tables
 pub mod Reading
 pub mod Order
 pub mod Sending
+pub mod Texts

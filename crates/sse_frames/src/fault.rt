@@ -1,3 +1,6 @@
+use std::error::Error;
+use std::fmt;
+
 /// Why bytes are no frame or no reply: the first fault from the left.
 #[derive(Clone, Copy, Debug, PartialEq, Eq)]
 pub enum FrameFault {
@@ -9,3 +12,23 @@ pub enum FrameFault {
     /// out of its range or not above the one before it; or the body's fields end here and bytes follow.
     BadBody(u64),
 }
+
+impl fmt::Display for FrameFault {
+    ghost use Rattle.std.specs.Prelude.{Some};
+    ghost use Rattle.sse_frames.specs.Texts.{frame_fault_text};
+
+    ghost output = { λ fault. Some (frame_fault_text fault) };
+
+    fn fmt<W: fmt::Write>(&self, f: &mut fmt::Formatter<W>) -> fmt::Result {
+        match self {
+            FrameFault::BadLength(n) => write!(
+                f,
+                "a body of {n} bytes is empty or above the limit"
+            ),
+            FrameFault::BadKind(byte) => write!(f, "byte {byte} is no kind of frame or reply"),
+            FrameFault::BadBody(place) => write!(f, "the body is not valid at byte {place} from 0"),
+        }
+    }
+}
+
+impl Error for FrameFault {}

@@ -45,6 +45,7 @@ pub fn write_page(last: bool, ids: &[u64], out: &mut [u8]) -> usize
     head + ids.len() * 8
 }
 
+/// Writes the page whose identifiers are these bytes at the front of `out`, and says how many bytes it has.
 fn put_page(out: &mut [u8], last: bool, ids: &[u8]) -> usize
     requires grammar { IsPage last (numbers_in ids.now) }
     requires sizes { AreIds last ids.now }

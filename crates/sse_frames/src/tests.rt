@@ -3,8 +3,8 @@ use crate::put::put_u16;
 use std::alloc::Global;
 use std::test::Fail;
 
-// Bytes, and how many of them reading takes or which fault it answers: by two independent readers of the
-// same formats.
+/// Bytes, and how many of them reading takes or which fault it answers: by two independent readers of the
+/// same formats.
 type Row = (&'static [u8], Result<Option<usize>, FrameFault>);
 
 const FRAMES: [Row; 47] = [
@@ -230,7 +230,7 @@ const SENT: [&[u8]; 12] = [
     b"\0\0\0\xa1\x08\xc3\xc4\xc5\xc6\xc7\xc8\xc9\xca\xcb\xcc\xcd\xce\xcf\xd0\xd1\xd2\xd3\xd4\xd5\xd6\xd7\xd8\xd9\xda\xdb\xdc\xdd\xde\xdf\xe0\xe1\xe2\xc4\xc5\xc6\xc7\xc8\xc9\xca\xcb\xcc\xcd\xce\xcf\xd0\xd1\xd2\xd3\xd4\xd5\xd6\xd7\xd8\xd9\xda\xdb\xdc\xdd\xde\xdf\xe0\xe1\xe2\xe3\xc5\xc6\xc7\xc8\xc9\xca\xcb\xcc\xcd\xce\xcf\xd0\xd1\xd2\xd3\xd4\xd5\xd6\xd7\xd8\xd9\xda\xdb\xdc\xdd\xde\xdf\xe0\xe1\xe2\xe3\xe4\xc6\xc7\xc8\xc9\xca\xcb\xcc\xcd\xce\xcf\xd0\xd1\xd2\xd3\xd4\xd5\xd6\xd7\xd8\xd9\xda\xdb\xdc\xdd\xde\xdf\xe0\xe1\xe2\xe3\xe4\xe5\xc7\xc8\xc9\xca\xcb\xcc\xcd\xce\xcf\xd0\xd1\xd2\xd3\xd4\xd5\xd6\xd7\xd8\xd9\xda\xdb\xdc\xdd\xde\xdf\xe0\xe1\xe2\xe3\xe4\xe5\xe6",
 ];
 
-// The replies of the same sessions, and one of each other kind.
+/// The replies of the same sessions, and one of each other kind.
 const ANSWERED: [&[u8]; 13] = [
     b"\0\0\0\x05\x81\0\0\0\0",
     b"\0\0\0\x05\x82\0\0\0\0",
@@ -247,6 +247,7 @@ const ANSWERED: [&[u8]; 13] = [
     b"\0\0\0\x01\x8a",
 ];
 
+/// Each row of the two tables, read.
 #[test]
 fn reads_what_the_formats_say(rt: HostRuntime) {
     for (bytes, want) in FRAMES {
@@ -257,9 +258,9 @@ fn reads_what_the_formats_say(rt: HostRuntime) {
         let got = read_reply(bytes).map(|found| found.map(|(_, n)| n));
         assert_eq!(rt; got, want, "at {bytes:?}");
     }
-    assert_eq!(rt; read_body(&[1]).is_ok(), true);
 }
 
+/// Each front of each frame of the sessions, shorter than the frame.
 #[test]
 fn a_front_of_a_frame_is_not_whole_yet(rt: HostRuntime) {
     for bytes in SENT {
@@ -269,6 +270,7 @@ fn a_front_of_a_frame_is_not_whole_yet(rt: HostRuntime) {
     }
 }
 
+/// Each frame and each reply of the sessions.
 #[test]
 fn what_is_read_is_written_again(rt: HostRuntime) -> Result<(), Fail> {
     for bytes in SENT {
@@ -280,7 +282,7 @@ fn what_is_read_is_written_again(rt: HostRuntime) -> Result<(), Fail> {
     Ok(())
 }
 
-// Whether a frame, all of the bytes, is written as these bytes in both ways.
+/// Whether a frame, all of the bytes, is written as these bytes in both ways.
 fn written_again(alloc: Global, bytes: &[u8]) -> Result<bool, NoMemory> {
     let Ok(Some((frame, n))) = read_frame(bytes) else {
         return Ok(false);
@@ -292,7 +294,7 @@ fn written_again(alloc: Global, bytes: &[u8]) -> Result<bool, NoMemory> {
     Ok(appended.as_slice() == bytes && written == n && room.as_slice() == bytes)
 }
 
-// Whether a reply, all of the bytes, is written as these bytes.
+/// Whether a reply, all of the bytes, is written as these bytes.
 fn answered_again(alloc: Global, bytes: &[u8]) -> Result<bool, NoMemory> {
     let Some(reply) = read_whole_reply(bytes) else {
         return Ok(false);
@@ -302,9 +304,9 @@ fn answered_again(alloc: Global, bytes: &[u8]) -> Result<bool, NoMemory> {
     Ok(&room[..n] == bytes)
 }
 
+/// A SetupDict of 1,024 entries with the widest cells, and a SetupArray of 256 of the widest blocks.
 #[test]
 fn frames_of_more_than_500_000_bytes_are_read_and_written(rt: HostRuntime) -> Result<(), Fail> {
-    // A SetupDict of 1,024 entries with the widest cells, and a SetupArray of 256 of the widest blocks.
     let mut bytes = Vec::new(rt.alloc());
     bytes.extend_from_slice(b"\0\x08\x44\x09\x03\0\0\0\0\x02\x01\x04\0")?;
     for i in 0..1_024u16 {
@@ -323,6 +325,7 @@ fn frames_of_more_than_500_000_bytes_are_read_and_written(rt: HostRuntime) -> Re
     Ok(())
 }
 
+/// The first bytes of a page of two identifiers, its last bytes, and the first bytes of a search.
 #[test]
 fn writes_a_page_and_a_search(rt: HostRuntime) -> Result<(), Fail> {
     let mut room = vec![in rt.alloc(); 0u8; REPLY_ROOM]?;
@@ -332,14 +335,5 @@ fn writes_a_page_and_a_search(rt: HostRuntime) -> Result<(), Fail> {
     assert_eq!(rt; &room[20..24], [0, 0, 2, 3].as_slice());
     let frame = search_frame(&[7; TOKEN_LEN]);
     assert_eq!(rt; &frame[..6], [0, 0, 0, 161, 8, 7].as_slice());
-    Ok(())
-}
-
-#[test]
-fn items_grow_at_their_end(rt: HostRuntime) -> Result<(), Fail> {
-    let mut items = Items::new(rt.alloc());
-    items.push(7u8)?;
-    items.push(9u8)?;
-    assert_eq!(rt; items.as_slice(), [7, 9].as_slice());
     Ok(())
 }
