@@ -23,3 +23,4 @@ pub mod CommandView
 pub mod RegistryView
 pub mod Sized
 pub mod Histories
+pub mod Texts

@@ -1,4 +1,4 @@
-ghost use Rattle.std.specs.Prelude.{◌≡◌, ◌+◌, ◌<◌, ◌≤◌, [], ◌∷◌, ◌++◌, None, Some, All, length, slice_get, ◌==◌, IfSome, OnOk, OnErr, IsOkUnless};
+ghost use Rattle.std.specs.Prelude.{◌≡◌, ◌+◌, ◌<◌, ◌≤◌, [], ◌∷◌, ◌++◌, None, Some, All, length, slice_get, IfSome, OnOk, OnErr, IsOkUnless};
 
 use crate::doc_id::DocId;
 use crate::document::Doc;
@@ -98,13 +98,6 @@ impl Docs {
         ensures valid { IsCollected self.now }
     {
         self.documents.len()
-    }
-
-    /// Whether there is no document.
-    pub fn is_empty(&self) -> bool
-        ensures { result ≡ (length self.now == 0) }
-    {
-        self.documents.is_empty()
     }
 
     /// How many different words the documents have: at most 2^20.

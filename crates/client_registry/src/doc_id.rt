@@ -1,8 +1,23 @@
 ghost use Rattle.std.specs.Prelude.{◌≡◌, ◌<◌, ◌≤◌, ◌^◌};
 
+use std::error::Error;
+use std::fmt;
+
 /// The number zero, which is no identifier.
 #[derive(Clone, Copy, Debug, PartialEq, Eq)]
 pub struct Zero;
+
+impl fmt::Display for Zero {
+    ghost use Rattle.std.specs.Prelude.{Some, codes};
+
+    ghost output = { λ _. Some (codes "an identifier is at least 1, not 0") };
+
+    fn fmt<W: fmt::Write>(&self, f: &mut fmt::Formatter<W>) -> fmt::Result {
+        f.write_str("an identifier is at least 1, not 0")
+    }
+}
+
+impl Error for Zero {}
 
 /// The identifier of a document: 1 to 2^64-1.
 #[derive(Clone, Copy, Debug, PartialEq, Eq, Hash)]

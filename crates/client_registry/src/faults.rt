@@ -1,6 +1,12 @@
-ghost use Rattle.std.specs.Prelude.{◌≡◌};
+ghost use Rattle.std.specs.Prelude.{◌≡◌, Some};
+ghost use Rattle.client_registry.specs.Texts as texts;
+ghost use Rattle.client_registry.specs.declared.faults.AddFault.TheVariants as adding;
+ghost use Rattle.client_registry.specs.declared.faults.DocFault.TheVariants as doc;
+ghost use Rattle.client_registry.specs.declared.faults.DocsFault.TheVariants as docs;
 
-use std::alloc::{AllocError, AllocFailed};
+use std::alloc::AllocError;
+use std::error::Error;
+use std::fmt;
 
 /// Why bytes aren't a word.
 #[derive(Clone, Copy, Debug, PartialEq, Eq)]
@@ -62,50 +68,107 @@ pub enum SizeFault {
     TooManyBytes(u64),
 }
 
-impl From<AllocError> for DocFault {
-    ghost use Rattle.client_registry.specs.declared.faults.DocFault.TheVariants.{NoMemory};
+impl fmt::Display for WordFault {
+    ghost output = { λ fault. Some (texts.word_fault_text fault) };
 
-    ghost from_gives = { λ _ e. e ≡ NoMemory };
+    fn fmt<W: fmt::Write>(&self, f: &mut fmt::Formatter<W>) -> fmt::Result {
+        match self {
+            WordFault::Empty => f.write_str("a word has at least 1 byte"),
+            WordFault::TooLong(n) => write!(f, "a word has at most 64 bytes, not {n}"),
+            WordFault::BadByte(place) => write!(f, "no word has the byte at place {place} from 0"),
+        }
+    }
+}
+
+impl Error for WordFault {}
+
+impl fmt::Display for DocFault {
+    ghost output = { λ fault. Some (texts.doc_fault_text fault) };
+
+    fn fmt<W: fmt::Write>(&self, f: &mut fmt::Formatter<W>) -> fmt::Result {
+        match self {
+            DocFault::TooManyWords(n) => write!(f, "a document has at most 4096 words, not {n}"),
+            DocFault::RepeatedWord(at) => write!(f, "word {at} from 0 stands earlier too"),
+            DocFault::NoMemory => f.write_str("out of memory"),
+        }
+    }
+}
+
+impl Error for DocFault {}
+
+impl fmt::Display for DocsFault {
+    ghost output = { λ fault. Some (texts.docs_fault_text fault) };
+
+    fn fmt<W: fmt::Write>(&self, f: &mut fmt::Formatter<W>) -> fmt::Result {
+        match self {
+            DocsFault::AlreadyLive(id) => write!(f, "document {id} is there already"),
+            DocsFault::TooManyDocuments(n) => write!(f, "at most 262144 documents fit, not {n}"),
+            DocsFault::TooManyPairs(n) => write!(f, "at most 1048576 pairs fit, not {n}"),
+            DocsFault::NoMemory => f.write_str("out of memory"),
+        }
+    }
+}
+
+impl Error for DocsFault {}
+
+impl fmt::Display for AddFault {
+    ghost output = { λ fault. Some (texts.add_fault_text fault) };
+
+    fn fmt<W: fmt::Write>(&self, f: &mut fmt::Formatter<W>) -> fmt::Result {
+        match self {
+            AddFault::AlreadyLive(id) => write!(f, "document {id} is there already"),
+            AddFault::NoMemory => f.write_str("out of memory"),
+        }
+    }
+}
+
+impl Error for AddFault {}
+
+impl fmt::Display for UnknownDocument {
+    ghost output = { λ unknown. Some (texts.unknown_text unknown.0) };
+
+    fn fmt<W: fmt::Write>(&self, f: &mut fmt::Formatter<W>) -> fmt::Result {
+        write!(f, "there is no document {}", self.0)
+    }
+}
+
+impl Error for UnknownDocument {}
+
+impl fmt::Display for SizeFault {
+    ghost output = { λ fault. Some (texts.size_fault_text fault) };
+
+    fn fmt<W: fmt::Write>(&self, f: &mut fmt::Formatter<W>) -> fmt::Result {
+        match self {
+            SizeFault::BadParameter { which: 0, value } => write!(f, "b is 1 to 64, not {value}"),
+            SizeFault::BadParameter { value, .. } => write!(f, "B is 1 to 256, not {value}"),
+            SizeFault::ListTooLong { word, n } => {
+                write!(f, "the list of word {word} has {n} identifiers, over b*B*B")
+            }
+            SizeFault::TooManyBytes(n) => write!(f, "at most 268435456 bytes fit, not {n}"),
+        }
+    }
+}
+
+impl Error for SizeFault {}
+
+impl From<AllocError> for DocFault {
+    ghost from_gives = { λ _ e. e ≡ doc.NoMemory };
 
     fn from(_e: AllocError) -> DocFault {
         DocFault::NoMemory
     }
 }
 
-impl<T: Drop> From<AllocFailed<T>> for DocFault {
-    ghost use Rattle.client_registry.specs.declared.faults.DocFault.TheVariants.{NoMemory};
-
-    ghost from_gives = { λ _ e. e ≡ NoMemory };
-
-    fn from(_e: AllocFailed<T>) -> DocFault {
-        DocFault::NoMemory
-    }
-}
-
 impl From<AllocError> for DocsFault {
-    ghost use Rattle.client_registry.specs.declared.faults.DocsFault.TheVariants.{NoMemory};
-
-    ghost from_gives = { λ _ e. e ≡ NoMemory };
+    ghost from_gives = { λ _ e. e ≡ docs.NoMemory };
 
     fn from(_e: AllocError) -> DocsFault {
         DocsFault::NoMemory
     }
 }
 
-impl<T: Drop> From<AllocFailed<T>> for DocsFault {
-    ghost use Rattle.client_registry.specs.declared.faults.DocsFault.TheVariants.{NoMemory};
-
-    ghost from_gives = { λ _ e. e ≡ NoMemory };
-
-    fn from(_e: AllocFailed<T>) -> DocsFault {
-        DocsFault::NoMemory
-    }
-}
-
 impl From<AllocError> for AddFault {
-    ghost use Rattle.client_registry.specs.declared.faults.AddFault.TheVariants.{NoMemory};
-
-    ghost from_gives = { λ _ e. e ≡ NoMemory };
+    ghost from_gives = { λ _ e. e ≡ adding.NoMemory };
 
     fn from(_e: AllocError) -> AddFault {
         AddFault::NoMemory

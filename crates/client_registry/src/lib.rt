@@ -1,9 +1,11 @@
 //! What a client knows of its documents: words, documents, and the documents collected for a setup, with each
-//! word numbered by its first appearance and the number of documents that hold it. It stands on the plan of a
-//! list alone (`two_level`), so that [`size_of`] tells the size of an index, or why there is none, without a key.
-//! Callers see a [`Doc`] as a `Document` of specs/Document.antt and [`Docs`] as the list of them; what is refused
-//! is exactly what a definition named `refusal` gives, the first cause that stands, and nothing is changed then.
-//! It makes no index and searches nothing.
+//! word numbered by its first appearance and the number of documents that hold it; behind the setup a [`Registry`],
+//! which tells what is live, listed and counted, and is changed by each addition and deletion. It stands on the plan of
+//! a list alone (`two_level`), so that [`size_of`] tells the size of an index, or why there is none, without a key.
+//! Callers see a [`Doc`] as a `Document` of specs/Document.antt and [`Docs`] as the list of them, and a registry by the
+//! history that it represents (`Represents` of specs/Registered.antt); what is refused is exactly what a definition named
+//! `refusal` gives, or a clause of its own, and nothing is changed then. Histories and their laws are here too, as
+//! definitions. It makes no index and searches nothing.
 #![tactic(auto)]
 
 mod collected;
@@ -34,5 +36,4 @@ pub use limits::{MAX_DOCUMENTS, MAX_INDEX_BYTES, MAX_PAIRS, MAX_WORD_BYTES, MAX_
 pub use numbered::Numbered;
 pub use registry::Registry;
 pub use size::{Size, size_of};
-pub use std::alloc::AllocError as NoMemory;
 pub use word::Word;

@@ -39,7 +39,7 @@ impl Model for Registry {
 
 impl Registry {
     ghost use Rattle.client_registry.specs.DocumentRule.{IsDocument};
-    ghost use Rattle.client_registry.specs.Documents.{words_of};
+    ghost use Rattle.client_registry.specs.Documents.{words_of, IsCollected};
     ghost use Rattle.client_registry.specs.Facts.{has_counter, has_counters};
     ghost use Rattle.client_registry.specs.IdNumber.{id_number};
     ghost use Rattle.client_registry.specs.Numbered.{document_by, words_by_number};
@@ -52,6 +52,7 @@ impl Registry {
     pub fn from_docs(docs: Docs) -> Registry
         ensures setup { (shape : Shape) → Represents result (record { documents = docs; shape = shape }) [] }
         ensures words { known_words result ≡ words_of docs }
+        ensures valid { IsCollected docs }
     {
         let Docs {
             documents,

@@ -50,7 +50,7 @@ pub fn size_of(docs: &Docs, b: u64, big: u64) -> Result<Size, SizeFault>
     })
 }
 
-// How many blocks the lists of all words take, or the first list that is too long.
+/// How many blocks the lists of all words take, or the first list that is too long.
 fn count_blocks(docs: &Docs, b: u16, big: u16) -> Result<u64, SizeFault>
     requires cell { 1 ≤ b }
     requires cell_within { b ≤ 64 }
@@ -75,7 +75,7 @@ fn count_blocks(docs: &Docs, b: u16, big: u16) -> Result<u64, SizeFault>
     Ok(blocks)
 }
 
-// How many blocks a list of n identifiers takes, where it isn't too long.
+/// How many blocks a list of n identifiers takes, where it isn't too long.
 fn list_blocks(n: u32, b: u16, big: u16) -> Option<u64>
     requires some { 1 ≤ n }
     requires cell { 1 ≤ b }
