@@ -5,11 +5,25 @@ ghost use Rattle.add_counters.specs.NewEntry.{entry_text, new_entry};
 
 use client_registry::DocId;
 use keyed_fn::Keyed;
+use std::error::Error;
+use std::fmt;
 use word_keys::{PlusKeys, seal};
 
 /// The word has had 2^32-1 additions, so there is no counter left.
 #[derive(Clone, Copy, Debug, PartialEq, Eq)]
 pub struct CounterFull;
+
+impl fmt::Display for CounterFull {
+    ghost use Rattle.std.specs.Prelude.{Some, codes};
+
+    ghost output = { λ _. Some (codes "a word has at most 4294967295 additions, and this one had them") };
+
+    fn fmt<W: fmt::Write>(&self, f: &mut fmt::Formatter<W>) -> fmt::Result {
+        f.write_str("a word has at most 4294967295 additions, and this one had them")
+    }
+}
+
+impl Error for CounterFull {}
 
 /// A new entry: the label of a word's addition, and the identifier under the addition's pad.
 #[derive(Clone, Copy, Debug, PartialEq, Eq)]

@@ -21,6 +21,7 @@ const TOY: Entry = Entry {
     sealed: *b"\xc6\xc7\xc8\xc9\xca\xcb\xcc\xc8",
 };
 
+/// The entry at the last counter, none behind it, and one of the toy function.
 #[test]
 fn the_last_counter_is_4294967294(rt: HostRuntime) -> Result<(), Fail> {
     let keys = MasterKey::new(MASTER)

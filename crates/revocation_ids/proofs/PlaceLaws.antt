@@ -1,5 +1,5 @@
 -- Words with their positions, one by one, and the words of a split.
-use Rattle.std.proofs.Common.{◌≡◌, ℕ, suc, ◌+◌, ◌<◌, Bool, true, false, cond, not, List, [], ◌∷◌, ◌++◌, length, map, filter, take, get_or, All, refl, sym, ap, ◌∙◌, arith, Option, Some, None, position}
+use Rattle.std.proofs.Common.{◌≡◌, ℕ, ◌+◌, ◌<◌, Bool, true, false, cond, not, List, [], ◌∷◌, ◌++◌, length, map, filter, take, get_or, All, refl, ap, ◌∙◌, arith, Option, Some, None, position}
 use Rattle.std.specs.Prelude.{bytes_eq, is_some, slice_get, slice_index_or, unwrap_or}
 use Rattle.std.specs.List.{enumerate_from, list_any}
 use Rattle.std.proofs.lemmas.List.{take_more, map-append, length-take-le}

@@ -20,7 +20,6 @@ pub use numbers::Numbers;
 pub use parts::Split;
 pub use place::Place;
 pub use splitting::split;
-pub use std::alloc::AllocError as NoMemory;
 
 #[cfg(test)]
 mod tests;

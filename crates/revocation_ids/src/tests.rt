@@ -31,6 +31,7 @@ fn deleted(alloc: Global) -> Result<Registry, Fail> {
     Ok(registry)
 }
 
+/// A document that comes again with a new word before the one that it had.
 #[test]
 fn a_word_that_was_listed_is_apart(rt: HostRuntime) -> Result<(), Fail> {
     let alloc = rt.alloc();
@@ -67,6 +68,7 @@ fn push(numbers: &mut Numbers, text: &[u8]) -> Result<(), Fail>
     Ok(())
 }
 
+/// Two numbers, given in falling order.
 #[test]
 fn numbers_rise_and_differ(rt: HostRuntime) -> Result<(), Fail> {
     let mut numbers = Numbers::new(rt.alloc(), 2)?;
@@ -76,6 +78,7 @@ fn numbers_rise_and_differ(rt: HostRuntime) -> Result<(), Fail> {
     Ok(())
 }
 
+/// The same number twice.
 #[test]
 fn equal_numbers_are_named(rt: HostRuntime) -> Result<(), Fail> {
     let mut numbers = Numbers::new(rt.alloc(), 2)?;

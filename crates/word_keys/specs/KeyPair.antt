@@ -1,4 +1,4 @@
--- The two keys under which a word's list, or each of its additions, is labelled and encrypted.
+-- The two keys under which each of a word's additions is labelled and encrypted.
 use Rattle.std.specs.Prelude.{ℕ, List}
 use Rattle.keyed_fn.specs.KeyedFn.{KeyedFn}
 use Rattle.keyed_fn.specs.KeyFormulas.{part_key}
@@ -7,10 +7,6 @@ use Rattle.keyed_fn.specs.KeyFormulas.{part_key}
 pub record KeyPair : Type 0 where
   pub label_key : List ℕ
   pub pad_key : List ℕ
-
--- the keys of a word's list: its keys of the parts 1 and 2 under the master key
-abbrev pub list_keys : KeyedFn → List ℕ → List ℕ → KeyPair
-list_keys f master word = record { label_key = part_key f master 1 word; pad_key = part_key f master 2 word }
 
 -- the keys of a word's additions: its keys of the parts 3 and 4 under the master key
 abbrev pub plus_keys : KeyedFn → List ℕ → List ℕ → KeyPair

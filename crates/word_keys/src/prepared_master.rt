@@ -5,10 +5,9 @@ ghost use Rattle.keyed_fn.specs.KeyedFn.{keyed_fn};
 ghost use Rattle.keyed_fn.specs.KeyFormulas.{list_label, mark_of, part_key, plain_key};
 ghost use Rattle.search_token.specs.TokenKeys.{token_keys};
 ghost use Rattle.word_keys.specs.HashNumbers.{numbers_of_key};
-ghost use Rattle.word_keys.specs.KeyPair.{list_keys, plus_keys};
+ghost use Rattle.word_keys.specs.KeyPair.{plus_keys};
 ghost use Rattle.word_keys.specs.PadName.{cell_name};
 
-use crate::list_keys::ListKeys;
 use crate::list_pads::ListPads;
 use crate::place_key::PlaceKey;
 use crate::plus_keys::PlusKeys;
@@ -88,23 +87,14 @@ impl<K: Keyed> PreparedMaster<K> {
         ])
     }
 
-    /// The keys of a word's list: its keys of the parts 1 and 2.
-    pub fn list_keys(&self, keyed: &K, word: &Word) -> ListKeys
-        ensures { result ≡ list_keys (keyed_fn K.prf K.pad) self.now (word_bytes word.now) }
-    {
-        let label_key = self.key_of_part(keyed, LIST_LABEL, word.bytes());
-        let pad_key = self.key_of_part(keyed, LIST_PADS, word.bytes());
-        ListKeys::new(label_key, pad_key)
-    }
-
-    /// The 16-byte label of a word's list alone: one of the two keys of [`PreparedMaster::list_keys`], and its value.
+    /// The 16-byte label of a word's list, under its key of part 1.
     pub fn list_label(&self, keyed: &K, word: &Word) -> [u8; 16]
         ensures { result ≡ list_label (keyed_fn K.prf K.pad) (part_key (keyed_fn K.prf K.pad) self.now 1 (word_bytes word.now)) }
     {
         front_at(keyed, &self.key_of_part(keyed, LIST_LABEL, word.bytes()), 0)
     }
 
-    /// The pads of a word's list alone, from that of the cell on: the other of the two keys.
+    /// The pads of a word's list under its key of part 2, from that of the cell on.
     pub fn list_pads(&self, keyed: &K, word: &Word) -> ListPads
         ensures { result ≡ cell_name (part_key (keyed_fn K.prf K.pad) self.now 2 (word_bytes word.now)) }
     {

@@ -35,6 +35,7 @@ const SEALED: [&[u8; 8]; 3] = [
     b"\xbb\x68\x31\x44\x09\xfa\x27\xf3",
 ];
 
+/// What each call gives for the word `archive`.
 #[test]
 fn keys_and_pads_of_a_word(rt: HostRuntime) -> Result<(), Fail> {
     let word = Word::read(b"archive")?;
@@ -42,20 +43,18 @@ fn keys_and_pads_of_a_word(rt: HostRuntime) -> Result<(), Fail> {
     assert_eq!(rt; master.token(&Real, &word).to_bytes(), *TOKEN);
     assert_eq!(rt; master.mark(&Real), *MARK);
     assert!(rt; master.hash_keys(&Real) == HashKeys::new(HASHING[0], HASHING[1]));
-    let list_keys = master.list_keys(&Real, &word);
     let plus_keys = master.plus_keys(&Real, &word);
     let revocation_key = master.revocation_key(&Real, &word);
-    let place_key = master.place_key(&Real, &word);
-    assert_eq!(rt; list_keys.label(&Real), *LIST_LABEL);
+    let tags = master.place_key(&Real, &word).tags(&Real);
+    assert_eq!(rt; master.list_label(&Real, &word), *LIST_LABEL);
     assert_eq!(rt; plus_keys.label(&Real, 4294967294), *PLUS_LABEL);
     assert_eq!(rt;
         revocation_key.number(&Real, 18446744073709551615),
         *REVOCATION
     );
-    assert_eq!(rt; place_key.tag(&Real, 65537), *TAG);
-    assert_eq!(rt; place_key.tags(&Real).tag(&Real, 65537), *TAG);
+    assert_eq!(rt; tags.tag(&Real, 65537), *TAG);
     let [mut cell, mut block, mut addition] = [[1, 2, 3, 4, 5, 6, 7, 8]; 3];
-    let mut pads = list_keys.pads();
+    let mut pads = master.list_pads(&Real, &word);
     seal(pads.next(), &Real, &mut cell);
     seal(pads.next(), &Real, &mut block);
     seal(plus_keys.slot(4294967294), &Real, &mut addition);
@@ -70,14 +69,13 @@ fn keys_and_pads_of_a_word(rt: HostRuntime) -> Result<(), Fail> {
 fn toy_keys_and_pads_of_a_word(rt: HostRuntime) -> Result<(), Fail> {
     let word = Word::read(b"a")?;
     let master = MasterKey::new([0; 32]).prepare(&Toy);
-    let list_keys = master.list_keys(&Toy, &word);
     let plus_keys = master.plus_keys(&Toy, &word);
     assert_eq!(rt;
         master.mark(&Toy),
         *b"\x07\x08\x09\x0a\x0b\x0c\x0d\x0e\x0f\x10\x11\x12\x13\x14\x15\x16"
     );
     assert_eq!(rt;
-        list_keys.label(&Toy),
+        master.list_label(&Toy, &word),
         *b"\xc3\xc5\xc7\xc9\xcb\xcd\xcf\xd1\xd3\xd5\xd7\xd9\xdb\xdd\xdf\xe1"
     );
     assert_eq!(rt;
@@ -87,7 +85,7 @@ fn toy_keys_and_pads_of_a_word(rt: HostRuntime) -> Result<(), Fail> {
     // the cell of identifier 1 alone, and addition 0 of identifier 5
     let mut cell = [0, 0, 0, 0, 0, 0, 0, 0, 1];
     let mut addition = [0, 0, 0, 0, 0, 0, 0, 5];
-    seal(list_keys.pads().next(), &Toy, &mut cell);
+    seal(master.list_pads(&Toy, &word).next(), &Toy, &mut cell);
     seal(plus_keys.slot(0), &Toy, &mut addition);
     assert_eq!(rt; cell, *b"\xc4\xc5\xc6\xc7\xc8\xc9\xca\xcb\xcd");
     assert_eq!(rt; addition, *b"\xc6\xc7\xc8\xc9\xca\xcb\xcc\xc8");

@@ -1,9 +1,8 @@
-use Rattle.std.proofs.Common.{◌≡◌, ◌<◌, ◌+◌, ◌++◌, ◌∷◌, [], All, Some, true, false, is_some, map, length, get_or, position, take, refl, sym, ap, subst, ◌∙◌, arith}
+use Rattle.std.proofs.Common.{◌≡◌, ◌<◌, ◌++◌, ◌∷◌, [], All, Some, true, false, is_some, length, get_or, position, sym, ap, subst, ◌∙◌, arith}
 use Rattle.std.specs.Prelude.{bytes_eq, unwrap_or}
 use Rattle.std.specs.List.{list_any}
 use Rattle.std.proofs.lemmas.List.{append-nil, get_or-map, length-map}
 use Rattle.std.proofs.lemmas.List.Elements.{All-push}
-use Rattle.client_registry.specs.IdNumber.{id_number}
 use Rattle.client_registry.specs.Registered.{facts, known_words}
 use Rattle.client_registry.specs.WordBytes.{word_bytes}
 use Rattle.client_registry.proofs.Positions.{is_some-position}
