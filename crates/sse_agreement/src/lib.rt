@@ -2,6 +2,6 @@
 //! search by the identifiers that the history shows, which in order are those of the live documents with the word.
 //!
 //! It stands on `sse_model` for what a history sends and on `server_core` for the server's step, which know
-//! nothing of one another; client, links and worlds cite it from above. It holds statements over definitions
+//! nothing of one another; the meaning of a script and the client cite it from above. It holds statements over definitions
 //! (specs/Agreement.antt) with their proofs (`histories_taken`, `server_agrees`, `shown_are_found`), and no calls.
 #![tactic(auto)]

@@ -23,3 +23,4 @@ pub mod UpdateGrammar
 pub mod Grammar
 pub mod HistoryLaws
 pub mod Exchanging
+pub mod LiveWords
