@@ -17,12 +17,6 @@ pub record IsOpenPage (reply : List ℕ) : Type 0 where
   pub ids : List ℕ
   pub is : IsReply (Page false ids) reply
 
--- these replies to one frame were received in a row: each but the last leaves another one due
-abbrev pub AreInTurn : List (List ℕ) → Type 0
-AreInTurn [] = Unit {0}
-AreInTurn (reply ∷ []) = Unit {0}
-AreInTurn (reply ∷ next ∷ later) = IsOpenPage reply × AreInTurn (next ∷ later)
-
 -- the replies that wait, where a search found these identifiers
 abbrev pub waiting : Due → List ℕ → List ReplyText
 waiting dues.Nothing ids = []

@@ -10,3 +10,4 @@ pub mod Steady
 pub mod Failing
 pub mod Scripted
 pub mod BadFrames
+pub mod Texts

@@ -16,6 +16,7 @@ const FULL_PAGE: usize = PAGE_LEN as usize;
 /// The replies that wait to be received. The identifiers that a search found stand beside them.
 #[derive(Clone, Copy, Debug)]
 pub enum Due {
+    /// No reply.
     Nothing,
     /// One reply, which isn't a page.
     Single(Reply<'static>),

@@ -1,9 +1,10 @@
 //! What stands between client and server: it carries frames one way and replies the other. `Link` is the trait that the
 //! client is written over, and its ghost members let a contract speak of all that was sent and received. In memory
 //! there are a loopback to a server in this process, which never fails or fails at chosen calls, and a link that plays
-//! back replies, honest or not. It stands on `sse_frames` and `server_core`; it knows no word and no key. The theorem that
-//! callers use: all that a loopback tells is honest (`IsServed` of specs/Served.antt), each frame with the server's step
-//! and its replies in order. It says nothing of a real connection.
+//! back replies, honest or not; `answer_bytes` is what a server replies to any bytes. It stands on `sse_frames` and
+//! `server_core`; it knows no word and no key. The theorem that callers use: all that a loopback tells is honest
+//! (`IsServed` of specs/Served.antt), each frame with the server's step, or out of memory, and its replies in order. It
+//! says nothing of a real connection.
 #![tactic(auto)]
 
 mod answering;

@@ -25,12 +25,12 @@ const END: &[u8] = b"\x00\x00\x00\x05\x05\x00\x00\x00\x02";
 const SEARCH: &[u8] =
     b"\x00\x00\x00\xa1\x08\xc3\xc4\xc5\xc6\xc7\xc8\xc9\xca\xcb\xcc\xcd\xce\xcf\xd0\xd1\xd2\xd3\xd4\xd5\xd6\xd7\xd8\xd9\xda\xdb\xdc\xdd\xde\xdf\xe0\xe1\xe2\xc4\xc5\xc6\xc7\xc8\xc9\xca\xcb\xcc\xcd\xce\xcf\xd0\xd1\xd2\xd3\xd4\xd5\xd6\xd7\xd8\xd9\xda\xdb\xdc\xdd\xde\xdf\xe0\xe1\xe2\xe3\xc5\xc6\xc7\xc8\xc9\xca\xcb\xcc\xcd\xce\xcf\xd0\xd1\xd2\xd3\xd4\xd5\xd6\xd7\xd8\xd9\xda\xdb\xdc\xdd\xde\xdf\xe0\xe1\xe2\xe3\xe4\xc6\xc7\xc8\xc9\xca\xcb\xcc\xcd\xce\xcf\xd0\xd1\xd2\xd3\xd4\xd5\xd6\xd7\xd8\xd9\xda\xdb\xdc\xdd\xde\xdf\xe0\xe1\xe2\xe3\xe4\xe5\xc7\xc8\xc9\xca\xcb\xcc\xcd\xce\xcf\xd0\xd1\xd2\xd3\xd4\xd5\xd6\xd7\xd8\xd9\xda\xdb\xdc\xdd\xde\xdf\xe0\xe1\xe2\xe3\xe4\xe5\xe6";
 
-// The reply to a server's next number 0, and to 1.
+/// The reply to a server's next number 0, and to 1.
 const NEXT_0: &[u8] = b"\x00\x00\x00\x05\x81\x00\x00\x00\x00";
 
 const NEXT_1: &[u8] = b"\x00\x00\x00\x05\x81\x00\x00\x00\x01";
 
-// What is sent in a row, and the reply to it.
+/// What is sent in a row, and the reply to it.
 const REPLIES: [(&[u8], &[u8]); 7] = [
     (SEARCH, b"\x00\x00\x00\x01\x8a"),
     (HELLO, NEXT_0),
@@ -44,8 +44,8 @@ const REPLIES: [(&[u8], &[u8]); 7] = [
     ),
 ];
 
-// Bytes that are no frame, and the reply to them: an unknown kind, a length of 0, a byte behind a field, one behind a
-// frame, and a frame cut short.
+/// Bytes that are no frame, and the reply to them: an unknown kind, a length of 0, a byte behind a field, one behind a
+/// frame, and a frame cut short.
 const BAD_BYTES: [(&[u8], &[u8]); 5] = [
     (b"\x00\x00\x00\x01\x09", b"\x00\x00\x00\x02\x89\x02"),
     (b"\x00\x00\x00\x00", b"\x00\x00\x00\x02\x89\x01"),
@@ -54,14 +54,14 @@ const BAD_BYTES: [(&[u8], &[u8]); 5] = [
     (b"\x00\x00\x00\x05\x05\x00", b"\x00\x00\x00\x02\x89\x01"),
 ];
 
-// Room for a reply.
+/// Room for a reply, in bytes.
 fn zeros(alloc: Global, len: usize) -> Result<Vec<u8>, NoMemory>
     ensures { IfOk result (λ v. vec_len v ≡ len) }
 {
     vec![in alloc; 0u8; len]
 }
 
-// Sends bytes that are a frame.
+/// Sends bytes that are a frame.
 fn send<L: Link>(link: &mut L, bytes: &[u8]) -> Result<(), LinkFault>
     ensures { OnOk result (L.reply_due link.new ≡ true) }
 {
@@ -71,6 +71,7 @@ fn send<L: Link>(link: &mut L, bytes: &[u8]) -> Result<(), LinkFault>
     }
 }
 
+/// A setup and two searches: each reply, and what is told of the first frame.
 #[test]
 fn a_steady_loopback_answers(rt: HostRuntime) -> Result<(), Failed> {
     let mut link = SteadyLoopback::new(rt.alloc(), Toy, Server::new(BucketTables::new(rt.alloc())));
@@ -91,7 +92,7 @@ fn a_steady_loopback_answers(rt: HostRuntime) -> Result<(), Failed> {
     Ok(())
 }
 
-// The first reply of a server to bytes.
+/// The first reply of a server to bytes.
 fn reply_to(
     alloc: Global,
     server: &mut Server<BucketTables>,
@@ -105,6 +106,7 @@ fn reply_to(
     Ok(out)
 }
 
+/// Each row by a server that stays as it is.
 #[test]
 fn bytes_that_are_no_frame_are_answered(rt: HostRuntime) -> Result<(), Failed> {
     let mut server = Server::new(BucketTables::new(rt.alloc()));
@@ -115,6 +117,7 @@ fn bytes_that_are_no_frame_are_answered(rt: HostRuntime) -> Result<(), Failed> {
     Ok(())
 }
 
+/// The server has taken one frame before the link is made.
 #[test]
 fn a_loopback_begins_where_its_server_stands(rt: HostRuntime) -> Result<(), Failed> {
     let mut server = Server::new(BucketTables::new(rt.alloc()));
@@ -128,9 +131,9 @@ fn a_loopback_begins_where_its_server_stands(rt: HostRuntime) -> Result<(), Fail
     Ok(())
 }
 
+/// The send and the receive of the first frame work, the second send and the next receive fail.
 #[test]
 fn a_loopback_fails_where_it_is_told_to(rt: HostRuntime) -> Result<(), Failed> {
-    // The send and the receive of the first frame work, the second send and the next receive fail.
     for (delivered, next) in [(false, NEXT_0), (true, NEXT_1)] {
         let fails = vec![in rt.alloc(); Fail { call: 2, delivered }, Fail { call: 4, delivered }]?;
         let mut link = Loopback::new(
@@ -152,6 +155,7 @@ fn a_loopback_fails_where_it_is_told_to(rt: HostRuntime) -> Result<(), Failed> {
     Ok(())
 }
 
+/// A reply, the four bytes of a length out of range, and then the end inside a reply.
 #[test]
 fn a_script_is_played_back(rt: HostRuntime) -> Result<(), Failed> {
     let replies = b"\x00\x00\x00\x05\x81\x00\x00\x00\x09\x00\x01\x00\x05\x00\x00\x00\x02\x89";
