@@ -3,3 +3,4 @@ pub mod Lists
 pub mod Placed
 pub mod Refused
 pub mod Tagged
+pub mod Texts

@@ -193,7 +193,7 @@ fn write_lists<K: Keyed>(
 {
     let mut ids = from.ids;
     let mut ranks = from.block_ranks;
-    'words: for w in 0..docs.words() {
+    for w in 0..docs.words() {
         let n = docs.list_len(w);
         let (list, later_ids) = ids.split_at(n as usize);
         let (places, later_ranks) = ranks.split_at(blocks_in(n, shape) as usize);

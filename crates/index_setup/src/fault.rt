@@ -1,5 +1,7 @@
 use client_registry::SizeFault;
-use std::alloc::{AllocError, AllocFailed};
+use std::alloc::AllocError;
+use std::error::Error;
+use std::fmt;
 
 /// Why a setup's index can't be built: the first cause that stands, in this order.
 #[derive(Debug, Clone, Copy, PartialEq, Eq)]
@@ -18,6 +20,33 @@ pub enum BuildFault {
     /// There is no memory for the index.
     NoMemory,
 }
+
+impl fmt::Display for BuildFault {
+    ghost use Rattle.std.specs.Prelude.{Some};
+    ghost use Rattle.index_setup.specs.Texts.{build_fault_text};
+
+    ghost output = { λ fault. Some (build_fault_text fault) };
+
+    fn fmt<W: fmt::Write>(&self, f: &mut fmt::Formatter<W>) -> fmt::Result {
+        match self {
+            BuildFault::BadParameter { which: 0, value } => write!(f, "b is 1 to 64, not {value}"),
+            BuildFault::BadParameter { value, .. } => write!(f, "B is 1 to 256, not {value}"),
+            BuildFault::ListTooLong { word, n } => {
+                write!(f, "the list of word {word} has {n} identifiers, over b*B*B")
+            }
+            BuildFault::TooManyBytes(n) => write!(f, "at most 268435456 bytes fit, not {n}"),
+            BuildFault::LabelClash { first, second } => {
+                write!(f, "the labels of the words {first} and {second} are equal")
+            }
+            BuildFault::PlaceClash { first, second } => {
+                write!(f, "the places of the blocks {first} and {second} are equal")
+            }
+            BuildFault::NoMemory => f.write_str("out of memory"),
+        }
+    }
+}
+
+impl Error for BuildFault {}
 
 impl From<SizeFault> for BuildFault {
     ghost use Rattle.index_setup.specs.Refused.{refused_by_size};
@@ -41,17 +70,6 @@ impl From<AllocError> for BuildFault {
     ghost from_gives = { λ _ fault. fault ≡ NoMemory };
 
     fn from(_e: AllocError) -> BuildFault {
-        BuildFault::NoMemory
-    }
-}
-
-impl<T: Drop> From<AllocFailed<T>> for BuildFault {
-    ghost use Rattle.index_setup.specs.declared.fault.BuildFault.TheVariants.{NoMemory};
-    ghost use Rattle.std.specs.Prelude.{◌≡◌};
-
-    ghost from_gives = { λ _ fault. fault ≡ NoMemory };
-
-    fn from(_e: AllocFailed<T>) -> BuildFault {
         BuildFault::NoMemory
     }
 }

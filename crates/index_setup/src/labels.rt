@@ -26,7 +26,7 @@ pub(crate) fn labels_of<K: Keyed>(
     ensures { IfOk result (λ labels. labels.items ≡ tagged_from 0 (word_labels (keyed_fn K.prf K.pad) master.now (words_of docs.now))) }
 {
     let mut labels = Vec::with_capacity(alloc, docs.words())?;
-    'words: for w in 0..docs.words() {
+    for w in 0..docs.words() {
         let tag = master.list_label(keyed, docs.word(w));
         let position = w as u32;
         labels.push(Tagged { tag, position })?;
@@ -48,7 +48,7 @@ pub(crate) fn tags_of<K: Keyed>(
     ensures { IfOk result (λ tags. tags.items ≡ tagged_from 0 (block_tags (keyed_fn K.prf K.pad) master.now (record { b = shape.b; big = shape.big }) docs.now (words_of docs.now))) }
 {
     let mut tags = Vec::with_capacity(alloc, blocks as usize)?;
-    'words: for w in 0..docs.words() {
+    for w in 0..docs.words() {
         let count = blocks_in(docs.list_len(w), shape);
         push_tags(&mut tags, keyed, master, docs.word(w), count)?;
     }
@@ -83,7 +83,7 @@ fn push_under<K: Keyed>(
     requires { vec_len tags.old + count < 2 ^ 32 }
     ensures { OnOk result (tags.new.items ≡ tags.old.items ++ tagged_from (vec_len tags.old) (map (place_tag (keyed_fn K.prf K.pad) key.now) (range_with_len 0 count))) }
 {
-    'places: for i in 0..count {
+    for i in 0..count {
         let tag = key.tag(keyed, i);
         let position = tags.len() as u32;
         tags.push(Tagged { tag, position })?;

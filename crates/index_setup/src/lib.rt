@@ -19,7 +19,6 @@ mod writing;
 pub use building::build;
 pub use fault::BuildFault;
 pub use index::Index;
-pub use std::alloc::AllocError as NoMemory;
 
 #[cfg(test)]
 mod tests;

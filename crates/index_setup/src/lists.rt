@@ -12,7 +12,7 @@ pub(crate) fn lists_of(alloc: Global, docs: &Docs) -> Result<Vec<u64>, AllocErro
 {
     let mut next = starts_of(alloc, docs)?;
     let mut ids = vec![in alloc; 0u64; total_of(docs)]?;
-    'documents: for i in 0..docs.len() {
+    for i in 0..docs.len() {
         add_document(docs, i, &mut ids, &mut next);
     }
     Ok(ids)
@@ -24,7 +24,7 @@ fn total_of(docs: &Docs) -> usize
     ensures most { result ≤ 2 ^ 20 }
 {
     let mut sum = 0;
-    'words: for w in 0..docs.words() {
+    for w in 0..docs.words() {
         sum += docs.list_len(w) as usize;
     }
     sum
@@ -36,7 +36,7 @@ fn starts_of(alloc: Global, docs: &Docs) -> Result<Vec<u32>, AllocError>
 {
     let mut starts = Vec::with_capacity(alloc, docs.words())?;
     let mut start = 0;
-    'words: for w in 0..docs.words() {
+    for w in 0..docs.words() {
         starts.push(start)?;
         start += docs.list_len(w);
     }
@@ -53,7 +53,7 @@ fn add_document(docs: &Docs, i: usize, ids: &mut [u64], next: &mut [u32])
 {
     let doc = docs.get(i);
     let id = doc.id.get();
-    'words: for number in doc.numbers {
+    for number in doc.numbers {
         let word = *number as usize;
         let at = next[word];
         ids[at as usize] = id;

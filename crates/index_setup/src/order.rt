@@ -27,7 +27,7 @@ pub(crate) fn first_clash(sorted: &[Tagged]) -> Option<(u32, u32)>
     ensures { (tags : List (List ℕ)) → IsOrderOf tags sorted.now → result ≡ clashes.first_clash tags }
 {
     let mut found = None;
-    'neighbours: for k in 1..sorted.len() {
+    for k in 1..sorted.len() {
         let before = sorted[k - 1];
         let here = sorted[k];
         if before.tag == here.tag {
@@ -60,7 +60,7 @@ pub(crate) fn ranks(alloc: Global, sorted: &[Tagged]) -> Result<Vec<u32>, AllocE
     ensures { IfOk result (λ ranks. (tags : List (List ℕ)) → IsOrderOf tags sorted.now → ranks.items ≡ ranks_of tags) }
 {
     let mut ranks = vec![in alloc; 0u32; sorted.len()]?;
-    'places: for (k, e) in sorted.iter().enumerate() {
+    for (k, e) in sorted.iter().enumerate() {
         ranks[e.position as usize] = k as u32;
     }
     Ok(ranks)

@@ -53,7 +53,7 @@ pub(crate) fn write_blocks<K: Keyed>(
     ensures { parts (8 * shape.big) array.new ≡ placed (parts (8 * shape.big) array.old) ranks.now (block_texts (keyed_fn K.prf K.pad) pads.old.key (record { b = shape.b; big = shape.big }) ranks.now ids.now) }
 {
     let size = shape.block_size();
-    'places: for (i, rank) in ranks.iter().enumerate() {
+    for (i, rank) in ranks.iter().enumerate() {
         let at = *rank as usize * size;
         let block = &mut array[at..at + size];
         lay_block(ids, ranks, shape.b, shape.big, i as u32, block);

@@ -26,8 +26,8 @@ use Rattle.index_setup.proofs.PlacedLaws.{parts-put_mid, slot_room}
 use Rattle.index_setup.proofs.RankWrites.{length-ranks_of, length-sorted, position_at_rank}
 use Rattle.index_setup.proofs.building.write_lists.Goals as goal
 
-pub words-init : goal.words-init
-words-init g c =
+pub loop-w-init : goal.loop-w-init
+loop-w-init g c =
     let f = keyed_fn g.K.Keyed.prf g.K.Keyed.pad in
     let s = setup_of c.args.docs.now c.args.shape.b c.args.shape.big in
     Remains-first f c.args.master.now s c.args.from.ids.now c.args.from.block_ranks.now _ _ c.args.from.word_ranks.now c.requires.ids c.requires.block_ranks
@@ -37,9 +37,9 @@ split_at-requires g c =
     let f = keyed_fn g.K.Keyed.prf g.K.Keyed.pad in
     let docs = c.args.docs.now in
     let s = setup_of docs c.args.shape.b c.args.shape.big in
-    let within : c.words.w < length (words_of docs) = omega (arith, c.words-w-end.ensures.words, c.words-test.true) in
-    ids_enough f c.args.master.now s c.words.w within c.words.ids.now c.words.ranks.now _ _ _ _ c.args.from.word_ranks.now c.words.invariant
-    c.list_len-n.result (list_at docs c.words.w c.list_len-n.result within c.list_len-n.ensures.length)
+    let within : c.loop-w.w < length (words_of docs) = omega (arith, c.words-w-end.ensures.words, c.loop-w-test.true) in
+    ids_enough f c.args.master.now s c.loop-w.w within c.loop-w.ids.now c.loop-w.ranks.now _ _ _ _ c.args.from.word_ranks.now c.loop-w.invariant
+    c.list_len-n.result (list_at docs c.loop-w.w c.list_len-n.result within c.list_len-n.ensures.length)
 
 -- the list of the word at w isn't too long
 planned_at : (s : Setup) (w n : ℕ) → setup_refusal s.documents s.shape.b s.shape.big ≡ None → w < length (setup_words s) → slice_get (list_lengths s.documents) w ≡ Some n → IsSome (plan s.shape n)
@@ -49,17 +49,17 @@ planned_at s w n accepted within at =
 
 pub blocks_in-requires-clause-planned : goal.blocks_in-requires-clause-planned
 blocks_in-requires-clause-planned g c =
-    planned_at (setup_of c.args.docs.now c.args.shape.b c.args.shape.big) c.words.w c.list_len-n.result c.requires.accepted
-    (omega (arith, c.words-w-end.ensures.words, c.words-test.true)) c.list_len-n.ensures.length
+    planned_at (setup_of c.args.docs.now c.args.shape.b c.args.shape.big) c.loop-w.w c.list_len-n.result c.requires.accepted
+    (omega (arith, c.words-w-end.ensures.words, c.loop-w-test.true)) c.list_len-n.ensures.length
 
-pub split_at-requires-in-words : goal.split_at-requires-in-words
-split_at-requires-in-words g c =
+pub split_at-requires-in-loop-w : goal.split_at-requires-in-loop-w
+split_at-requires-in-loop-w g c =
     let f = keyed_fn g.K.Keyed.prf g.K.Keyed.pad in
     let docs = c.args.docs.now in
     let s = setup_of docs c.args.shape.b c.args.shape.big in
-    let within : c.words.w < length (words_of docs) = omega (arith, c.words-w-end.ensures.words, c.words-test.true) in
-    ranks_enough f c.args.master.now s c.words.w within c.words.ids.now c.words.ranks.now _ _ _ _ c.args.from.word_ranks.now c.words.invariant
-    c.blocks_in.result (c.blocks_in.ensures ∙ ap (λ n. block_count (plan s.shape n)) (list_at docs c.words.w c.list_len-n.result within c.list_len-n.ensures.length))
+    let within : c.loop-w.w < length (words_of docs) = omega (arith, c.words-w-end.ensures.words, c.loop-w-test.true) in
+    ranks_enough f c.args.master.now s c.loop-w.w within c.loop-w.ids.now c.loop-w.ranks.now _ _ _ _ c.args.from.word_ranks.now c.loop-w.invariant
+    c.blocks_in.result (c.blocks_in.ensures ∙ ap (λ n. block_count (plan s.shape n)) (list_at docs c.loop-w.w c.list_len-n.result within c.list_len-n.ensures.length))
 
 -- there is a rank for each word
 ranked : (f : KeyedFn) (key : List ℕ) (s : Setup) (ranks : List ℕ) → ranks ≡ ranks_of (index_labels f key s) → length ranks ≡ length (setup_words s)
@@ -87,7 +87,7 @@ pub bounds-from-w : goal.bounds-from-w
 bounds-from-w g c =
     let f = keyed_fn g.K.Keyed.prf g.K.Keyed.pad in
     let s = setup_of c.args.docs.now c.args.shape.b c.args.shape.big in
-    omega (arith, ranked f c.args.master.now s c.args.from.word_ranks.now c.requires.word_ranks, c.words-w-end.ensures.words, c.words-test.true)
+    omega (arith, ranked f c.args.master.now s c.args.from.word_ranks.now c.requires.word_ranks, c.words-w-end.ensures.words, c.loop-w-test.true)
 
 -- an entry written over its slot
 entry_put : (r size z y : ℕ) (bytes new : List ℕ) → z ≡ size → y ≡ size → (r + 1) * size ≤ length bytes → length new ≡ length (take (r * z + y - r * z) (drop (r * z) bytes))
@@ -109,38 +109,38 @@ slice_bounds-entry-end g c =
     let docs = c.args.docs.now in
     let s = setup_of docs c.args.shape.b c.args.shape.big in
     let size = 17 + 8 * c.args.shape.b in
-    let within : c.words.w < length (words_of docs) = omega (arith, c.words-w-end.ensures.words, c.words-test.true) in
-    let place = labelled f c.args.master.now s c.args.from.labels.now c.args.from.word_ranks.now c.words.w c.requires.labels c.requires.word_ranks within in
-    let r : ℕ = get_or c.args.from.word_ranks.now c.words.w 0 in
-    let room : (r + 1) * size ≤ length c.words.entries = slot_within r (length (words_of docs)) size (length c.words.entries) place.0 (c.words.auto.entries ∙ c.requires.entries_size) in
+    let within : c.loop-w.w < length (words_of docs) = omega (arith, c.words-w-end.ensures.words, c.loop-w-test.true) in
+    let place = labelled f c.args.master.now s c.args.from.labels.now c.args.from.word_ranks.now c.loop-w.w c.requires.labels c.requires.word_ranks within in
+    let r : ℕ = get_or c.args.from.word_ranks.now c.loop-w.w 0 in
+    let room : (r + 1) * size ≤ length c.loop-w.entries = slot_within r (length (words_of docs)) size (length c.loop-w.entries) place.0 (c.loop-w.auto.entries ∙ c.requires.entries_size) in
     let one : r * c.entry_size.result ≡ r * size = ap (λ n. r * n) c.entry_size.ensures in
-    omega (arith, room, one, c.entry_size-in-words.ensures)
+    omega (arith, room, one, c.entry_size-in-loop-w.ensures)
 
 pub bounds-from-place : goal.bounds-from-place
 bounds-from-place g c =
     let f = keyed_fn g.K.Keyed.prf g.K.Keyed.pad in
     let docs = c.args.docs.now in
     let s = setup_of docs c.args.shape.b c.args.shape.big in
-    let within : c.words.w < length (words_of docs) = omega (arith, c.words-w-end.ensures.words, c.words-test.true) in
-    (labelled f c.args.master.now s c.args.from.labels.now c.args.from.word_ranks.now c.words.w c.requires.labels c.requires.word_ranks within).1
+    let within : c.loop-w.w < length (words_of docs) = omega (arith, c.words-w-end.ensures.words, c.loop-w-test.true) in
+    (labelled f c.args.master.now s c.args.from.labels.now c.args.from.word_ranks.now c.loop-w.w c.requires.labels c.requires.word_ranks within).1
 
 pub write_entry-requires-clause-planned : goal.write_entry-requires-clause-planned
 write_entry-requires-clause-planned g c =
     subst (λ n. IsSome (plan (record { b = c.args.shape.b; big = c.args.shape.big }) n)) (sym c.split_at.ensures.front_len)
-    (planned_at (setup_of c.args.docs.now c.args.shape.b c.args.shape.big) c.words.w c.list_len-n.result c.requires.accepted
-    (omega (arith, c.words-w-end.ensures.words, c.words-test.true)) c.list_len-n.ensures.length)
+    (planned_at (setup_of c.args.docs.now c.args.shape.b c.args.shape.big) c.loop-w.w c.list_len-n.result c.requires.accepted
+    (omega (arith, c.words-w-end.ensures.words, c.loop-w-test.true)) c.list_len-n.ensures.length)
 
 pub write_blocks-requires-clause-most : goal.write_blocks-requires-clause-most
 write_blocks-requires-clause-most g c =
     let f = keyed_fn g.K.Keyed.prf g.K.Keyed.pad in
     let docs = c.args.docs.now in
     let s = setup_of docs c.args.shape.b c.args.shape.big in
-    let within : c.words.w < length (words_of docs) = omega (arith, c.words-w-end.ensures.words, c.words-test.true) in
+    let within : c.loop-w.w < length (words_of docs) = omega (arith, c.words-w-end.ensures.words, c.loop-w-test.true) in
     omega (
       arith,
-      c.split_at-in-words.ensures.front_len,
-      ranks_few f c.args.master.now s c.words.w within c.words.ids.now c.words.ranks.now _ _ _ _ c.args.from.word_ranks.now c.words.invariant
-          c.blocks_in.result (c.blocks_in.ensures ∙ ap (λ n. block_count (plan s.shape n)) (list_at docs c.words.w c.list_len-n.result within c.list_len-n.ensures.length)),
+      c.split_at-in-loop-w.ensures.front_len,
+      ranks_few f c.args.master.now s c.loop-w.w within c.loop-w.ids.now c.loop-w.ranks.now _ _ _ _ c.args.from.word_ranks.now c.loop-w.invariant
+          c.blocks_in.result (c.blocks_in.ensures ∙ ap (λ n. block_count (plan s.shape n)) (list_at docs c.loop-w.w c.list_len-n.result within c.list_len-n.ensures.length)),
       blocks_within s c.words-w-end.ensures.valid c.requires.accepted,
     )
 
@@ -149,37 +149,37 @@ write_blocks-requires-clause-places g c = λ k d inside.
     let f = keyed_fn g.K.Keyed.prf g.K.Keyed.pad in
     let docs = c.args.docs.now in
     let s = setup_of docs c.args.shape.b c.args.shape.big in
-    let within : c.words.w < length (words_of docs) = omega (arith, c.words-w-end.ensures.words, c.words-test.true) in
-    let places = c.split_at-in-words.result.0.now in
+    let within : c.loop-w.w < length (words_of docs) = omega (arith, c.words-w-end.ensures.words, c.loop-w-test.true) in
+    let places = c.split_at-in-loop-w.result.0.now in
     let low : get_or places k d < length (setup_ranks f c.args.master.now s) =
-    rank_within f c.args.master.now s c.words.w within c.words.ids.now c.words.ranks.now _ _ _ _ c.args.from.word_ranks.now c.words.invariant
-    c.blocks_in.result places c.split_at-in-words.ensures.front k d inside in
-    slot_within (get_or places k d) (length (setup_ranks f c.args.master.now s)) (8 * c.args.shape.big) (length c.words.array) low
-    (c.words.auto.array ∙ c.requires.array_size ∙ ap (λ rs. length rs * (8 * c.args.shape.big)) c.requires.block_ranks)
+    rank_within f c.args.master.now s c.loop-w.w within c.loop-w.ids.now c.loop-w.ranks.now _ _ _ _ c.args.from.word_ranks.now c.loop-w.invariant
+    c.blocks_in.result places c.split_at-in-loop-w.ensures.front k d inside in
+    slot_within (get_or places k d) (length (setup_ranks f c.args.master.now s)) (8 * c.args.shape.big) (length c.loop-w.array) low
+    (c.loop-w.auto.array ∙ c.requires.array_size ∙ ap (λ rs. length rs * (8 * c.args.shape.big)) c.requires.block_ranks)
 
-pub words-preserved : goal.words-preserved
-words-preserved g c =
+pub loop-w-preserved : goal.loop-w-preserved
+loop-w-preserved g c =
     let f = keyed_fn g.K.Keyed.prf g.K.Keyed.pad in
     let docs = c.args.docs.now in
     let s = setup_of docs c.args.shape.b c.args.shape.big in
-    let w = c.words.w in
+    let w = c.loop-w.w in
     let size = 17 + 8 * c.args.shape.b in
-    let within : w < length (words_of docs) = omega (arith, c.words-w-end.ensures.words, c.words-test.true) in
+    let within : w < length (words_of docs) = omega (arith, c.words-w-end.ensures.words, c.loop-w-test.true) in
     let word : List ℕ = word_bytes c.word.result.now in
     let word_is : word ≡ get_or (words_of docs) w [] = sym (get_or_from_slice_get (words_of docs) w word [] c.word.ensures) in
     let n_is = list_at docs w c.list_len-n.result within c.list_len-n.ensures.length in
     let count_is = c.blocks_in.ensures ∙ ap (λ n. block_count (plan s.shape n)) n_is in
     let place = labelled f c.args.master.now s c.args.from.labels.now c.args.from.word_ranks.now w c.requires.labels c.requires.word_ranks within in
     let r : ℕ = get_or c.args.from.word_ranks.now w 0 in
-    let room : (r + 1) * size ≤ length c.words.entries = slot_within r (length (words_of docs)) size (length c.words.entries) place.0 (c.words.auto.entries ∙ c.requires.entries_size) in
-    let written : parts size (put_mid (r * c.entry_size.result) (r * c.entry_size.result + c.entry_size-in-words.result - r * c.entry_size.result) c.words.entries c.write_entry.new.out)
-    ≡ set (parts size c.words.entries) r c.write_entry.new.out =
-    entry_put r size c.entry_size.result c.entry_size-in-words.result c.words.entries c.write_entry.new.out c.entry_size.ensures c.entry_size-in-words.ensures room c.write_entry.auto.out (omega arith) in
-    Remains-more f c.args.master.now s w within c.words.ids.now c.words.ranks.now _ _ _ _ c.args.from.word_ranks.now c.words.invariant
+    let room : (r + 1) * size ≤ length c.loop-w.entries = slot_within r (length (words_of docs)) size (length c.loop-w.entries) place.0 (c.loop-w.auto.entries ∙ c.requires.entries_size) in
+    let written : parts size (put_mid (r * c.entry_size.result) (r * c.entry_size.result + c.entry_size-in-loop-w.result - r * c.entry_size.result) c.loop-w.entries c.write_entry.new.out)
+    ≡ set (parts size c.loop-w.entries) r c.write_entry.new.out =
+    entry_put r size c.entry_size.result c.entry_size-in-loop-w.result c.loop-w.entries c.write_entry.new.out c.entry_size.ensures c.entry_size-in-loop-w.ensures room c.write_entry.auto.out (omega arith) in
+    Remains-more f c.args.master.now s w within c.loop-w.ids.now c.loop-w.ranks.now _ _ _ _ c.args.from.word_ranks.now c.loop-w.invariant
     c.list_len-n.result c.blocks_in.result n_is count_is
-    word c.split_at.result.0.now c.split_at-in-words.result.0.now word_is c.split_at.ensures.front c.split_at-in-words.ensures.front
+    word c.split_at.result.0.now c.split_at-in-loop-w.result.0.now word_is c.split_at.ensures.front c.split_at-in-loop-w.ensures.front
     c.list_pads-pads.result c.next.result c.next.new.self c.list_pads-pads.ensures c.next.ensures.slot c.next.ensures.after
-    r (at c.args.from.labels.now r).tag c.write_entry.new.out c.split_at.result.1.now c.split_at-in-words.result.1.now _ _ c.split_at.ensures.back c.split_at-in-words.ensures.back (omega (arith, ranked f c.args.master.now s c.args.from.word_ranks.now c.requires.word_ranks, within)) refl
+    r (at c.args.from.labels.now r).tag c.write_entry.new.out c.split_at.result.1.now c.split_at-in-loop-w.result.1.now _ _ c.split_at.ensures.back c.split_at-in-loop-w.ensures.back (omega (arith, ranked f c.args.master.now s c.args.from.word_ranks.now c.requires.word_ranks, within)) refl
     place.2 c.write_entry.ensures written c.write_blocks.ensures
 
 pub returns-clause-entries : goal.returns-clause-entries
@@ -187,14 +187,14 @@ returns-clause-entries g c =
     let f = keyed_fn g.K.Keyed.prf g.K.Keyed.pad in
     let docs = c.args.docs.now in
     let s = setup_of docs c.args.shape.b c.args.shape.big in
-    (all_written f c.args.master.now s c.words.w c.words.ids.now c.words.ranks.now _ _ _ _ c.args.from.word_ranks.now
-    (omega (arith, c.words-w-end.ensures.words, c.words-test.false)) c.words.invariant).0
+    (all_written f c.args.master.now s c.loop-w.w c.loop-w.ids.now c.loop-w.ranks.now _ _ _ _ c.args.from.word_ranks.now
+    (omega (arith, c.words-w-end.ensures.words, c.loop-w-test.false)) c.loop-w.invariant).0
 
 pub returns-clause-array : goal.returns-clause-array
 returns-clause-array g c =
     let f = keyed_fn g.K.Keyed.prf g.K.Keyed.pad in
     let docs = c.args.docs.now in
     let s = setup_of docs c.args.shape.b c.args.shape.big in
-    (all_written f c.args.master.now s c.words.w c.words.ids.now c.words.ranks.now _ _ _ _ c.args.from.word_ranks.now
-    (omega (arith, c.words-w-end.ensures.words, c.words-test.false)) c.words.invariant).1
+    (all_written f c.args.master.now s c.loop-w.w c.loop-w.ids.now c.loop-w.ranks.now _ _ _ _ c.args.from.word_ranks.now
+    (omega (arith, c.words-w-end.ensures.words, c.loop-w-test.false)) c.loop-w.invariant).1
     ∙ ap (λ rs. placed (parts (8 * c.args.shape.big) c.args.array.now) rs (map (λ block. block.text) (setup_blocks f c.args.master.now s))) (sym c.requires.block_ranks)

@@ -6,5 +6,5 @@ use Rattle.index_setup.specs.Tagged.{tagged_from}
 use Rattle.index_setup.proofs.labels.labels_of.Given as goal
 
 -- the labels of the first w words
-abbrev pub invariant-words : goal.invariant-words
-invariant-words g l = l.labels.items ≡ tagged_from 0 (word_labels (keyed_fn g.K.Keyed.prf g.K.Keyed.pad) l.master (take l.w (words_of l.docs)))
+abbrev pub invariant-loop-w : goal.invariant-loop-w
+invariant-loop-w g l = l.labels.items ≡ tagged_from 0 (word_labels (keyed_fn g.K.Keyed.prf g.K.Keyed.pad) l.master (take l.w (words_of l.docs)))

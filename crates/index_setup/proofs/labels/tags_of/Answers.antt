@@ -20,7 +20,7 @@ pub blocks_in-count-requires : goal.blocks_in-count-requires
 blocks_in-count-requires g c =
     let s : Shape = record { b = c.args.shape.b; big = c.args.shape.big } in
     let lengths = list_lengths c.args.docs.now in
-    let w = c.words.w in
+    let w = c.loop-w.w in
     let within : w < length lengths = omega (arith, length-map (words_of c.args.docs.now) (λ word. length (ids_with c.args.docs.now word)), c.words-w-end.ensures.words) in
     let is = get_or_from_slice_get lengths w c.list_len.result 0 c.list_len.ensures.length in
     record { some = c.list_len.ensures.some; planned = subst (λ n. IsSome (plan s n)) is (c.requires.planned w 0 within) }
@@ -38,20 +38,20 @@ pub push_tags-requires : goal.push_tags-requires
 push_tags-requires g c =
     let s : Shape = record { b = c.args.shape.b; big = c.args.shape.big } in
     let docs = c.args.docs.now in
-    let w = c.words.w in
+    let w = c.loop-w.w in
     let within : w < length (words_of docs) = omega (arith, c.words-w-end.ensures.words) in
     let F = λ (v : List ℕ). map (place_tag (keyed_fn g.K.Keyed.prf g.K.Keyed.pad) (part_key (keyed_fn g.K.Keyed.prf g.K.Keyed.pad) c.args.master.now 6 v)) (range_with_len 0 (block_count (plan s (length (ids_with docs v))))) in
     let count = counted s docs w c.list_len.result c.blocks_in-count.result within c.list_len.ensures.length c.blocks_in-count.ensures in
     let size : length (F (get_or (words_of docs) w [])) ≡ c.blocks_in-count.result = length-map-range_with_len (place_tag (keyed_fn g.K.Keyed.prf g.K.Keyed.pad) (part_key (keyed_fn g.K.Keyed.prf g.K.Keyed.pad) c.args.master.now 6 (get_or (words_of docs) w []))) 0 (block_count (plan s (length (ids_with docs (get_or (words_of docs) w []))))) ∙ sym count in
-    let room = tagged-flat_map_room F (words_of docs) w c.words.tags.items within c.words.invariant in
-    omega (arith, room, size, c.requires.most, c.words.tags.ok.0)
+    let room = tagged-flat_map_room F (words_of docs) w c.loop-w.tags.items within c.loop-w.invariant in
+    omega (arith, room, size, c.requires.most, c.loop-w.tags.ok.0)
 
-pub words-preserved : goal.words-preserved
-words-preserved g c =
+pub loop-w-preserved : goal.loop-w-preserved
+loop-w-preserved g c =
     let f = keyed_fn g.K.Keyed.prf g.K.Keyed.pad in
     let s : Shape = record { b = c.args.shape.b; big = c.args.shape.big } in
     let docs = c.args.docs.now in
-    let w = c.words.w in
+    let w = c.loop-w.w in
     let words = words_of docs in
     let within : w < length words = omega (arith, c.words-w-end.ensures.words) in
     let word = word_bytes c.word.result.now in
@@ -59,15 +59,15 @@ words-preserved g c =
     let is : word ≡ get_or words w [] = sym (get_or_from_slice_get words w word [] c.word.ensures) in
     let count = counted s docs w c.list_len.result c.blocks_in-count.result within c.list_len.ensures.length c.blocks_in-count.ensures in
     c.in_ok-push_tags.ensures
-    ∙ tagged-flat_map_more (λ v. tags v (block_count (plan s (length (ids_with docs v))))) words w c.words.tags.items
-    (tagged_from (vec_len c.words.tags) (tags word c.blocks_in-count.result)) within c.words.invariant
-    (ap (λ v. tagged_from (vec_len c.words.tags) (tags v c.blocks_in-count.result)) is
-    ∙ ap (λ n. tagged_from (vec_len c.words.tags) (tags (get_or words w []) n)) count
-    ∙ ap (λ n. tagged_from n (tags (get_or words w []) (block_count (plan s (length (ids_with docs (get_or words w []))))))) c.words.tags.ok.0)
+    ∙ tagged-flat_map_more (λ v. tags v (block_count (plan s (length (ids_with docs v))))) words w c.loop-w.tags.items
+    (tagged_from (vec_len c.loop-w.tags) (tags word c.blocks_in-count.result)) within c.loop-w.invariant
+    (ap (λ v. tagged_from (vec_len c.loop-w.tags) (tags v c.blocks_in-count.result)) is
+    ∙ ap (λ n. tagged_from (vec_len c.loop-w.tags) (tags (get_or words w []) n)) count
+    ∙ ap (λ n. tagged_from n (tags (get_or words w []) (block_count (plan s (length (ids_with docs (get_or words w []))))))) c.loop-w.tags.ok.0)
 
 pub returns : goal.returns
 returns g c =
     let f = keyed_fn g.K.Keyed.prf g.K.Keyed.pad in
     let words = words_of c.args.docs.now in
-    c.words.invariant
-    ∙ ap (λ vs. tagged_from 0 (block_tags f c.args.master.now (record { b = c.args.shape.b; big = c.args.shape.big }) c.args.docs.now vs)) (take_all c.words.w words (omega (arith, c.words-w-end.ensures.words, c.words-test.false)))
+    c.loop-w.invariant
+    ∙ ap (λ vs. tagged_from 0 (block_tags f c.args.master.now (record { b = c.args.shape.b; big = c.args.shape.big }) c.args.docs.now vs)) (take_all c.loop-w.w words (omega (arith, c.words-w-end.ensures.words, c.loop-w-test.false)))

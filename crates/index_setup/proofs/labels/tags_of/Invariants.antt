@@ -6,6 +6,6 @@ use Rattle.index_setup.specs.Tagged.{tagged_from}
 use Rattle.index_setup.proofs.labels.tags_of.Given as goal
 
 -- the tags of the blocks of the first w words
-abbrev pub invariant-words : goal.invariant-words
-invariant-words g l =
+abbrev pub invariant-loop-w : goal.invariant-loop-w
+invariant-loop-w g l =
     l.tags.items ≡ tagged_from 0 (block_tags (keyed_fn g.K.Keyed.prf g.K.Keyed.pad) l.master (record { b = l.shape.b; big = l.shape.big }) l.docs (take l.w (words_of l.docs)))

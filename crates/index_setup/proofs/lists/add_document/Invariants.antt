@@ -6,6 +6,6 @@ use Rattle.index_setup.proofs.AddedWords.{lists_with}
 use Rattle.index_setup.proofs.lists.add_document.Given as goal
 
 -- the lists have the identifier behind those of the first words of the document
-abbrev pub invariant-words : goal.invariant-words
-invariant-words l =
+abbrev pub invariant-loop-number : goal.invariant-loop-number
+invariant-loop-number l =
     HoldsLists (list_lengths l.docs) (lists_with l.docs (take l.i l.docs) l.id (words_by_number (words_of l.docs) (take l.number-index l.number-items))) l.ids l.next

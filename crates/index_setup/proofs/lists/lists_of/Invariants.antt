@@ -4,8 +4,8 @@ use Rattle.index_setup.specs.Lists.{lists_among, HoldsLists}
 use Rattle.index_setup.proofs.lists.lists_of.Given as goal
 
 -- the lists have the identifiers of the first i documents
-abbrev pub invariant-documents : goal.invariant-documents
-invariant-documents l = record {
+abbrev pub invariant-loop-i : goal.invariant-loop-i
+invariant-loop-i l = record {
   most : length l.ids.items ≤ 2 ^ 20;
   holds : HoldsLists (list_lengths l.docs) (lists_among l.docs (take l.i l.docs)) l.ids.items l.next.items;
 }

@@ -7,29 +7,29 @@ use Rattle.index_setup.proofs.lists.starts_of.Goals as goal
 
 pub overflow_add-start : goal.overflow_add-start
 overflow_add-start c =
-    let within : c.words.w < length (words_of c.args.docs.now) = omega (arith, c.words-w-end.ensures.words) in
-    let most = sum_lengths-within c.args.docs.now c.words-w-end.ensures.valid c.words.w c.list_len-start.result within c.list_len-start.ensures.length in
-    omega (arith, most, c.words.invariant.start)
+    let within : c.loop-w.w < length (words_of c.args.docs.now) = omega (arith, c.words-w-end.ensures.words) in
+    let most = sum_lengths-within c.args.docs.now c.words-w-end.ensures.valid c.loop-w.w c.list_len-start.result within c.list_len-start.ensures.length in
+    omega (arith, most, c.loop-w.invariant.start)
 
-pub words-preserved : goal.words-preserved
-words-preserved c =
+pub loop-w-preserved : goal.loop-w-preserved
+loop-w-preserved c =
     let docs = c.args.docs.now in
     let lens = list_lengths docs in
-    let w = c.words.w in
+    let w = c.loop-w.w in
     let within : w < length (words_of docs) = omega (arith, c.words-w-end.ensures.words) in
     record {
       starts =
           c.in_ok-push.ensures.items
-          ∙ ap (λ ks. ks ++ c.words.start ∷ []) c.words.invariant.starts
-          ∙ ap (λ k. starts_from 0 (take w lens) ++ k ∷ []) c.words.invariant.start
+          ∙ ap (λ ks. ks ++ c.loop-w.start ∷ []) c.loop-w.invariant.starts
+          ∙ ap (λ k. starts_from 0 (take w lens) ++ k ∷ []) c.loop-w.invariant.start
           ∙ sym (starts_from-more lens w (omega (arith, within, length-map (words_of docs) (λ word. length (ids_with docs word)))));
       start =
-          ap (λ k. k + c.list_len-start.result) c.words.invariant.start
+          ap (λ k. k + c.list_len-start.result) c.loop-w.invariant.start
           ∙ sym (sum_lengths-more docs c.words-w-end.ensures.valid w c.list_len-start.result within c.list_len-start.ensures.length);
     }
 
 pub returns : goal.returns
 returns c =
     let lens = list_lengths c.args.docs.now in
-    c.words.invariant.starts
-    ∙ ap (starts_from 0) (take_all c.words.w lens (omega (arith, c.words-w-end.ensures.words, c.words-test.false, length-map (words_of c.args.docs.now) (λ word. length (ids_with c.args.docs.now word)))))
+    c.loop-w.invariant.starts
+    ∙ ap (starts_from 0) (take_all c.loop-w.w lens (omega (arith, c.words-w-end.ensures.words, c.loop-w-test.false, length-map (words_of c.args.docs.now) (λ word. length (ids_with c.args.docs.now word)))))

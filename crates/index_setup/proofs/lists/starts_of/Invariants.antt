@@ -5,8 +5,8 @@ use Rattle.index_setup.specs.Lists.{starts_from}
 use Rattle.index_setup.proofs.lists.starts_of.Given as goal
 
 -- where the first w lists begin, and the next one
-abbrev pub invariant-words : goal.invariant-words
-invariant-words l = record {
+abbrev pub invariant-loop-w : goal.invariant-loop-w
+invariant-loop-w l = record {
   starts : l.starts.items ≡ starts_from 0 (take l.w (list_lengths l.docs));
   start : l.start ≡ sum (take l.w (list_lengths l.docs));
 }

@@ -2,8 +2,8 @@ use Rattle.std.proofs.Common.{◌≤◌, ◌+◌, length}
 use Rattle.index_setup.proofs.FoundClash.{IsFound}
 use Rattle.index_setup.proofs.order.first_clash.Given as goal
 
-abbrev pub invariant-neighbours : goal.invariant-neighbours
-invariant-neighbours l = record {
+abbrev pub invariant-loop-k : goal.invariant-loop-k
+invariant-loop-k l = record {
   found : IsFound l.sorted l.k l.found;
   most : l.k ≤ 1 + length l.sorted;
 }

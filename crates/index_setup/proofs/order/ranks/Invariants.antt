@@ -6,8 +6,8 @@ use Rattle.index_setup.proofs.Ranks.{pos}
 use Rattle.index_setup.proofs.order.ranks.Given as goal
 
 -- the positions of the first k of the sorted have their ranks
-abbrev pub invariant-places : goal.invariant-places
-invariant-places l = record {
+abbrev pub invariant-loop-k : goal.invariant-loop-k
+invariant-loop-k l = record {
   count : length l.ranks.items ≡ length l.sorted;
   written : (tags : List (List ℕ)) → IsOrderOf tags l.sorted → (m : ℕ) → m < l.k → get_or l.ranks.items (pos (at l.sorted m)) 0 ≡ get_or (ranks_of tags) (pos (at l.sorted m)) 0;
 }
