@@ -1,0 +1,4 @@
+pub mod Replied
+pub mod Appended
+pub mod InOrder
+pub mod PagesTaken

@@ -1,0 +1,103 @@
+ghost use Rattle.std.specs.Prelude.{◌≡◌, ◌≤◌, ◌++◌, length, OnErr, OnOk};
+ghost use Rattle.std.specs.Int.{w64, from_be_bytes};
+ghost use Rattle.sse_frames.specs.Seen.{numbers_in};
+ghost use Rattle.client_replies.specs.declared.found.TheConstants.{MAX_PAGES};
+
+use crate::page_in::page_in;
+use crate::reply_fault::{ReplyFault, fault_of};
+use std::alloc::{AllocError, Global};
+
+/// How many pages an answer has at most.
+pub const MAX_PAGES: u32 = 1 << 20;
+
+/// The identifiers of the pages of a search that came so far.
+#[derive(Debug, Drop)]
+pub struct Found {
+    ids: Vec<u64>,
+    pages: u32,
+    pub ghost most: { pages ≤ MAX_PAGES },
+}
+
+/// Whether a search has more pages to come.
+#[derive(Debug, Clone, Copy, PartialEq, Eq)]
+pub enum Progress {
+    More,
+    Done,
+}
+
+impl Found {
+    ghost use Rattle.std.specs.Prelude.{◌+◌, [], false, IsErrOf};
+    ghost use Rattle.client_registry.specs.Live.{in_order};
+    ghost use Rattle.sse_frames.specs.Replies.{reply_bytes, Page, StoreFault};
+    ghost use Rattle.client_replies.specs.Pages.{AfterPage};
+
+    /// No page has come.
+    pub fn new(alloc: Global) -> Found
+        ensures pages { result.pages ≡ 0 }
+        ensures ids { result.ids.items ≡ [] }
+    {
+        Found {
+            ids: Vec::new(alloc),
+            pages: 0,
+        }
+    }
+
+    /// Takes the next page, with its four length bytes. A page that isn't the last holds 8,192
+    /// identifiers, a last one that isn't the first at least one, and there are at most 2^20 pages;
+    /// else it is `BadReply`. After a refusal the pages taken are as before.
+    pub fn page(&mut self, reply: &[u8]) -> Result<Progress, ReplyFault>
+        ensures after { AfterPage self.old reply.now self.new result }
+        ensures counted { OnOk result (self.new.pages ≡ self.old.pages + 1) }
+        ensures more { result ≡ Ok Progress.More → (ids : _) × (reply.now ≡ reply_bytes (Page false ids)) }
+        ensures kept { OnErr result (self.new.ids.items ≡ self.old.ids.items) }
+        ensures kept_pages { OnErr result (self.new.pages ≡ self.old.pages) }
+        ensures store { IsErrOf result ReplyFault.StoreFault → reply.now ≡ reply_bytes StoreFault }
+    {
+        let Some((last, ids)) = page_in(reply) else {
+            return Err(fault_of(reply));
+        };
+        if self.pages == MAX_PAGES || (self.pages > 0 && ids.is_empty()) {
+            return Err(ReplyFault::BadReply);
+        }
+        append_ids(&mut self.ids, ids)?;
+        self.pages += 1;
+        if last {
+            Ok(Progress::Done)
+        } else {
+            Ok(Progress::More)
+        }
+    }
+
+    /// The identifiers that came, rising, repeats included.
+    pub fn finish(self) -> Vec<u64>
+        ensures { result.items ≡ in_order self.ids.items }
+    {
+        let Found { mut ids, pages: _ } = self;
+        ids.sort_unstable();
+        ids
+    }
+}
+
+/// Appends the identifiers, 8 bytes each, high byte first; all of them or none.
+fn append_ids(out: &mut Vec<u64>, ids: &[u8]) -> Result<(), AllocError>
+    ensures ok { OnOk result (out.new.items ≡ out.old.items ++ numbers_in ids.now) }
+    ensures err { OnErr result (out.new.items ≡ out.old.items) }
+{
+    let count = ids.len() / 8;
+    out.reserve(count)?;
+    for i in 0..count {
+        out.push_reserved(number_of(&ids[8 * i..8 * i + 8]));
+    }
+    Ok(())
+}
+
+/// The number of 8 bytes, high byte first.
+fn number_of(bytes: &[u8]) -> u64
+    requires { length bytes.now ≡ 8 }
+    ensures { result ≡ from_be_bytes w64 bytes.now }
+{
+    match bytes {
+        [a, b, c, d, e, f, g, h] => u64::from_be_bytes([*a, *b, *c, *d, *e, *f, *g, *h]),
+        _ => 0,
+    }
+}
