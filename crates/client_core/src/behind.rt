@@ -1,41 +1,60 @@
-ghost use Rattle.std.specs.Prelude.{◌≡◌, ◌+◌, ◌≤◌, ◌<◌, ◌^◌, slice_index_or, take, vec_len};
-ghost use Rattle.sse_frames.specs.Frames.{SetupEnd, frame_bytes};
-ghost use Rattle.client_core.specs.Setup.{frames_in, index_frames};
+ghost use Rattle.std.specs.Prelude.{◌≡◌, ◌+◌, ◌<◌, ◌∷◌, [], drop, take, IfSome, None};
+ghost use Rattle.sse_frames.specs.Frames.{IsNumber};
+ghost use Rattle.client_core.specs.Sending.{left_of, number_of_first, owed_frames};
 
-use crate::planned::Planned;
-use crate::setup_frames::frame_at;
-use sse_frames::write_frame_into;
+use crate::owed_setup::OwedSetup;
+use crate::owed_update::OwedUpdate;
+use crate::ready::Ready;
 
-/// The state of a client with frames that the server may lack: those of the plan from `place` on, the first of them
-/// under the number `next`. That one is written, at the front of the plan's room.
-#[derive(Debug, Drop)]
+/// The state of a client with frames that the server may lack, and its state once they are acknowledged.
+#[derive(Drop)]
 pub struct Behind {
-    pub(crate) planned: Planned,
-    pub(crate) place: u32,
-    pub(crate) next: u32,
-    pub(crate) size: usize,
-    ghost left: { place < frames_in planned.index },
-    ghost numbers: { next + frames_in planned.index < 2 ^ 32 + place },
-    ghost within: { size ≤ vec_len planned.room },
-    ghost written: { take size planned.room.items ≡ frame_bytes (slice_index_or (index_frames planned.index) place (λ n. SetupEnd n) next) },
+    pub(crate) ready: Ready,
+    pub(crate) owed: Owed,
 }
 
-impl Behind {
-    /// The frames of the plan from this place on are left, the first of them under the number `next`. It takes no memory.
-    pub(crate) fn at(planned: Planned, place: u32, next: u32) -> Behind
-        requires left { place < frames_in planned.index }
-        requires numbers { next + frames_in planned.index < 2 ^ 32 + place }
-        ensures index { result.planned.index ≡ planned.index }
-        ensures place { result.place ≡ place }
-        ensures next { result.next ≡ next }
+/// The frames that the server may lack, at least one: of a setup or of one update.
+#[derive(Drop)]
+pub(crate) enum Owed {
+    Setup(OwedSetup),
+    Update(OwedUpdate),
+}
+
+impl Owed {
+    /// The bytes of the first frame, with its four length bytes.
+    pub(crate) fn frame(&self) -> &[u8]
+        ensures { take 1 (owed_frames self.now) ≡ result.now ∷ [] }
     {
-        let Planned { index, mut room } = planned;
-        let size = write_frame_into(&frame_at(&index, place, next), &mut room);
-        Behind {
-            planned: Planned { index, room },
-            place,
-            next,
-            size,
+        match self {
+            Owed::Setup(setup) => setup.frame(),
+            Owed::Update(update) => update.frame.as_slice(),
+        }
+    }
+
+    /// The number of the first frame.
+    pub(crate) fn number(&self) -> u32
+        ensures first { result ≡ number_of_first self.now }
+        ensures number { IsNumber result }
+    {
+        match self {
+            Owed::Setup(setup) => setup.next,
+            Owed::Update(update) => update.number,
+        }
+    }
+
+    /// The frames behind the first; nothing where there are none. It takes no memory.
+    pub(crate) fn behind_first(self) -> Option<Owed>
+        ensures left { IfSome result (λ owed. owed_frames owed ≡ drop 1 (owed_frames self)) }
+        ensures next { IfSome result (λ owed. number_of_first owed ≡ number_of_first self + 1) }
+        ensures less { IfSome result (λ owed. left_of owed < left_of self) }
+        ensures last { result ≡ None → drop 1 (owed_frames self) ≡ [] }
+    {
+        match self {
+            Owed::Setup(setup) => match setup.behind_first() {
+                Some(left) => Some(Owed::Setup(left)),
+                None => None,
+            },
+            Owed::Update(_) => None,
         }
     }
 }

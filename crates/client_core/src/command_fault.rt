@@ -1,6 +1,8 @@
 ghost use Rattle.std.specs.Prelude.{◌≡◌, ◌+◌, ◌-◌, ◌<◌, ◌≤◌, ◌^◌, ◌↔◌, Ok, Err};
 
 use std::alloc::{AllocError, AllocFailed};
+use std::error::Error;
+use std::fmt;
 
 /// Why an addition or a deletion isn't planned.
 #[derive(Clone, Copy, Debug, PartialEq, Eq)]
@@ -24,6 +26,46 @@ pub enum CommandFault {
 /// The history can't have so many update frames.
 #[derive(Clone, Copy, Debug, PartialEq, Eq)]
 pub struct HistoryFull;
+
+impl fmt::Display for HistoryFull {
+    ghost use Rattle.std.specs.Prelude.{Some};
+    ghost use Rattle.client_core.specs.Texts.{history_full_text};
+
+    ghost output = { λ _. Some history_full_text };
+
+    fn fmt<W: fmt::Write>(&self, f: &mut fmt::Formatter<W>) -> fmt::Result {
+        f.write_str("a history has at most 4294967295 update frames, and this one had them")
+    }
+}
+
+impl Error for HistoryFull {}
+
+impl fmt::Display for CommandFault {
+    ghost use Rattle.std.specs.Prelude.{Some};
+    ghost use Rattle.client_core.specs.Texts.{command_fault_text};
+
+    ghost output = { λ fault. Some (command_fault_text fault) };
+
+    fn fmt<W: fmt::Write>(&self, f: &mut fmt::Formatter<W>) -> fmt::Result {
+        match self {
+            CommandFault::AlreadyLive(id) => write!(f, "document {id} is there already"),
+            CommandFault::UnknownDocument(id) => write!(f, "there is no document {id}"),
+            CommandFault::CounterFull(at) => {
+                write!(f, "word {at} from 0 has had 4294967295 additions")
+            }
+            CommandFault::HistoryFull => HistoryFull.fmt(f),
+            CommandFault::LabelClash { first, second } => {
+                write!(f, "the labels of the words {first} and {second} are equal")
+            }
+            CommandFault::NumberClash { first, second } => {
+                write!(f, "the numbers of the words {first} and {second} are equal")
+            }
+            CommandFault::NoMemory => f.write_str("out of memory"),
+        }
+    }
+}
+
+impl Error for CommandFault {}
 
 /// How many update frames there are after so many more. Error: exactly where there would be more than 2^32-1.
 pub fn frames_after(total: u32, more: u32) -> Result<u32, HistoryFull>

@@ -1,20 +1,24 @@
-ghost use Rattle.std.specs.Prelude.{◌≡◌, ◌≢◌, length, map, None, Err, IfOk, IfSome, IsOkUnless};
-ghost use Rattle.client_registry.specs.Acceptance.{blocks_of, setup_refusal};
+ghost use Rattle.std.specs.Prelude.{◌≡◌, ◌≢◌, List, [], ℕ, length, map, None, Err, IfOk, IfSome, IsOkUnless};
+ghost use Rattle.client_registry.specs.Acceptance.{blocks_of, frames_needed, setup_refusal};
 ghost use Rattle.client_registry.specs.Documents.{words_of};
 ghost use Rattle.client_registry.specs.Run.{at_first};
-ghost use Rattle.client_registry.specs.Setup.{setup_of};
-ghost use Rattle.keyed_fn.specs.KeyedFn.{keyed_fn};
+ghost use Rattle.client_registry.specs.Setup.{Setup, setup_of};
+ghost use Rattle.keyed_fn.specs.KeyedFn.{KeyedFn, keyed_fn};
 ghost use Rattle.std.specs.List.{AllByRecursion};
 ghost use Rattle.sse_frames.specs.Frames.{IsFrame, frame_bytes};
 ghost use Rattle.sse_model.specs.Wire.{frames_of_setup};
 ghost use Rattle.index_setup.specs.Entries.{key_table};
 ghost use Rattle.index_setup.specs.Refused.{build_refusal, clash_refusal, refused_by_size};
-ghost use Rattle.client_core.specs.Sending.{frames_left, planned_frames, to_send};
-ghost use Rattle.client_core.specs.Setup.{SendsSetup};
+ghost use Rattle.client_core.specs.Sending.{first_number, frames_left, planned_frames, to_send};
+ghost use Rattle.client_core.specs.Setup.{SendsSetup, frames_in};
+ghost use Rattle.client_core.specs.StandsFor.{StandsFor};
 
-use crate::behind::Behind;
+use crate::behind::{Behind, Owed};
 use crate::client::Client;
+use crate::owed_setup::OwedSetup;
 use crate::planned::Planned;
+use crate::ready::Ready;
+use crate::setup_frames::frame_count;
 use client_registry::Docs;
 use index_setup::{BuildFault, build};
 use keyed_fn::Keyed;
@@ -58,17 +62,21 @@ impl Client<Fresh> {
         Ok(Planned::new(alloc, index)?)
     }
 
-    /// Takes the plan as done: from here on its frames are owed to the server. It takes no memory.
-    pub fn commit(self, planned: Planned) -> Client<Behind>
+    /// Takes the plan, which is of these documents, as done: from here on its frames are owed to the server. It takes no
+    /// memory.
+    pub fn commit(self, alloc: Global, planned: Planned, docs: Docs) -> Client<Behind>
         ensures key { result.key ≡ self.key }
+        ensures stands { (f : KeyedFn) (key : List ℕ) (s : Setup) → s.documents ≡ docs → setup_refusal s.documents s.shape.b s.shape.big ≡ None → frames_in planned.index ≡ frames_needed s → StandsFor f key (record { setup = s; later = [] }) result.state.ready }
         ensures frames { frames_left result.state ≡ length (planned_frames planned) }
         ensures owed { to_send result.state ≡ planned_frames planned }
-        ensures first { result.state.next ≡ 0 }
+        ensures first { first_number result.state ≡ 0 }
     {
         let Client { key, state: _ } = self;
+        let ready = Ready::begun(alloc, docs, frame_count(&planned.index));
+        let owed = Owed::Setup(OwedSetup::at(planned, 0, 0));
         Client {
             key,
-            state: Behind::at(planned, 0, 0),
+            state: Behind { ready, owed },
         }
     }
 }

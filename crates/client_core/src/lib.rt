@@ -1,20 +1,23 @@
-//! The client's protocol: what it sends for a command and what each reply means to it. It stands on
-//! `index_setup` for the index of a setup and on `sse_frames` for the bytes. A client is a value in
-//! one of four states, and each step consumes it, so a frame can't be planned over a state that has
-//! gone by. It touches no link, disk or output: `sse_client` does.
+//! The client's protocol: what it sends for a command, and which state a reply leads to. It stands on `index_setup` for
+//! the index of a setup, on `add_counters` and `revocation_ids` for what an update sends, on `client_replies` for the fault
+//! of a reply, and on `sse_frames` for the bytes. A client is a value in one of four states, and each step consumes it, so
+//! a frame can't be planned over a state that has gone by. The theorems that callers use: a client stands for a history by
+//! `StandsFor` of specs/StandsFor.antt, and a reply makes of it what `AfterReply` of specs/Sending.antt says. It touches no
+//! link, disk or output: `sse_client` does.
 #![tactic(auto)]
 
 mod behind;
 mod client;
 mod command_fault;
-mod found;
 mod fresh;
 mod kept_keys;
 mod new_pairs;
-mod page_in;
+mod owed_setup;
+mod owed_update;
 mod planned;
+mod planned_update;
+mod planning;
 mod ready;
-mod reply_fault;
 mod sending;
 mod setup_frames;
 mod update_frames;
@@ -23,11 +26,13 @@ mod updating;
 pub use behind::Behind;
 pub use client::{Client, Spent};
 pub use command_fault::{CommandFault, HistoryFull, frames_after};
-pub use found::{Found, Progress};
 pub use fresh::Fresh;
 pub use index_setup::BuildFault as SetupFault;
 pub use planned::Planned;
+pub use planned_update::PlannedUpdate;
 pub use ready::Ready;
-pub use reply_fault::{ReplyFault, fault_of};
 pub use sending::Taken;
 pub use std::alloc::AllocError as NoMemory;
+
+#[cfg(test)]
+mod tests;

@@ -1,18 +1,38 @@
-ghost use Rattle.std.specs.Prelude.{◌≡◌};
-ghost use Rattle.keyed_fn.specs.KeyedFn.{keyed_fn};
-ghost use Rattle.keyed_fn.specs.KeyFormulas.{token_of};
+ghost use Rattle.std.specs.Prelude.{◌≡◌, ◌≢◌, [], Err, IfOk, List, ℕ, None, option_map, true};
+ghost use Rattle.std.specs.Result.{result_err};
+ghost use Rattle.client_registry.specs.Acceptance.{frames_needed, setup_refusal};
+ghost use Rattle.client_registry.specs.DocumentRule.{IsDocument};
+ghost use Rattle.client_registry.specs.Facts.{has_counters};
+ghost use Rattle.client_registry.specs.IdNumber.{id_number};
+ghost use Rattle.client_registry.specs.Registered.{HasRoom, facts, known_words};
+ghost use Rattle.client_registry.specs.Setup.{Setup};
 ghost use Rattle.client_registry.specs.WordBytes.{word_bytes};
-ghost use Rattle.sse_frames.specs.Frames.{SearchFrame, frame_bytes};
+ghost use Rattle.keyed_fn.specs.KeyedFn.{KeyedFn, keyed_fn};
+ghost use Rattle.keyed_fn.specs.KeyFormulas.{token_of};
+ghost use Rattle.sse_frames.specs.Frames.{IsFrame, IsNumber, SearchFrame, frame_bytes};
+ghost use Rattle.client_core.specs.Keys.{Keeps};
+ghost use Rattle.client_core.specs.StandsFor.{StandsFor, full_refusal, refusal_to_add, refusal_to_delete};
+ghost use Rattle.client_core.specs.UpdateFaults.{clash_fault};
+ghost use Rattle.client_core.specs.UpdateTexts.{add_collision, add_text};
 
 use crate::client::Client;
-use client_registry::Word;
+use crate::command_fault::{CommandFault, HistoryFull, frames_after};
+use crate::kept_keys::KeptKeys;
+use crate::updating::add_update;
+use client_registry::{Doc, DocId, Docs, MAX_WORDS, Registry, Word};
 use keyed_fn::Keyed;
 use sse_frames::search_frame;
+use std::alloc::Global;
 use word_keys::PreparedMaster;
 
-/// The state of a client with nothing that the server may lack.
-#[derive(Debug, Clone, Copy, PartialEq, Eq)]
-pub struct Ready;
+/// The state of a client with nothing that the server may lack: the registry of its documents, the keys of words that it
+/// derived, and how many update frames were planned, which is the number of the next one.
+#[derive(Drop)]
+pub struct Ready {
+    pub(crate) registry: Registry,
+    pub(crate) keys: KeptKeys,
+    pub(crate) frames: u32,
+}
 
 impl Client<Ready> {
     /// The Search frame of a word: four length bytes, the kind byte 08 and the token of 160 bytes. `master` is the
@@ -27,5 +47,85 @@ impl Client<Ready> {
         ensures { result ≡ frame_bytes (SearchFrame (token_of (keyed_fn K.prf K.pad) self.now.key (word_bytes word.now))) }
     {
         search_frame(&master.token(keyed, word).to_bytes())
+    }
+}
+
+impl Ready {
+    /// What a client keeps after an accepted setup of these documents, which took so many update frames. It takes no memory.
+    pub(crate) fn begun(alloc: Global, docs: Docs, frames: u32) -> Ready
+        ensures { (f : KeyedFn) (key : List ℕ) (s : Setup) → s.documents ≡ docs → setup_refusal s.documents s.shape.b s.shape.big ≡ None → frames ≡ frames_needed s → StandsFor f key (record { setup = s; later = [] }) result }
+    {
+        Ready {
+            registry: Registry::from_docs(docs),
+            keys: KeptKeys::new(alloc),
+            frames,
+        }
+    }
+
+    /// The frame of an addition that nothing refuses, its memory taken. Errors: as `add_update`.
+    pub(crate) fn addition<K: Keyed>(
+        &mut self,
+        alloc: Global,
+        keyed: &K,
+        master: &PreparedMaster<K>,
+        doc: &Doc,
+    ) -> Result<Vec<u8>, CommandFault>
+        requires counters { has_counters (facts self.old.registry) doc.now ≡ true }
+        requires number { IsNumber self.old.frames }
+        ensures facts { facts self.new.registry ≡ facts self.old.registry }
+        ensures frames { self.new.frames ≡ self.old.frames }
+        ensures keeps { Keeps (keyed_fn K.prf K.pad) master.now (known_words self.old.registry) self.old.keys → Keeps (keyed_fn K.prf K.pad) master.now (known_words self.new.registry) self.new.keys }
+        ensures fault { Keeps (keyed_fn K.prf K.pad) master.now (known_words self.old.registry) self.old.keys → result ≢ Err CommandFault.NoMemory → result_err result ≡ option_map clash_fault (add_collision (keyed_fn K.prf K.pad) master.now (facts self.old.registry) doc.now) }
+        ensures bytes { Keeps (keyed_fn K.prf K.pad) master.now (known_words self.old.registry) self.old.keys → IfOk result (λ bytes. bytes.items ≡ frame_bytes (add_text (keyed_fn K.prf K.pad) master.now (facts self.old.registry) self.old.frames doc.now)) }
+        ensures frame { IfOk result (λ bytes. IsFrame bytes.items) }
+        ensures document { IfOk result (λ bytes. IsDocument doc.now) }
+        ensures room { IfOk result (λ bytes. HasRoom self.new.registry doc.now) }
+    {
+        let words = doc.words();
+        prove!(words.len() <= MAX_WORDS);
+        self.registry.reserve(doc)?;
+        add_update(
+            alloc,
+            keyed,
+            master,
+            &self.registry,
+            &mut self.keys,
+            self.frames,
+            doc,
+        )
+    }
+
+    /// Why the document isn't added, but for two equal values.
+    pub(crate) fn add_refusal(&self, doc: &Doc) -> Option<CommandFault>
+        ensures { result ≡ refusal_to_add (facts self.now.registry) self.now.frames doc.now }
+    {
+        if self.registry.is_live(doc.id()) {
+            return Some(CommandFault::AlreadyLive(doc.id().get()));
+        }
+        match self.registry.full_counter(doc) {
+            Some(position) => Some(CommandFault::CounterFull(position)),
+            None => self.full(),
+        }
+    }
+
+    /// Why the document of this identifier isn't deleted, but for two equal values.
+    pub(crate) fn delete_refusal(&self, id: DocId) -> Option<CommandFault>
+        ensures { result ≡ refusal_to_delete (facts self.now.registry) self.now.frames (id_number id) }
+    {
+        if self.registry.is_live(id) {
+            self.full()
+        } else {
+            Some(CommandFault::UnknownDocument(id.get()))
+        }
+    }
+
+    /// Whether there is no number for one update frame more.
+    fn full(&self) -> Option<CommandFault>
+        ensures { result ≡ full_refusal self.now.frames }
+    {
+        match frames_after(self.frames, 1) {
+            Ok(_) => None,
+            Err(HistoryFull) => Some(CommandFault::HistoryFull),
+        }
     }
 }

@@ -7,8 +7,7 @@ ghost use Rattle.client_core.specs.Sending.{frames_left, to_send, left_behind, s
 use crate::behind::Behind;
 use crate::client::{Client, Spent};
 use crate::ready::Ready;
-use crate::reply_fault::{ReplyFault, fault_of};
-use crate::setup_frames::frame_count;
+use client_replies::{ReplyFault, fault_of};
 use sse_frames::{Reply, read_whole_reply};
 
 /// What a reply makes of a client with unacknowledged frames.
@@ -27,7 +26,7 @@ impl Client<Behind> {
     pub fn frame(&self) -> &[u8]
         ensures { take 1 (to_send self.now.state) ≡ result.now ∷ [] }
     {
-        &self.state.planned.room[..self.state.size]
+        self.state.owed.frame()
     }
 
     /// Takes the reply to the next frame, with its four length bytes. It takes no memory.
@@ -36,24 +35,19 @@ impl Client<Behind> {
         ensures less { left_behind result < frames_left self.state }
         ensures store { stopped_by result ≡ Some ReplyFault.StoreFault → reply.now ≡ reply_bytes StoreFault }
     {
-        let Client { key, state } = self;
-        if !acknowledges(reply, state.next) {
+        let Client {
+            key,
+            state: Behind { ready, owed },
+        } = self;
+        if !acknowledges(reply, owed.number()) {
             return Taken::Stopped(Client { key, state: Spent }, fault_of(reply));
         }
-        let Behind {
-            planned,
-            place,
-            next,
-            size: _,
-        } = state;
-        let place = place + 1;
-        if place < frame_count(&planned.index) {
-            Taken::Behind(Client {
+        match owed.behind_first() {
+            Some(owed) => Taken::Behind(Client {
                 key,
-                state: Behind::at(planned, place, next + 1),
-            })
-        } else {
-            Taken::Ready(Client { key, state: Ready })
+                state: Behind { ready, owed },
+            }),
+            None => Taken::Ready(Client { key, state: ready }),
         }
     }
 }

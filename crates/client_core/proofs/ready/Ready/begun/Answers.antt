@@ -1,0 +1,15 @@
+use Rattle.std.proofs.Common.{[], sym, subst, arith}
+use Rattle.client_registry.proofs.HistoryLaws.{IsKept-begun}
+use Rattle.client_registry.specs.Documents.{IsCollected}
+use Rattle.client_registry.specs.Registered.{Represents, known_words}
+use Rattle.client_core.proofs.ready.Ready.begun.Goals as goal
+
+pub returns : goal.returns
+returns c =
+    λ f key s same accepted frames.
+    record {
+      kept = IsKept-begun s (subst IsCollected (sym same) c.from_docs.ensures.valid) accepted;
+      registry = subst (λ docs. Represents c.from_docs.result (record { documents = docs; shape = s.shape }) []) (sym same) (c.from_docs.ensures.setup s.shape);
+      number = omega (arith, frames);
+      keys = c.new.ensures f key (known_words c.from_docs.result);
+    }

@@ -1,0 +1,145 @@
+ghost use Rattle.std.specs.Prelude.{◌≡◌, ◌≢◌, ◌∷◌, ◌++◌, [], Err, IfErr, IfOk, IfSome, List, ℕ, map, true};
+ghost use Rattle.std.specs.Result.{result_err};
+ghost use Rattle.client_registry.specs.Command.{Command as Meant, Add as adds, Delete as deletes};
+ghost use Rattle.client_registry.specs.CommandView.{command_of};
+ghost use Rattle.client_registry.specs.IdNumber.{id_number};
+ghost use Rattle.client_registry.specs.Registered.{KeepsNumbers, Represents};
+ghost use Rattle.client_registry.specs.Run.{Run};
+ghost use Rattle.client_registry.specs.Setup.{Setup};
+ghost use Rattle.keyed_fn.specs.KeyedFn.{KeyedFn, keyed_fn};
+ghost use Rattle.sse_frames.specs.Frames.{IsFrame, frame_bytes};
+ghost use Rattle.client_core.specs.Sending.{first_number, frames_left, to_send};
+ghost use Rattle.client_core.specs.StandsFor.{StandsFor, CanCommit, Fits, add_fault, add_refusal, comes_of_add, comes_of_delete, delete_fault, delete_refusal, frames_next, with_command};
+
+use crate::behind::{Behind, Owed};
+use crate::client::Client;
+use crate::command_fault::CommandFault;
+use crate::owed_update::OwedUpdate;
+use crate::planned_update::PlannedUpdate;
+use crate::ready::Ready;
+use crate::updating::delete_update;
+use client_registry::{Command, Doc, DocId, Registry};
+use keyed_fn::Keyed;
+use std::alloc::Global;
+use word_keys::PreparedMaster;
+
+impl Client<Ready> {
+    /// Plans an addition, and takes its memory. The frame is that of the definitions.
+    ///
+    /// Errors, the first that stands: `AlreadyLive(id)`; `CounterFull(position)`; `HistoryFull`; `LabelClash`, of two new
+    /// entries; `NumberClash`; `NoMemory` may come in place of the last two, and of a plan. What the client stands for
+    /// doesn't change, also after an error; `doc` is dropped then.
+    pub fn plan_add<K: Keyed>(
+        &mut self,
+        alloc: Global,
+        keyed: &K,
+        master: &PreparedMaster<K>,
+        doc: Doc,
+    ) -> Result<PlannedUpdate, CommandFault>
+        requires prepared { master.now ≡ self.old.key }
+        ensures key { self.new.key ≡ self.old.key }
+        ensures stands { (run : Run) → StandsFor (keyed_fn K.prf K.pad) master.now run self.old.state → StandsFor (keyed_fn K.prf K.pad) master.now run self.new.state }
+        ensures refused { (run : Run) → StandsFor (keyed_fn K.prf K.pad) master.now run self.old.state → IfSome (add_refusal run doc) (λ fault. result ≡ Err fault) }
+        ensures fault { (run : Run) → StandsFor (keyed_fn K.prf K.pad) master.now run self.old.state → result ≢ Err CommandFault.NoMemory → result_err result ≡ add_fault (keyed_fn K.prf K.pad) master.now run doc }
+        ensures only { (run : Run) → StandsFor (keyed_fn K.prf K.pad) master.now run self.old.state → IfErr result (λ fault. comes_of_add fault ≡ true) }
+        ensures frame { (run : Run) → StandsFor (keyed_fn K.prf K.pad) master.now run self.old.state → IfOk result (λ planned. planned.frame.items ∷ [] ≡ map frame_bytes (frames_next (keyed_fn K.prf K.pad) master.now run (adds doc))) }
+        ensures grammar { IfOk result (λ planned. IsFrame planned.frame.items) }
+        ensures command { IfOk result (λ planned. command_of planned.command ≡ adds doc) }
+        ensures commits { IfOk result (λ planned. CanCommit self.new.state planned) }
+    {
+        if let Some(fault) = self.state.add_refusal(&doc) {
+            return Err(fault);
+        }
+        let frame = self.state.addition(alloc, keyed, master, &doc)?;
+        Ok(PlannedUpdate {
+            command: Command::Add(doc),
+            frame,
+        })
+    }
+
+    /// Plans the deletion of the live document of this identifier, and takes its memory. The frame is that of the
+    /// definitions.
+    ///
+    /// Errors, the first that stands: `UnknownDocument(id)`; `HistoryFull`; `NumberClash`; `NoMemory` may come in place of
+    /// the last, and of a plan. What the client stands for doesn't change, also after an error.
+    pub fn plan_delete<K: Keyed>(
+        &mut self,
+        alloc: Global,
+        keyed: &K,
+        master: &PreparedMaster<K>,
+        id: DocId,
+    ) -> Result<PlannedUpdate, CommandFault>
+        requires prepared { master.now ≡ self.old.key }
+        ensures key { self.new.key ≡ self.old.key }
+        ensures stands { (run : Run) → StandsFor (keyed_fn K.prf K.pad) master.now run self.old.state → StandsFor (keyed_fn K.prf K.pad) master.now run self.new.state }
+        ensures refused { (run : Run) → StandsFor (keyed_fn K.prf K.pad) master.now run self.old.state → IfSome (delete_refusal run (id_number id)) (λ fault. result ≡ Err fault) }
+        ensures fault { (run : Run) → StandsFor (keyed_fn K.prf K.pad) master.now run self.old.state → result ≢ Err CommandFault.NoMemory → result_err result ≡ delete_fault (keyed_fn K.prf K.pad) master.now run (id_number id) }
+        ensures only { (run : Run) → StandsFor (keyed_fn K.prf K.pad) master.now run self.old.state → IfErr result (λ fault. comes_of_delete fault ≡ true) }
+        ensures frame { (run : Run) → StandsFor (keyed_fn K.prf K.pad) master.now run self.old.state → IfOk result (λ planned. planned.frame.items ∷ [] ≡ map frame_bytes (frames_next (keyed_fn K.prf K.pad) master.now run (deletes (id_number id)))) }
+        ensures grammar { IfOk result (λ planned. IsFrame planned.frame.items) }
+        ensures command { IfOk result (λ planned. command_of planned.command ≡ deletes (id_number id)) }
+        ensures commits { IfOk result (λ planned. CanCommit self.new.state planned) }
+    {
+        if let Some(fault) = self.state.delete_refusal(id) {
+            return Err(fault);
+        }
+        let frame = delete_update(
+            alloc,
+            keyed,
+            master,
+            &self.state.registry,
+            &mut self.state.keys,
+            self.state.frames,
+            id,
+        )?;
+        Ok(PlannedUpdate {
+            command: Command::Delete(id),
+            frame,
+        })
+    }
+
+    /// Takes a plan that this client made, as it stands now, as done: from here on its frame is owed to the server. It takes
+    /// no memory.
+    pub fn commit(self, planned: PlannedUpdate) -> Client<Behind>
+        requires { CanCommit self.state planned }
+        ensures key { result.key ≡ self.key }
+        ensures stands { (f : KeyedFn) (key : List ℕ) (run : Run) → StandsFor f key run self.state → StandsFor f key (with_command run (command_of planned.command)) result.state.ready }
+        ensures owed { to_send result.state ≡ planned.frame.items ∷ [] }
+        ensures first { first_number result.state ≡ self.state.frames }
+    {
+        let Client { key, state } = self;
+        let Ready {
+            mut registry,
+            keys,
+            frames,
+        } = state;
+        let PlannedUpdate { command, frame } = planned;
+        carry_out(&mut registry, command);
+        let ready = Ready {
+            registry,
+            keys,
+            frames: frames + 1,
+        };
+        let owed = Owed::Update(OwedUpdate {
+            frame,
+            number: frames,
+        });
+        Client {
+            key,
+            state: Behind { ready, owed },
+        }
+    }
+}
+
+/// Carries out an update for which there is memory.
+fn carry_out(registry: &mut Registry, command: Command)
+    requires { Fits registry.old (command_of command) }
+    ensures history { (s : Setup) (past : List Meant) → Represents registry.old s past → Represents registry.new s (past ++ command_of command ∷ []) }
+    ensures words { KeepsNumbers registry.old registry.new }
+{
+    match command {
+        Command::Add(doc) => registry.add(doc).unwrap(),
+        Command::Delete(id) => registry.delete(id).unwrap(),
+        Command::Search(_) => unreachable!(),
+    }
+}
