@@ -1,0 +1,4 @@
+pub mod LineDocument
+pub mod Refused
+pub mod LineFaults
+pub mod Texts
