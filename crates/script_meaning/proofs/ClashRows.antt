@@ -8,8 +8,9 @@ use Rattle.keyed_fn.specs.KeyedFn.{KeyedFn, keyed_fn}
 use Rattle.keyed_fn.specs.Toy.{toy_prf, toy_pad}
 use Rattle.sse_script.specs.Shown.{LabelClash, PlaceClash, NumberClash}
 use Rattle.sse_script.specs.Shown.{Added, Deleted}
+use Rattle.line_documents.specs.LineDocument.{document}
 use Rattle.script_meaning.specs.Carries.{clash_in_hand}
-use Rattle.script_meaning.specs.Outcome.{Place, opened, SetsUp, Does, document}
+use Rattle.script_meaning.specs.Outcome.{Place, opened, SetsUp, Does}
 
 abbrev toy : KeyedFn
 toy = keyed_fn toy_prf toy_pad

@@ -1,25 +1,25 @@
--- What follows a place of a script: its history begins with that of the place, this server takes it where it takes that
--- one, the answers in its printed lines are what its searches find, and its frames stand behind those that were sent.
+-- What follows a place of a script: its history begins with that of the place, a line finds no collision that the history
+-- behind it hasn't, the answers in its printed lines are what its searches find, and its frames stand behind those that were sent.
 use Rattle.std.proofs.Common.{◌≡◌, ℕ, ◌+◌, Bool, false, ◌||◌, List, [], ◌∷◌, ◌++◌, length, Some, None, refl, sym, ap, ◌∙◌, append_assoc}
 use Rattle.std.specs.Prelude.{Option, option_map}
-use Rattle.std.proofs.lemmas.Bool.{true≢false}
 use Rattle.std.proofs.lemmas.List.{append-nil}
 use Rattle.client_registry.proofs.HistoryLaws.{IsFirstOf-same, IsFirstOf-trans, IsFirstOf-before, IsFirstOf-longer, found_in_turn-before, found_in_turn-update, found_in_turn-search}
-use Rattle.client_registry.specs.Histories.{begun_by, IsFirstOf, found_in_turn}
+use Rattle.client_registry.specs.Command.{Add, Delete}
+use Rattle.client_registry.specs.Histories.{begun_by, IsKept, IsFirstOf, found_in_turn}
 use Rattle.client_registry.specs.Run.{at_first}
 use Rattle.client_registry.specs.Setup.{setup_of}
 use Rattle.keyed_fn.specs.KeyedFn.{KeyedFn}
-use Rattle.sse_agreement.proofs.NoCollision.{collision_of_first-none}
+use Rattle.sse_agreement.proofs.NoCollision.{collision_of_first-none, collision_behind-none}
 use Rattle.sse_model.proofs.Exchanging.{searches-setup, searches_behind-update}
 use Rattle.sse_model.proofs.HistoryLaws.{frames_sent-before, frames_sent-begun, frames_sent-longer, frames_behind-search, collision_behind-search}
 use Rattle.sse_model.specs.Exchange.{searches}
 use Rattle.sse_model.specs.Histories.{frames_sent, frames_of_first, HasNoCollision}
 use Rattle.sse_script.specs.Shown.{Shown, SetUp, Added, Deleted, Found, Refused, Stopped}
-use Rattle.script_meaning.specs.Built.{Built, is_built, comes_to}
+use Rattle.line_documents.specs.LineDocument.{document}
 use Rattle.script_meaning.specs.Carries.{keys_at, frames_by, collision_cause, clash_in_hand}
 use Rattle.script_meaning.specs.Lines.{Line, Empty, Key, Command, Request}
 use Rattle.script_meaning.specs.Meaning.{follow, meant_from}
-use Rattle.script_meaning.specs.Outcome.{Place, Outcome, Collects, Refuses, SetsUp, Does, opened, after, shown_by, is_refusal}
+use Rattle.script_meaning.specs.Outcome.{Place, Outcome, Collects, Refuses, SetsUp, Does, opened, outcome, after, shown_by, is_refusal}
 use Rattle.script_meaning.proofs.Outcomes.{by_cases}
 
 -- the answers in printed lines
@@ -37,69 +37,69 @@ finds-append (Found ids ∷ xs) ys = ap (λ rest. ids ∷ rest) (finds-append xs
 finds-append (Refused refusal ∷ xs) ys = finds-append xs ys
 finds-append (Stopped cause ∷ xs) ys = finds-append xs ys
 
-module _ (built : Built) (place : Place) (line : Request) where
+module _ (place : Place) (line : Request) where
   abbrev result : Outcome
-  result = comes_to built place line
+  result = outcome place line
 
   -- One line.
 
   -- the history behind a line begins with the one before it
   pub first-next : IsFirstOf place.history (after result place).history
-  first-next = by_cases built place line (λ r. IsFirstOf place.history (after r place).history) (record {
+  first-next = by_cases place line (λ r. IsFirstOf place.history (after r place).history) (record {
     refuses = λ refusal. IsFirstOf-same place.history;
     collects = λ id words is none e. IsFirstOf-same place.history;
     sets_up = λ b big none e. IsFirstOf-before place.history (begun_by (setup_of place.documents b big)) none;
-    adds = λ id words is up e b. IsFirstOf-longer place.history _;
-    deletes = λ id is up e b. IsFirstOf-longer place.history _;
+    adds = λ id words is up e. IsFirstOf-longer place.history _;
+    deletes = λ id is up e. IsFirstOf-longer place.history _;
     finds = λ word up e. IsFirstOf-longer place.history _;
   })
 
   -- what the searches before a line find, and then its own answers, is what those behind it find
   pub finds-next : found_in_turn (after result place).history ≡ found_in_turn place.history ++ finds (shown_by result)
-  finds-next = by_cases built place line (λ r. found_in_turn (after r place).history ≡ found_in_turn place.history ++ finds (shown_by r)) (record {
+  finds-next = by_cases place line (λ r. found_in_turn (after r place).history ≡ found_in_turn place.history ++ finds (shown_by r)) (record {
     refuses = λ refusal. sym (append-nil (found_in_turn place.history));
     collects = λ id words is none e. sym (append-nil (found_in_turn place.history));
     sets_up = λ b big none e. sym (append-nil (found_in_turn place.history) ∙ found_in_turn-before place.history none);
-    adds = λ id words is up e b. found_in_turn-update place.history _ refl ∙ sym (append-nil (found_in_turn place.history));
-    deletes = λ id is up e b. found_in_turn-update place.history _ refl ∙ sym (append-nil (found_in_turn place.history));
+    adds = λ id words is up e. found_in_turn-update place.history _ refl ∙ sym (append-nil (found_in_turn place.history));
+    deletes = λ id is up e. found_in_turn-update place.history _ refl ∙ sym (append-nil (found_in_turn place.history));
     finds = λ word up e. found_in_turn-search place.history word up;
   })
 
   -- the frames behind a line are those before it, and then its own
   pub frames-next : (f : KeyedFn) → frames_sent f (keys_at place) (after result place).history ≡ frames_sent f (keys_at place) place.history ++ frames_by f place result
-  frames-next f = by_cases built place line (λ r. frames_sent f (keys_at place) (after r place).history ≡ frames_sent f (keys_at place) place.history ++ frames_by f place r) (record {
+  frames-next f = by_cases place line (λ r. frames_sent f (keys_at place) (after r place).history ≡ frames_sent f (keys_at place) place.history ++ frames_by f place r) (record {
     refuses = λ refusal. sym (append-nil (frames_sent f (keys_at place) place.history));
     collects = λ id words is none e. sym (append-nil (frames_sent f (keys_at place) place.history));
     sets_up = λ b big none e.
         frames_sent-begun f (keys_at place) (setup_of place.documents b big)
         ∙ ap (λ frames. frames ++ frames_of_first f (keys_at place) (setup_of place.documents b big)) (sym (frames_sent-before f (keys_at place) place.history none));
-    adds = λ id words is up e b. frames_sent-longer f (keys_at place) place.history _;
-    deletes = λ id is up e b. frames_sent-longer f (keys_at place) place.history _;
+    adds = λ id words is up e. frames_sent-longer f (keys_at place) place.history _;
+    deletes = λ id is up e. frames_sent-longer f (keys_at place) place.history _;
     finds = λ word up e. frames_sent-longer f (keys_at place) place.history _;
   })
 
   -- a line sends as many searches as it prints answers
   pub searches-next : (f : KeyedFn) → searches (frames_by f place result) ≡ length (finds (shown_by result))
-  searches-next f = by_cases built place line (λ r. searches (frames_by f place r) ≡ length (finds (shown_by r))) (record {
+  searches-next f = by_cases place line (λ r. searches (frames_by f place r) ≡ length (finds (shown_by r))) (record {
     refuses = λ refusal. refl;
     collects = λ id words is none e. refl;
     sets_up = λ b big none e. searches-setup _ at_first (setup_of place.documents b big);
-    adds = λ id words is up e b. searches_behind-update f (keys_at place) place.history _ refl;
-    deletes = λ id is up e b. searches_behind-update f (keys_at place) place.history _ refl;
+    adds = λ id words is up e. searches_behind-update f (keys_at place) place.history _ refl;
+    deletes = λ id is up e. searches_behind-update f (keys_at place) place.history _ refl;
     finds = λ word up e. ap searches (frames_behind-search f (keys_at place) place.history word up);
   })
 
--- where this client carries a line out, and the history behind it has no collision, there is none in hand
-pub no_clash-next : (f : KeyedFn) (place : Place) (line : Request) → HasNoCollision f (keys_at place) (after (comes_to is_built place line) place).history
-    → clash_in_hand f place (comes_to is_built place line) ≡ None
-no_clash-next f place line = by_cases is_built place line (λ r. HasNoCollision f (keys_at place) (after r place).history → clash_in_hand f place r ≡ None) (record {
-  refuses = λ refusal free. refl;
-  collects = λ id words is none e free. refl;
-  sets_up = λ b big none e free.
+-- where the history behind a line keeps the limits and has no collision, there is none in hand
+pub no_clash-next : (f : KeyedFn) (place : Place) (line : Request) → IsKept (after (outcome place line) place).history → HasNoCollision f (keys_at place) (after (outcome place line) place).history
+    → clash_in_hand f place (outcome place line) ≡ None
+no_clash-next f place line = by_cases place line (λ r. IsKept (after r place).history → HasNoCollision f (keys_at place) (after r place).history → clash_in_hand f place r ≡ None) (record {
+  refuses = λ refusal kept free. refl;
+  collects = λ id words is none e kept free. refl;
+  sets_up = λ b big none e kept free.
       ap (option_map collision_cause) (collision_of_first-none f (keys_at place) (setup_of place.documents b big) free);
-  adds = λ id words is up e b free. absurd (true≢false (sym b));
-  deletes = λ id is up e b free. absurd (true≢false (sym b));
-  finds = λ word up e free. ap (option_map collision_cause) (collision_behind-search f (keys_at place) place.history word);
+  adds = λ id words is up e kept free. ap (option_map collision_cause) (collision_behind-none f (keys_at place) place.history (Add (document id words)) kept free);
+  deletes = λ id is up e kept free. ap (option_map collision_cause) (collision_behind-none f (keys_at place) place.history (Delete id) kept free);
+  finds = λ word up e kept free. ap (option_map collision_cause) (collision_behind-search f (keys_at place) place.history word);
 })
 
 -- no line changes the key
@@ -111,43 +111,42 @@ after-key (Does commands shown) place = refl
 
 -- All lines.
 
-module _ (built : Built) where
-  pub follow-key : (place : Place) (number : ℕ) (lines : List (Option Line)) (refused : Bool) → (follow built place number lines refused).key ≡ Some place.key
-  follow-key place number [] refused = refl
-  follow-key place number (None ∷ lines) refused = refl
-  follow-key place number (Some Empty ∷ lines) refused = follow-key place (number + 1) lines refused
-  follow-key place number (Some (Key key) ∷ lines) refused = refl
-  follow-key place number (Some (Command line) ∷ lines) refused =
-      let r = comes_to built place line in
-      follow-key (after r place) (number + 1) lines (refused || is_refusal r) ∙ ap (λ k. Some k) (after-key r place)
+pub follow-key : (place : Place) (number : ℕ) (lines : List (Option Line)) (refused : Bool) → (follow place number lines refused).key ≡ Some place.key
+follow-key place number [] refused = refl
+follow-key place number (None ∷ lines) refused = refl
+follow-key place number (Some Empty ∷ lines) refused = follow-key place (number + 1) lines refused
+follow-key place number (Some (Key key) ∷ lines) refused = refl
+follow-key place number (Some (Command line) ∷ lines) refused =
+    let r = outcome place line in
+    follow-key (after r place) (number + 1) lines (refused || is_refusal r) ∙ ap (λ k. Some k) (after-key r place)
 
-  pub first-follow : (place : Place) (number : ℕ) (lines : List (Option Line)) (refused : Bool) → IsFirstOf place.history (follow built place number lines refused).history
-  first-follow place number [] refused = IsFirstOf-same place.history
-  first-follow place number (None ∷ lines) refused = IsFirstOf-same place.history
-  first-follow place number (Some Empty ∷ lines) refused = first-follow place (number + 1) lines refused
-  first-follow place number (Some (Key key) ∷ lines) refused = IsFirstOf-same place.history
-  first-follow place number (Some (Command line) ∷ lines) refused =
-      let next = after (comes_to built place line) place in
-      IsFirstOf-trans place.history next.history _ (first-next built place line) (first-follow next (number + 1) lines (refused || is_refusal (comes_to built place line)))
+pub first-follow : (place : Place) (number : ℕ) (lines : List (Option Line)) (refused : Bool) → IsFirstOf place.history (follow place number lines refused).history
+first-follow place number [] refused = IsFirstOf-same place.history
+first-follow place number (None ∷ lines) refused = IsFirstOf-same place.history
+first-follow place number (Some Empty ∷ lines) refused = first-follow place (number + 1) lines refused
+first-follow place number (Some (Key key) ∷ lines) refused = IsFirstOf-same place.history
+first-follow place number (Some (Command line) ∷ lines) refused =
+    let next = after (outcome place line) place in
+    IsFirstOf-trans place.history next.history _ (first-next place line) (first-follow next (number + 1) lines (refused || is_refusal (outcome place line)))
 
-  pub finds-follow : (place : Place) (number : ℕ) (lines : List (Option Line)) (refused : Bool)
-      → found_in_turn (follow built place number lines refused).history ≡ found_in_turn place.history ++ finds (follow built place number lines refused).shown
-  finds-follow place number [] refused = sym (append-nil (found_in_turn place.history))
-  finds-follow place number (None ∷ lines) refused = sym (append-nil (found_in_turn place.history))
-  finds-follow place number (Some Empty ∷ lines) refused = finds-follow place (number + 1) lines refused
-  finds-follow place number (Some (Key key) ∷ lines) refused = sym (append-nil (found_in_turn place.history))
-  finds-follow place number (Some (Command line) ∷ lines) refused =
-      let r = comes_to built place line in
-      let rest = follow built (after r place) (number + 1) lines (refused || is_refusal r) in
-      finds-follow (after r place) (number + 1) lines (refused || is_refusal r)
-      ∙ ap (λ found. found ++ finds rest.shown) (finds-next built place line)
-      ∙ append_assoc (found_in_turn place.history) (finds (shown_by r)) (finds rest.shown)
-      ∙ ap (λ found. found_in_turn place.history ++ found) (sym (finds-append (shown_by r) rest.shown))
+pub finds-follow : (place : Place) (number : ℕ) (lines : List (Option Line)) (refused : Bool)
+    → found_in_turn (follow place number lines refused).history ≡ found_in_turn place.history ++ finds (follow place number lines refused).shown
+finds-follow place number [] refused = sym (append-nil (found_in_turn place.history))
+finds-follow place number (None ∷ lines) refused = sym (append-nil (found_in_turn place.history))
+finds-follow place number (Some Empty ∷ lines) refused = finds-follow place (number + 1) lines refused
+finds-follow place number (Some (Key key) ∷ lines) refused = sym (append-nil (found_in_turn place.history))
+finds-follow place number (Some (Command line) ∷ lines) refused =
+    let r = outcome place line in
+    let rest = follow (after r place) (number + 1) lines (refused || is_refusal r) in
+    finds-follow (after r place) (number + 1) lines (refused || is_refusal r)
+    ∙ ap (λ found. found ++ finds rest.shown) (finds-next place line)
+    ∙ append_assoc (found_in_turn place.history) (finds (shown_by r)) (finds rest.shown)
+    ∙ ap (λ found. found_in_turn place.history ++ found) (sym (finds-append (shown_by r) rest.shown))
 
-  -- the answers in the printed lines of a script are what the searches of its history find
-  pub finds-meant : (number : ℕ) (lines : List (Option Line)) → found_in_turn (meant_from built number lines).history ≡ finds (meant_from built number lines).shown
-  finds-meant number [] = refl
-  finds-meant number (None ∷ lines) = refl
-  finds-meant number (Some Empty ∷ lines) = finds-meant (number + 1) lines
-  finds-meant number (Some (Key key) ∷ lines) = finds-follow (opened key) (number + 1) lines false
-  finds-meant number (Some (Command line) ∷ lines) = refl
+-- the answers in the printed lines of a script are what the searches of its history find
+pub finds-meant : (number : ℕ) (lines : List (Option Line)) → found_in_turn (meant_from number lines).history ≡ finds (meant_from number lines).shown
+finds-meant number [] = refl
+finds-meant number (None ∷ lines) = refl
+finds-meant number (Some Empty ∷ lines) = finds-meant (number + 1) lines
+finds-meant number (Some (Key key) ∷ lines) = finds-follow (opened key) (number + 1) lines false
+finds-meant number (Some (Command line) ∷ lines) = refl

@@ -30,7 +30,6 @@ use Rattle.sse_script.specs.Shown.{Shown, SetUp, Added, Deleted, Found, Refused,
 use Rattle.sse_script.specs.Stops.{cause_status}
 use Rattle.sse_script.specs.Texts.{text_of}
 use Rattle.script_meaning.specs.Carries.{Outside, with_answers, text_with}
-use Rattle.script_meaning.specs.Built.{is_built}
 use Rattle.script_meaning.specs.Exchange.{Told, Adds, AreExchanged, IsCut, as_event, bare}
 use Rattle.script_meaning.specs.Goes.{Passes, Goes}
 use Rattle.script_meaning.specs.Headline.{IsOverHonest, IsCalm, Headline}
@@ -114,11 +113,11 @@ IsFree-first f key whole_key part whole (inr same) first free = subst (λ k. IsF
     by (Some key) free = HasNoCollision-first f (λ epoch. key) part whole first free
 
 -- without a key there is no history
-keyless : (number : ℕ) (lines : List (Option Line)) → (meant_from is_built number lines).key ≡ None → (meant_from is_built number lines).history ≡ empty
+keyless : (number : ℕ) (lines : List (Option Line)) → (meant_from number lines).key ≡ None → (meant_from number lines).history ≡ empty
 keyless number [] none = refl
 keyless number (None ∷ lines) none = refl
 keyless number (Some Empty ∷ lines) none = keyless (number + 1) lines none
-keyless number (Some (Key key) ∷ lines) none = absurd (let no : Some key ≡ None = sym (follow-key is_built (opened key) (number + 1) lines false) ∙ none in cc)
+keyless number (Some (Key key) ∷ lines) none = absurd (let no : Some key ≡ None = sym (follow-key (opened key) (number + 1) lines false) ∙ none in cc)
 keyless number (Some (Command line) ∷ lines) none = refl
 
 -- all that passes under a key is the exchange of its frames, with what its history shows
@@ -140,10 +139,10 @@ module _ (f : KeyedFn) (laws : IsKeyedFn f) (bytes : List ℕ) (now : Outside) (
   m = meaning bytes
 
   abbrev g : Goes f (meaning bytes) now end
-  g = goes f 1 (script_lines bytes) now end opens
+  g = goes f bytes now end opens
 
   kept : IsKept m.history
-  kept = (meaning_is_kept is_built bytes).0
+  kept = (meaning_is_kept bytes).0
 
   module _ (state : ServerState) (honest : IsOverHonest f now.told end.outside.told state) where
     served : (events : List Event) → Adds now.told end.outside.told events → IsServed f at_start events (idle state)
@@ -206,7 +205,7 @@ module _ (f : KeyedFn) (laws : IsKeyedFn f) (bytes : List ℕ) (now : Outside) (
       -- so the lines that were printed are the meaning's
       own_text : text_with g.answers m.shown ≡ flat_map text_of m.shown
       own_text = ap (λ answers. flat_map text_of (with_answers answers m.shown))
-          (ap (map in_order) answered.0 ∙ in_order-shown_in_turn m.history kept ∙ finds-meant is_built 1 (script_lines bytes))
+          (ap (map in_order) answered.0 ∙ in_order-shown_in_turn m.history kept ∙ finds-meant 1 (script_lines bytes))
           ∙ ap (flat_map text_of) (with_answers-finds m.shown)
 
     -- the headline

@@ -1,21 +1,17 @@
 -- The history that a script means keeps all limits.
-use Rattle.std.proofs.Common.{◌≡◌, ◌≢◌, ℕ, suc, ◌+◌, ◌-◌, ◌^◌, ◌<◌, ◌≤◌, Bool, true, false, not, ◌&&◌, ◌||◌, List, [], ◌∷◌, length, nat_lt, refl, sym, ap, ◌∙◌, subst, arith}
-use Rattle.std.specs.Prelude.{◌==◌, All, filter, Option, None, Some, if◌then◌else◌}
+use Rattle.std.proofs.Common.{◌≡◌, ◌≢◌, ℕ, suc, ◌+◌, ◌-◌, ◌^◌, ◌<◌, ◌≤◌, Bool, true, false, not, ◌&&◌, ◌||◌, List, [], ◌∷◌, length, nat_lt, refl, ap, ◌∙◌, subst, arith}
+use Rattle.std.specs.Prelude.{◌==◌, filter, Option, None, Some, if◌then◌else◌}
 use Rattle.std.specs.List.{list_all, position_from, AllByRecursion, IsDistinct}
-use Rattle.std.specs.Option.{option_and_then, option_or, option_map}
+use Rattle.std.specs.Option.{option_and_then, option_map}
 use Rattle.std.proofs.lemmas.Bool.{true≢false, eqb-false, lt-ltb, ltb-false}
-use Rattle.std.proofs.lemmas.List.Elements.{All-nil, All-cons}
-use Rattle.std.proofs.lemmas.Option.{none-some}
+use Rattle.std.proofs.lemmas.List.Elements.{All-nil}
 use Rattle.client_registry.proofs.HistoryLaws.{IsKept-begun, IsKept-longer, length-commands_of, frames_in-below, counter_in-below, accepts-add, accepts-delete, accepts-search}
 use Rattle.client_registry.proofs.PushLaws.{IsCollected-push}
-use Rattle.client_registry.specs.declared.faults.WordFault.TheVariants as words
-use Rattle.client_registry.specs.declared.faults.DocFault.TheVariants as documents
-use Rattle.client_registry.specs.declared.faults.DocsFault.TheVariants as collected
 use Rattle.client_registry.specs.declared.faults.SizeFault.{SizeFault}
-use Rattle.client_registry.specs.WordRule.{word_refusal, clean_len}
+use Rattle.client_registry.specs.WordRule.{word_refusal}
 use Rattle.client_registry.specs.Document.{Document}
-use Rattle.client_registry.specs.DocumentRule.{IsDocument, doc_refusal, first_repeat}
-use Rattle.client_registry.specs.Documents.{docs_refusal, is_live, pairs_of, IsCollected}
+use Rattle.client_registry.specs.DocumentRule.{IsDocument}
+use Rattle.client_registry.specs.Documents.{IsCollected}
 use Rattle.client_registry.specs.Acceptance.{setup_refusal}
 use Rattle.client_registry.specs.Command.{Command, Add, Delete, Search, is_update}
 use Rattle.client_registry.specs.Histories.{is_set_up, longer, is_live_in, is_listed_in, counter_in, frames_in, accepts, IsKept}
@@ -23,86 +19,14 @@ use Rattle.client_registry.specs.Run.{History, commands_of}
 use Rattle.client_registry.specs.Setup.{setup_of}
 use Rattle.client_registry.specs.Sized.{IsSizedCommand}
 use Rattle.sse_script.specs.declared.refusal.Refusal.TheVariants.{Zero, AlreadyLive, UnknownDocument, CounterFull, HistoryFull}
-use Rattle.script_meaning.specs.Refused.{word_refused, doc_refused, docs_refused, size_refused, bad_word, document_refusal, index_refusal, frame_refusal, counter_refusal, add_refusal, delete_refusal}
-use Rattle.script_meaning.specs.Outcome.{Place, Outcome, opened, document, after, is_refusal}
-use Rattle.script_meaning.specs.Built.{Built, comes_to}
+use Rattle.line_documents.specs.LineDocument.{document}
+use Rattle.line_documents.specs.Refused.{word_refused, document_refusal}
+use Rattle.line_documents.proofs.Passed.{some-none, neither, passed, word_passed, document_passed, docs_passed}
+use Rattle.script_meaning.specs.Refused.{size_refused, index_refusal, frame_refusal, counter_refusal, add_refusal, delete_refusal}
+use Rattle.script_meaning.specs.Outcome.{Place, Outcome, opened, outcome, after, is_refusal}
 use Rattle.script_meaning.specs.Lines.{Request, Doc, SetupLine, AddLine, Del, Find, Line, Empty, Key, Command as CommandLine}
 use Rattle.script_meaning.specs.Meaning.{follow, meant_from}
 use Rattle.script_meaning.proofs.Outcomes.{ByCases, by_cases}
-
-some-none : {A : Type 0} (x : A) → Some x ≡ None → ⊥
-some-none x e = none-some x (sym e)
-
--- neither of two causes stands
-neither : {A : Type 0} (a b : Option A) → option_or a b ≡ None → (a ≡ None) × (b ≡ None)
-neither None b h = (refl, h)
-neither (Some x) b h = absurd (some-none x h)
-
--- a cause that is tested first doesn't stand, nor what is tested after it
-passed : {A : Type 0} (b : Bool) (x : A) (rest : Option A) → (if b then Some x else rest) ≡ None → (b ≡ false) × (rest ≡ None)
-passed true x rest h = absurd (some-none x h)
-passed false x rest h = (refl, h)
-
--- Each fault is a refusal, but for want of memory, which no rule names.
-
-word_passed : (position : ℕ) (word : List ℕ) → option_and_then (word_refused position) (word_refusal word) ≡ None → word_refusal word ≡ None
-word_passed position word = by (length word == 0) (nat_lt 64 (length word)) (nat_lt (clean_len word) (length word))
-  where
-    by : (a b c : Bool) →
-        option_and_then (word_refused position) (if a then Some words.Empty else if b then Some (words.TooLong (length word)) else if c then Some (words.BadByte (clean_len word)) else None) ≡ None →
-        (if a then Some words.Empty else if b then Some (words.TooLong (length word)) else if c then Some (words.BadByte (clean_len word)) else None) ≡ None
-    by true b c h = absurd (some-none _ h)
-    by false true c h = absurd (some-none _ h)
-    by false false true h = absurd (some-none _ h)
-    by false false false h = refl
-
-abbrev IsWord : List ℕ → Type 0
-IsWord word = word_refusal word ≡ None
-
-words_passed : (position : ℕ) (fields : List (List ℕ)) → bad_word position fields ≡ None → All IsWord fields
-words_passed position [] h = All-nil IsWord
-words_passed position (word ∷ later) h =
-    let both = neither _ (bad_word (position + 1) later) h in
-    All-cons IsWord word later (word_passed position word both.0) (words_passed (position + 1) later both.1)
-
-doc_passed : (fields : List (List ℕ)) → option_and_then doc_refused (doc_refusal fields) ≡ None → doc_refusal fields ≡ None
-doc_passed fields = by (nat_lt 4096 (length fields)) (first_repeat fields)
-  where
-    by : (many : Bool) (repeat : Option ℕ) →
-        option_and_then doc_refused (if many then Some (documents.TooManyWords (length fields)) else option_map (λ position. documents.RepeatedWord position) repeat) ≡ None →
-        (if many then Some (documents.TooManyWords (length fields)) else option_map (λ position. documents.RepeatedWord position) repeat) ≡ None
-    by true repeat h = absurd (some-none _ h)
-    by false None h = refl
-    by false (Some position) h = absurd (some-none _ h)
-
--- what is left of the fields of a document that isn't refused
-document_passed : (id : ℕ) (fields : List (List ℕ)) → id < 2 ^ 64 → document_refusal id fields ≡ None → IsDocument (document id fields)
-document_passed id fields fits h =
-    let whole = passed (id == 0) Zero _ h in
-    let both = neither (bad_word 0 fields) _ whole.1 in
-    let some : id ≢ 0 = eqb-false id 0 whole.0 in record {
-      some = omega (arith, some);
-      fits = fits;
-      accepted = doc_passed fields both.1;
-      are_words = words_passed 0 fields both.0;
-    }
-
--- what is so of a document that the others take
-record IsTaken (docs : List Document) (d : Document) : Type 0 where
-  new : is_live docs d.id ≡ false
-  documents : length docs + 1 ≤ 2 ^ 18
-  pairs : pairs_of docs + length d.words ≤ 2 ^ 20
-
-docs_passed : (docs : List Document) (d : Document) → option_and_then docs_refused (docs_refusal docs d) ≡ None → IsTaken docs d
-docs_passed docs d = by (is_live docs d.id) (nat_lt (2 ^ 18) (length docs + 1)) (nat_lt (2 ^ 20) (pairs_of docs + length d.words)) refl refl refl
-  where
-    by : (a b c : Bool) → is_live docs d.id ≡ a → nat_lt (2 ^ 18) (length docs + 1) ≡ b → nat_lt (2 ^ 20) (pairs_of docs + length d.words) ≡ c →
-        option_and_then docs_refused (if a then Some (collected.AlreadyLive d.id) else if b then Some (collected.TooManyDocuments (length docs + 1)) else if c then Some (collected.TooManyPairs (pairs_of docs + length d.words)) else None) ≡ None →
-        IsTaken docs d
-    by true b c e f g h = absurd (some-none _ h)
-    by false true c e f g h = absurd (some-none _ h)
-    by false false true e f g h = absurd (some-none _ h)
-    by false false false e f g h = record { new = e; documents = ltb-false _ _ f; pairs = ltb-false _ _ g }
 
 index_passed : (docs : List Document) (b big : ℕ) → index_refusal docs b big ≡ None → setup_refusal docs b big ≡ None
 index_passed docs b big h = by (setup_refusal docs b big) h
@@ -185,14 +109,14 @@ no_documents : IsCollected []
 unfolding IsDistinct
 no_documents = record { documents = omega arith; pairs = omega arith; different = tt; are_documents = All-nil IsDocument }
 
-IsKeptAt-opened : (n : ℕ) (key : List ℕ) → IsKeptAt n (opened key)
+pub IsKeptAt-opened : (n : ℕ) (key : List ℕ) → IsKeptAt n (opened key)
 IsKeptAt-opened n key = record { documents = no_documents; history = tt; few = omega arith }
 
 kept_longer : (n : ℕ) (place : Place) → IsKeptAt n place → IsKeptAt (suc n) place
 kept_longer n place kept = record { documents = kept.documents; history = kept.history; few = omega (arith, kept.few) }
 
--- whatever is carried out, the place behind a line keeps the limits
-module _ (built : Built) (n : ℕ) (place : Place) (line : Request) (within : IsWithin line) (kept : IsKeptAt n place) where
+-- the place behind a line keeps the limits
+module _ (n : ℕ) (place : Place) (line : Request) (within : IsWithin line) (kept : IsKeptAt n place) where
   abbrev Kept : Outcome → Type 0
   Kept result = IsKeptAt (suc n) (after result place)
 
@@ -203,7 +127,7 @@ module _ (built : Built) (n : ℕ) (place : Place) (line : Request) (within : Is
     few = omega (arith, kept.few, length-commands_of place.history (c ∷ []));
   }
 
-  cases : ByCases built place line Kept
+  cases : ByCases place line Kept
   cases = record {
     refuses = λ refusal. kept_longer n place kept;
     collects = λ id words is none e.
@@ -218,37 +142,36 @@ module _ (built : Built) (n : ℕ) (place : Place) (line : Request) (within : Is
       history = IsKept-begun (setup_of place.documents b big) kept.documents (index_passed place.documents b big e);
       few = omega arith;
     };
-    adds = λ id words is up e b.
+    adds = λ id words is up e.
         let known = add_passed place.history (document id words) kept.history (subst IsWithin is within) up e in
         kept_command (Add (document id words)) (known.0, known.1) known.2;
-    deletes = λ id is up e b.
+    deletes = λ id is up e.
         let known = delete_passed place.history id up e in
         kept_command (Delete id) ((known.0, subst IsWithin is within), known.1) known.2;
     finds = λ word up e.
         kept_command (Search word) (word_passed 0 word (neither (option_and_then (word_refused 0) (word_refusal word)) None e).0, accepts-search place.history word up) (omega (arith, frames_in-below place.history kept.history));
   }
 
-  pub kept_next : IsKeptAt (suc n) (after (comes_to built place line) place)
-  kept_next = by_cases built place line Kept cases
+  pub kept_next : IsKeptAt (suc n) (after (outcome place line) place)
+  kept_next = by_cases place line Kept cases
 
-module _ (built : Built) where
-  -- and so does the history of all that follows
-  pub kept_follow : (n : ℕ) (place : Place) (number : ℕ) (lines : List (Option Line)) (refused : Bool) → AllByRecursion IsWithinItem lines → IsKeptAt n place
-      → IsKept (follow built place number lines refused).history × (length (commands_of (follow built place number lines refused).history) ≤ n + length lines)
-  kept_follow n place number [] refused within kept = (kept.history, omega (arith, kept.few))
-  kept_follow n place number (None ∷ lines) refused within kept = (kept.history, omega (arith, kept.few))
-  kept_follow n place number (Some Empty ∷ lines) refused within kept =
-      let rest = kept_follow n place (number + 1) lines refused within.1 kept in (rest.0, omega (arith, rest.1))
-  kept_follow n place number (Some (Key key) ∷ lines) refused within kept = (kept.history, omega (arith, kept.few))
-  kept_follow n place number (Some (CommandLine line) ∷ lines) refused within kept =
-      let rest = kept_follow (suc n) (after (comes_to built place line) place) (number + 1) lines (refused || is_refusal (comes_to built place line)) within.1 (kept_next built n place line within.0 kept) in
-      (rest.0, omega (arith, rest.1))
+-- and so does the history of all that follows
+pub kept_follow : (n : ℕ) (place : Place) (number : ℕ) (lines : List (Option Line)) (refused : Bool) → AllByRecursion IsWithinItem lines → IsKeptAt n place
+    → IsKept (follow place number lines refused).history × (length (commands_of (follow place number lines refused).history) ≤ n + length lines)
+kept_follow n place number [] refused within kept = (kept.history, omega (arith, kept.few))
+kept_follow n place number (None ∷ lines) refused within kept = (kept.history, omega (arith, kept.few))
+kept_follow n place number (Some Empty ∷ lines) refused within kept =
+    let rest = kept_follow n place (number + 1) lines refused within.1 kept in (rest.0, omega (arith, rest.1))
+kept_follow n place number (Some (Key key) ∷ lines) refused within kept = (kept.history, omega (arith, kept.few))
+kept_follow n place number (Some (CommandLine line) ∷ lines) refused within kept =
+    let rest = kept_follow (suc n) (after (outcome place line) place) (number + 1) lines (refused || is_refusal (outcome place line)) within.1 (kept_next n place line within.0 kept) in
+    (rest.0, omega (arith, rest.1))
 
-  pub kept_meant : (number : ℕ) (lines : List (Option Line)) → AllByRecursion IsWithinItem lines
-      → IsKept (meant_from built number lines).history × (length (commands_of (meant_from built number lines).history) ≤ length lines)
-  kept_meant number [] within = (tt, omega arith)
-  kept_meant number (None ∷ lines) within = (tt, omega arith)
-  kept_meant number (Some Empty ∷ lines) within = let rest = kept_meant (number + 1) lines within.1 in (rest.0, omega (arith, rest.1))
-  kept_meant number (Some (Key key) ∷ lines) within =
-      let rest = kept_follow 0 (opened key) (number + 1) lines false within.1 (IsKeptAt-opened 0 key) in (rest.0, omega (arith, rest.1))
-  kept_meant number (Some (CommandLine line) ∷ lines) within = (tt, omega arith)
+pub kept_meant : (number : ℕ) (lines : List (Option Line)) → AllByRecursion IsWithinItem lines
+    → IsKept (meant_from number lines).history × (length (commands_of (meant_from number lines).history) ≤ length lines)
+kept_meant number [] within = (tt, omega arith)
+kept_meant number (None ∷ lines) within = (tt, omega arith)
+kept_meant number (Some Empty ∷ lines) within = let rest = kept_meant (number + 1) lines within.1 in (rest.0, omega (arith, rest.1))
+kept_meant number (Some (Key key) ∷ lines) within =
+    let rest = kept_follow 0 (opened key) (number + 1) lines false within.1 (IsKeptAt-opened 0 key) in (rest.0, omega (arith, rest.1))
+kept_meant number (Some (CommandLine line) ∷ lines) within = (tt, omega arith)

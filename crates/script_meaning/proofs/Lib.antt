@@ -9,5 +9,6 @@ pub mod RunGoes
 pub mod Honest
 pub mod Headline
 mod RunRows
+mod UpdateRows
 pub mod Sent
 mod ClashRows

@@ -7,7 +7,6 @@ use Rattle.std.specs.Str.Lossy.{utf8_valid_len}
 use Rattle.hex.proofs.OnLiterals.{hex_on_literals}
 use Rattle.sse_script.specs.Shown.{Found}
 use Rattle.sse_script.specs.Texts.{text_of}
-use Rattle.script_meaning.specs.Built.{Built, all_built, is_built}
 use Rattle.script_meaning.specs.Carries.{with_answers}
 use Rattle.script_meaning.specs.Lines.{lines_in}
 use Rattle.script_meaning.specs.Meaning.{Meaning, meant}
@@ -18,126 +17,146 @@ use lib.Utf8.{encode}
 abbrev key_zero : List ℕ
 key_zero = codes "key " ++ replicate 64 48
 
-abbrev of_lines : Built → List (List ℕ) → Meaning
-of_lines built lines = meant built (lines_in lines)
+abbrev of_lines : List (List ℕ) → Meaning
+of_lines lines = meant (lines_in lines)
 
 -- all that is printed for these lines behind the key line
-abbrev printed : Built → List (List ℕ) → List ℕ
-printed built lines = flat_map text_of (of_lines built (key_zero ∷ lines)).shown ++ stop_text (of_lines built (key_zero ∷ lines)).end
+abbrev printed : List (List ℕ) → List ℕ
+printed lines = flat_map text_of (of_lines (key_zero ∷ lines)).shown ++ stop_text (of_lines (key_zero ∷ lines)).end
 
 found_in_order :
-    printed all_built (codes "doc 9 a b" ∷ codes "doc 3 a" ∷ codes "setup 4 4" ∷ codes "find a" ∷ codes "find z" ∷ [])
+    printed (codes "doc 9 a b" ∷ codes "doc 3 a" ∷ codes "setup 4 4" ∷ codes "find a" ∷ codes "find z" ∷ [])
     ≡ codes "set up 2 words 0 blocks\nfound 2: 3 9\nfound 0:\n"
 unfolding digits hex_on_literals utf8_valid_len is_utf8 chars encode
 found_in_order = refl
 
 set_up_without_documents :
-    printed all_built (codes "setup 4 4" ∷ codes "find a" ∷ codes "add 1 a" ∷ codes "find a" ∷ [])
+    printed (codes "setup 4 4" ∷ codes "find a" ∷ codes "add 1 a" ∷ codes "find a" ∷ [])
     ≡ codes "set up 0 words 0 blocks\nfound 0:\nadded 1\nfound 1: 1\n"
 unfolding digits hex_on_literals utf8_valid_len is_utf8 chars encode
 set_up_without_documents = refl
 
 five_in_blocks :
-    printed all_built (codes "doc 1 a" ∷ codes "doc 2 a" ∷ codes "doc 3 a" ∷ codes "doc 4 a" ∷ codes "doc 5 a" ∷ codes "setup 2 2" ∷ codes "find a" ∷ [])
+    printed (codes "doc 1 a" ∷ codes "doc 2 a" ∷ codes "doc 3 a" ∷ codes "doc 4 a" ∷ codes "doc 5 a" ∷ codes "setup 2 2" ∷ codes "find a" ∷ [])
     ≡ codes "set up 1 words 5 blocks\nfound 5: 1 2 3 4 5\n"
 unfolding digits hex_on_literals utf8_valid_len is_utf8 chars encode
 five_in_blocks = refl
 
 too_long_a_list :
-    printed all_built (codes "doc 1 a" ∷ codes "doc 2 a" ∷ codes "doc 3 a" ∷ codes "setup 1 1" ∷ [])
+    printed (codes "doc 1 a" ∷ codes "doc 2 a" ∷ codes "doc 3 a" ∷ codes "setup 1 1" ∷ [])
     ≡ codes "refused: list of word 0 has 3 identifiers\n"
 unfolding digits hex_on_literals utf8_valid_len is_utf8 chars encode
 too_long_a_list = refl
 
 deleted_twice :
-    printed all_built (codes "doc 3 a b" ∷ codes "doc 9 a" ∷ codes "setup 4 4" ∷ codes "del 3" ∷ codes "find a" ∷ codes "del 3" ∷ [])
+    printed (codes "doc 3 a b" ∷ codes "doc 9 a" ∷ codes "setup 4 4" ∷ codes "del 3" ∷ codes "find a" ∷ codes "del 3" ∷ [])
     ≡ codes "set up 2 words 0 blocks\ndeleted 3\nfound 1: 9\nrefused: unknown document 3\n"
 unfolding digits hex_on_literals utf8_valid_len is_utf8 chars encode
 deleted_twice = refl
 
 added_again :
-    printed all_built (codes "doc 1 a" ∷ codes "setup 1 1" ∷ codes "add 5 a" ∷ codes "del 5" ∷ codes "add 5 a c" ∷ codes "find a" ∷ [])
+    printed (codes "doc 1 a" ∷ codes "setup 1 1" ∷ codes "add 5 a" ∷ codes "del 5" ∷ codes "add 5 a c" ∷ codes "find a" ∷ [])
     ≡ codes "set up 1 words 0 blocks\nadded 5\ndeleted 5\nadded 5\nfound 2: 1 5\n"
 unfolding digits hex_on_literals utf8_valid_len is_utf8 chars encode
 added_again = refl
 
 live_already :
-    printed all_built (codes "doc 5 a" ∷ codes "setup 1 1" ∷ codes "add 5 a" ∷ codes "add 6 a" ∷ [])
+    printed (codes "doc 5 a" ∷ codes "setup 1 1" ∷ codes "add 5 a" ∷ codes "add 6 a" ∷ [])
     ≡ codes "set up 1 words 0 blocks\nrefused: document 5 is live\nadded 6\n"
 unfolding digits hex_on_literals utf8_valid_len is_utf8 chars encode
 live_already = refl
 
 another_word :
-    printed all_built (codes "doc 5 a" ∷ codes "setup 1 1" ∷ codes "del 5" ∷ codes "add 5 c" ∷ codes "find a" ∷ codes "find c" ∷ [])
+    printed (codes "doc 5 a" ∷ codes "setup 1 1" ∷ codes "del 5" ∷ codes "add 5 c" ∷ codes "find a" ∷ codes "find c" ∷ [])
     ≡ codes "set up 1 words 0 blocks\ndeleted 5\nadded 5\nfound 0:\nfound 1: 5\n"
 unfolding digits hex_on_literals utf8_valid_len is_utf8 chars encode
 another_word = refl
 
 without_words :
-    printed all_built (codes "doc 1 a" ∷ codes "setup 1 1" ∷ codes "add 2" ∷ codes "del 2" ∷ codes "add 3 a" ∷ [])
+    printed (codes "doc 1 a" ∷ codes "setup 1 1" ∷ codes "add 2" ∷ codes "del 2" ∷ codes "add 3 a" ∷ [])
     ≡ codes "set up 1 words 0 blocks\nadded 2\ndeleted 2\nadded 3\n"
 unfolding digits hex_on_literals utf8_valid_len is_utf8 chars encode
 without_words = refl
 
 limits_of_words :
-    printed all_built (codes "doc 1 a" ∷ codes "doc 18446744073709551615 a" ∷ codes "doc 0 a" ∷ (codes "doc 2 " ++ replicate 64 120) ∷ (codes "doc 4 " ++ replicate 65 120) ∷ codes "setup 4 4" ∷ codes "find a" ∷ [])
+    printed (codes "doc 1 a" ∷ codes "doc 18446744073709551615 a" ∷ codes "doc 0 a" ∷ (codes "doc 2 " ++ replicate 64 120) ∷ (codes "doc 4 " ++ replicate 65 120) ∷ codes "setup 4 4" ∷ codes "find a" ∷ [])
     ≡ codes "refused: identifier zero\nrefused: word 0 is too long: 65\nset up 2 words 0 blocks\nfound 2: 1 18446744073709551615\n"
 unfolding digits hex_on_literals utf8_valid_len is_utf8 chars encode
 limits_of_words = refl
 
 -- a byte ff and a byte 7f, each in its line
 bad_bytes :
-    printed all_built ((codes "doc 1 ok " ++ 0xff ∷ []) ∷ codes "setup 1 1" ∷ (codes "find " ++ 0x7f ∷ []) ∷ (codes "add 0 " ++ 0x7f ∷ []) ∷ codes "del 0" ∷ codes "del 7" ∷ [])
+    printed ((codes "doc 1 ok " ++ 0xff ∷ []) ∷ codes "setup 1 1" ∷ (codes "find " ++ 0x7f ∷ []) ∷ (codes "add 0 " ++ 0x7f ∷ []) ∷ codes "del 0" ∷ codes "del 7" ∷ [])
     ≡ codes "refused: word 1 has a bad byte at 0\nset up 0 words 0 blocks\nrefused: word 0 has a bad byte at 0\nrefused: identifier zero\nrefused: identifier zero\nrefused: unknown document 7\n"
 unfolding digits hex_on_literals utf8_valid_len is_utf8 chars encode
 bad_bytes = refl
 
 refusals_in_order :
-    printed all_built (codes "find a" ∷ codes "doc 1 a a" ∷ codes "doc 1 a" ∷ codes "doc 1 b" ∷ codes "setup 0 4" ∷ codes "setup 1 257" ∷ codes "setup 1 1" ∷ codes "doc 2 a" ∷ [])
+    printed (codes "find a" ∷ codes "doc 1 a a" ∷ codes "doc 1 a" ∷ codes "doc 1 b" ∷ codes "setup 0 4" ∷ codes "setup 1 257" ∷ codes "setup 1 1" ∷ codes "doc 2 a" ∷ [])
     ≡ codes "refused: not set up\nrefused: word 1 is repeated\nrefused: document 1 is live\nrefused: b is 0\nrefused: B is 257\nset up 1 words 0 blocks\nrefused: set up already\n"
 unfolding digits hex_on_literals utf8_valid_len is_utf8 chars encode
 refusals_in_order = refl
 
--- what this client doesn't carry out: additions and deletions at any stage
-not_built :
-    printed is_built (codes "add 0 a" ∷ codes "doc 1 a" ∷ codes "doc 2 a" ∷ codes "setup 1 0" ∷ codes "setup 1 2" ∷ codes "del 1" ∷ codes "find a" ∷ [])
-    ≡ codes "refused: not built yet\nrefused: B is 0\nset up 1 words 1 blocks\nrefused: not built yet\nfound 2: 1 2\n"
+-- an addition and a deletion before the setup, and behind one
+before_and_behind :
+    printed (codes "add 0 a" ∷ codes "doc 1 a" ∷ codes "doc 2 a" ∷ codes "del 1" ∷ codes "setup 1 0" ∷ codes "setup 1 2" ∷ codes "del 1" ∷ codes "find a" ∷ [])
+    ≡ codes "refused: not set up\nrefused: not set up\nrefused: B is 0\nset up 1 words 1 blocks\ndeleted 1\nfound 1: 2\n"
 unfolding digits hex_on_literals utf8_valid_len is_utf8 chars encode
-not_built = refl
+before_and_behind = refl
+
+-- a document of the setup deleted, and added again with another word
+set_up_then_added_again :
+    printed (codes "doc 1 a" ∷ codes "setup 1 1" ∷ codes "add 2 a b" ∷ codes "find a" ∷ codes "del 1" ∷ codes "find a" ∷ codes "add 1 b" ∷ codes "find b" ∷ codes "find a" ∷ [])
+    ≡ codes "set up 1 words 0 blocks\nadded 2\nfound 2: 1 2\ndeleted 1\nfound 1: 2\nadded 1\nfound 2: 1 2\nfound 1: 2\n"
+unfolding digits hex_on_literals utf8_valid_len is_utf8 chars encode
+set_up_then_added_again = refl
+
+-- an added document deleted, and added again without one of its words; the list of the setup is in a block
+added_again_with_fewer :
+    printed (codes "doc 1 a" ∷ codes "doc 2 a b" ∷ codes "setup 1 2" ∷ codes "add 7 b a" ∷ codes "del 7" ∷ codes "find b" ∷ codes "add 7 a" ∷ codes "find a" ∷ codes "find b" ∷ [])
+    ≡ codes "set up 2 words 1 blocks\nadded 7\ndeleted 7\nfound 1: 2\nadded 7\nfound 3: 1 2 7\nfound 1: 2\n"
+unfolding digits hex_on_literals utf8_valid_len is_utf8 chars encode
+added_again_with_fewer = refl
+
+refusals_behind :
+    printed (codes "doc 1 a" ∷ codes "setup 1 1" ∷ codes "add 1 a" ∷ codes "add 0" ∷ codes "add 2 a a" ∷ codes "del 3" ∷ codes "del 0" ∷ [])
+    ≡ codes "set up 1 words 0 blocks\nrefused: document 1 is live\nrefused: identifier zero\nrefused: word 1 is repeated\nrefused: unknown document 3\nrefused: identifier zero\n"
+unfolding digits hex_on_literals utf8_valid_len is_utf8 chars encode
+refusals_behind = refl
 
 -- a bad line ends a script, and what stands behind it means nothing
 bad_line :
-    printed all_built (codes "doc 1 a" ∷ codes "setup 1 1" ∷ [] ∷ codes "find" ∷ codes "find a" ∷ [])
+    printed (codes "doc 1 a" ∷ codes "setup 1 1" ∷ [] ∷ codes "find" ∷ codes "find a" ∷ [])
     ≡ codes "set up 1 words 0 blocks\nstopped: line 5\n"
 unfolding digits hex_on_literals utf8_valid_len is_utf8 chars encode
 bad_line = refl
 
-second_key : printed all_built (key_zero ∷ codes "setup 1 1" ∷ []) ≡ codes "stopped: line 2\n"
+second_key : printed (key_zero ∷ codes "setup 1 1" ∷ []) ≡ codes "stopped: line 2\n"
 unfolding digits hex_on_literals
 second_key = refl
 
-no_line : stop_text (of_lines all_built []).end ≡ codes "stopped: line 1\n"
+no_line : stop_text (of_lines []).end ≡ codes "stopped: line 1\n"
 unfolding digits
 no_line = refl
 
-no_key : stop_text (of_lines all_built ([] ∷ [] ∷ [])).end ≡ codes "stopped: line 3\n"
+no_key : stop_text (of_lines ([] ∷ [] ∷ [])).end ≡ codes "stopped: line 3\n"
 unfolding digits
 no_key = refl
 
-late_key : stop_text (of_lines all_built ([] ∷ codes "setup 1 1" ∷ key_zero ∷ [])).end ≡ codes "stopped: line 2\n"
+late_key : stop_text (of_lines ([] ∷ codes "setup 1 1" ∷ key_zero ∷ [])).end ≡ codes "stopped: line 2\n"
 unfolding digits
 late_key = refl
 
 -- the statuses of all this
-status_of_found : status_of (of_lines all_built (key_zero ∷ codes "setup 1 1" ∷ codes "find a" ∷ [])).end ≡ 0
+status_of_found : status_of (of_lines (key_zero ∷ codes "setup 1 1" ∷ codes "find a" ∷ [])).end ≡ 0
 unfolding hex_on_literals utf8_valid_len is_utf8 chars encode
 status_of_found = refl
 
-status_of_refused : status_of (of_lines all_built (key_zero ∷ codes "find a" ∷ codes "setup 1 1" ∷ [])).end ≡ 1
+status_of_refused : status_of (of_lines (key_zero ∷ codes "find a" ∷ codes "setup 1 1" ∷ [])).end ≡ 1
 unfolding hex_on_literals utf8_valid_len is_utf8 chars encode
 status_of_refused = refl
 
-status_of_bad_line : status_of (of_lines all_built (key_zero ∷ codes "find a" ∷ codes "setup 1" ∷ [])).end ≡ 2
+status_of_bad_line : status_of (of_lines (key_zero ∷ codes "find a" ∷ codes "setup 1" ∷ [])).end ≡ 2
 unfolding hex_on_literals utf8_valid_len is_utf8 chars encode
 status_of_bad_line = refl
 

@@ -1,11 +1,12 @@
 -- A run goes as its script means: by induction over the lines that are left.
-use Rattle.std.proofs.Common.{◌≡◌, ◌⊎◌, ℕ, ◌+◌, ◌≤◌, inl, inr, Bool, true, false, ◌||◌, List, [], ◌∷◌, ◌++◌, length, take, drop, Some, None, refl, sym, ap, ◌∙◌, subst, arith, append_assoc}
+use Rattle.std.proofs.Common.{◌≡◌, ◌⊎◌, ℕ, suc, ◌+◌, ◌≤◌, inl, inr, Bool, true, false, ◌||◌, List, [], ◌∷◌, ◌++◌, length, take, drop, Some, None, refl, sym, ap, ◌∙◌, subst, arith, append_assoc}
 use Rattle.std.specs.Prelude.{Option, option_map}
 use Rattle.std.specs.Io.KnownBytes.{append_known}
+use Rattle.std.specs.List.{AllByRecursion}
 use Rattle.std.proofs.Math.Seq.{take-append-add}
 use Rattle.std.proofs.lemmas.List.{append-nil}
 use Rattle.client_registry.proofs.HistoryLaws.{IsFirstOf-same}
-use Rattle.client_registry.specs.Histories.{empty, IsFirstOf}
+use Rattle.client_registry.specs.Histories.{empty, IsKept, IsFirstOf}
 use Rattle.client_registry.specs.Run.{History}
 use Rattle.sse_outside.proofs.Known.{append_known-twice}
 use Rattle.keyed_fn.specs.KeyedFn.{KeyedFn}
@@ -16,16 +17,18 @@ use Rattle.sse_model.specs.Exchange.{asked}
 use Rattle.sse_model.specs.Histories.{frames_sent, HasNoCollision}
 use Rattle.sse_script.specs.Shown.{Cause, NoMemory}
 use Rattle.sse_script.specs.Stops.{cause_status}
-use Rattle.script_meaning.specs.Built.{is_built, comes_to}
+use Rattle.sse_script.specs.TextLines.{lines_of}
 use Rattle.script_meaning.specs.Carries.{Outside, keys_at, frames_by, collision_cause, clash_in_hand, text_with, Carries, FindsClash, IsCutShort, IsUnprinted}
 use Rattle.script_meaning.specs.Exchange.{Told, Adds, AreCut, IsCut}
 use Rattle.script_meaning.specs.Goes.{Passes, Prints, Goes}
-use Rattle.script_meaning.specs.Lines.{Line, Empty, Key, Command, Request}
-use Rattle.script_meaning.specs.Meaning.{Meaning, showing, follow, meant_from}
-use Rattle.script_meaning.specs.Outcome.{Place, Outcome, opened, after, shown_by, is_refusal}
+use Rattle.script_meaning.specs.Lines.{Line, Empty, Key, Command, Request, script_lines}
+use Rattle.script_meaning.specs.Meaning.{Meaning, showing, follow, meant_from, meaning}
+use Rattle.script_meaning.specs.Outcome.{Place, Outcome, opened, outcome, after, shown_by, is_refusal}
 use Rattle.script_meaning.specs.Runs.{Ended, ended, StopsReading, Stops, Runs, Opens}
 use Rattle.script_meaning.specs.Session.{frames_with, IsFree}
 use Rattle.script_meaning.specs.Stops.{Stop, AtEnd, SinkFault, At, status_of}
+use Rattle.script_meaning.proofs.Kept.{IsWithinItem, IsKeptAt, IsKeptAt-opened, kept_next}
+use Rattle.script_meaning.proofs.Within.{IsWithin-lines_in}
 use Rattle.script_meaning.proofs.Following.{frames-next, searches-next, no_clash-next, after-key, follow-key, first-follow}
 use Rattle.script_meaning.proofs.Going.{Adds-nothing, AreExchanged-none, append_known-nothing, text_with-append, front_more, Passes-behind, Passes-none, Prints-none, shows_status}
 
@@ -93,19 +96,19 @@ module _ (f : KeyedFn) where
 
   module _ (place : Place) (line : Request) (m : Meaning) (now : Outside) (end : Ended) where
     abbrev result : Outcome
-    result = comes_to is_built place line
+    result = outcome place line
 
     abbrev whole : Meaning
     whole = showing (shown_by result) m
 
     -- A run that stops in a line.
 
-    module _ (s : Stops f place result now end) (first : IsFirstOf (after result place).history m.history) where
+    module _ (s : Stops f place result now end) (kept : IsKept (after result place).history) (first : IsFirstOf (after result place).history m.history) where
       first_of : IsFirstOf end.history m.history
       first_of = subst (λ h. IsFirstOf h m.history) (sym s.history) first
 
       frames_of : frames_sent f (keys_at place) end.history ≡ frames_sent f (keys_at place) place.history ++ frames_by f place result
-      frames_of = ap (frames_sent f (keys_at place)) s.history ∙ frames-next is_built place line f
+      frames_of = ap (frames_sent f (keys_at place)) s.history ∙ frames-next place line f
 
       went-clash : FindsClash f place result now end.outside end.stop → Went f place.key place.history whole now end
       went-clash c =
@@ -123,7 +126,7 @@ module _ (f : KeyedFn) where
               cut = [];
               parts = refl;
               exchanged = AreExchanged-none;
-              left = inr (inr (refl, λ free. never c.cause c.found (no_clash-next f place line (subst (λ h. HasNoCollision f (keys_at place) h) s.history (subst (λ k. IsFree f k end.history) s.key free)))));
+              left = inr (inr (refl, λ free. never c.cause c.found (no_clash-next f place line kept (subst (λ h. HasNoCollision f (keys_at place) h) s.history (subst (λ k. IsFree f k end.history) s.key free)))));
               whole = λ few. absurd (omega (arith, few, status));
             };
             prints = Prints-none whole [] now.written end.outside.written (ap (λ (o : Outside). o.written) c.nothing);
@@ -152,7 +155,7 @@ module _ (f : KeyedFn) where
           let text = text_with u.answers (shown_by result) in
           let front = front_more u.p text (text_with [] m.shown) in
           let all : text_with u.answers whole.shown ≡ text ++ text_with [] m.shown =
-          ap (λ answers. text_with answers whole.shown) (sym (append-nil u.answers)) ∙ text_with-append u.answers [] (shown_by result) m.shown (u.sent.exchanged.count ∙ searches-next is_built place line f) in record {
+          ap (λ answers. text_with answers whole.shown) (sym (append-nil u.answers)) ∙ text_with-append u.answers [] (shown_by result) m.shown (u.sent.exchanged.count ∙ searches-next place line f) in record {
             same_key = s.key;
             history = first_of;
             more = frames;
@@ -178,14 +181,14 @@ module _ (f : KeyedFn) where
         let w : Went f place.key (after result place).history m next end = subst (λ k. Went f k (after result place).history m next end) (after-key result place) later in
         let text = text_with c.answers (shown_by result) in
         let all : text_with (c.answers ++ w.answers) whole.shown ≡ text ++ text_with w.answers m.shown =
-        text_with-append c.answers w.answers (shown_by result) m.shown (c.sent.exchanged.count ∙ searches-next is_built place line f) in
+        text_with-append c.answers w.answers (shown_by result) m.shown (c.sent.exchanged.count ∙ searches-next place line f) in
         record {
           same_key = w.same_key;
           history = w.history;
           more = frames_by f place result ++ w.more;
           frames =
               w.frames
-              ∙ ap (λ fs. fs ++ w.more) (frames-next is_built place line f)
+              ∙ ap (λ fs. fs ++ w.more) (frames-next place line f)
               ∙ append_assoc (frames_sent f (keys_at place) place.history) (frames_by f place result) w.more;
           answers = c.answers ++ w.answers;
           passes = Passes-behind f (frames_by f place result) w.more c.answers w.answers now.told next.told end c.sent.events c.sent.adds c.sent.exchanged w.passes;
@@ -204,29 +207,30 @@ module _ (f : KeyedFn) where
 
   -- All lines.
 
-  went : (place : Place) (number : ℕ) (lines : List (Option Line)) (refused : Bool) (now : Outside) (end : Ended) → Runs f place number lines refused now end
-      → Went f place.key place.history (follow is_built place number lines refused) now end
-  went place number [] refused now end (inl e) = went-here place.key place.history _ now (AtEnd refused) end e (IsFirstOf-same place.history) (at_end refused) (λ few. (refl, refl, refl))
+  went : (n : ℕ) (place : Place) (number : ℕ) (lines : List (Option Line)) (refused : Bool) (now : Outside) (end : Ended) → AllByRecursion IsWithinItem lines → IsKeptAt n place → Runs f place number lines refused now end
+      → Went f place.key place.history (follow place number lines refused) now end
+  went n place number [] refused now end within kept (inl e) = went-here place.key place.history _ now (AtEnd refused) end e (IsFirstOf-same place.history) (at_end refused) (λ few. (refl, refl, refl))
     where
       at_end : (b : Bool) → status_of (AtEnd b) ≤ 7
       at_end true = omega arith
       at_end false = omega arith
-  went place number [] refused now end (inr reading) = went-reading place.key place.history _ now end (IsFirstOf-same place.history) reading
-  went place number (None ∷ lines) refused now end (inl e) = went-here place.key place.history _ now _ end e (IsFirstOf-same place.history) (omega arith) (λ few. (refl, refl, refl))
-  went place number (None ∷ lines) refused now end (inr reading) = went-reading place.key place.history _ now end (IsFirstOf-same place.history) reading
-  went place number (Some Empty ∷ lines) refused now end (inl reading) = went-reading place.key place.history _ now end (first-follow is_built place (number + 1) lines refused) reading
-  went place number (Some Empty ∷ lines) refused now end (inr runs) = went place (number + 1) lines refused now end runs
-  went place number (Some (Key key) ∷ lines) refused now end (inl e) = went-here place.key place.history _ now _ end e (IsFirstOf-same place.history) (omega arith) (λ few. (refl, refl, refl))
-  went place number (Some (Key key) ∷ lines) refused now end (inr reading) = went-reading place.key place.history _ now end (IsFirstOf-same place.history) reading
-  went place number (Some (Command line) ∷ lines) refused now end (inl reading) =
-      went-reading place.key place.history _ now end (first-follow is_built place number (Some (Command line) ∷ lines) refused) reading
-  went place number (Some (Command line) ∷ lines) refused now end (inr (inl stops)) =
-      let r = comes_to is_built place line in
-      went-stopped place line (follow is_built (after r place) (number + 1) lines (refused || is_refusal r)) now end stops (first-follow is_built (after r place) (number + 1) lines (refused || is_refusal r))
-  went place number (Some (Command line) ∷ lines) refused now end (inr (inr (next, carries, runs))) =
-      let r = comes_to is_built place line in
-      went-carried place line (follow is_built (after r place) (number + 1) lines (refused || is_refusal r)) now end next carries
-      (went (after r place) (number + 1) lines (refused || is_refusal r) next end runs)
+  went n place number [] refused now end within kept (inr reading) = went-reading place.key place.history _ now end (IsFirstOf-same place.history) reading
+  went n place number (None ∷ lines) refused now end within kept (inl e) = went-here place.key place.history _ now _ end e (IsFirstOf-same place.history) (omega arith) (λ few. (refl, refl, refl))
+  went n place number (None ∷ lines) refused now end within kept (inr reading) = went-reading place.key place.history _ now end (IsFirstOf-same place.history) reading
+  went n place number (Some Empty ∷ lines) refused now end within kept (inl reading) = went-reading place.key place.history _ now end (first-follow place (number + 1) lines refused) reading
+  went n place number (Some Empty ∷ lines) refused now end within kept (inr runs) = went n place (number + 1) lines refused now end within.1 kept runs
+  went n place number (Some (Key key) ∷ lines) refused now end within kept (inl e) = went-here place.key place.history _ now _ end e (IsFirstOf-same place.history) (omega arith) (λ few. (refl, refl, refl))
+  went n place number (Some (Key key) ∷ lines) refused now end within kept (inr reading) = went-reading place.key place.history _ now end (IsFirstOf-same place.history) reading
+  went n place number (Some (Command line) ∷ lines) refused now end within kept (inl reading) =
+      went-reading place.key place.history _ now end (first-follow place number (Some (Command line) ∷ lines) refused) reading
+  went n place number (Some (Command line) ∷ lines) refused now end within kept (inr (inl stops)) =
+      let r = outcome place line in
+      went-stopped place line (follow (after r place) (number + 1) lines (refused || is_refusal r)) now end stops (kept_next n place line within.0 kept).history
+      (first-follow (after r place) (number + 1) lines (refused || is_refusal r))
+  went n place number (Some (Command line) ∷ lines) refused now end within kept (inr (inr (next, carries, runs))) =
+      let r = outcome place line in
+      went-carried place line (follow (after r place) (number + 1) lines (refused || is_refusal r)) now end next carries
+      (went (suc n) (after r place) (number + 1) lines (refused || is_refusal r) next end within.1 (kept_next n place line within.0 kept) runs)
 
   -- Before the key line.
 
@@ -246,20 +250,20 @@ module _ (f : KeyedFn) where
   goes-reading m now end (inl e) = goes-here m now _ end e (omega arith) (λ few. absurd (omega (arith, few)))
   goes-reading m now end (inr e) = goes-here m now _ end e (omega arith) (λ few. absurd (omega (arith, few)))
 
-  -- a run goes as its script means
-  pub goes : (number : ℕ) (lines : List (Option Line)) (now : Outside) (end : Ended) → Opens f number lines now end → Goes f (meant_from is_built number lines) now end
-  goes number [] now end (inl e) = goes-here _ now _ end e (omega arith) (λ few. (refl, refl, refl, refl))
-  goes number [] now end (inr reading) = goes-reading _ now end reading
-  goes number (None ∷ lines) now end (inl e) = goes-here _ now _ end e (omega arith) (λ few. (refl, refl, refl, refl))
-  goes number (None ∷ lines) now end (inr reading) = goes-reading _ now end reading
-  goes number (Some (Command line) ∷ lines) now end (inl e) = goes-here _ now _ end e (omega arith) (λ few. (refl, refl, refl, refl))
-  goes number (Some (Command line) ∷ lines) now end (inr reading) = goes-reading _ now end reading
-  goes number (Some Empty ∷ lines) now end (inl reading) = goes-reading _ now end reading
-  goes number (Some Empty ∷ lines) now end (inr opens) = goes (number + 1) lines now end opens
-  goes number (Some (Key key) ∷ lines) now end (inl reading) = goes-reading _ now end reading
-  goes number (Some (Key key) ∷ lines) now end (inr (inl away)) =
-      let m = follow is_built (opened key) (number + 1) lines false in record {
-        key = inr (away.same_key ∙ sym (follow-key is_built (opened key) (number + 1) lines false));
+  -- a run goes as its lines mean, whose identifiers are below 2^64
+  pub goes_from : (number : ℕ) (lines : List (Option Line)) (now : Outside) (end : Ended) → AllByRecursion IsWithinItem lines → Opens f number lines now end → Goes f (meant_from number lines) now end
+  goes_from number [] now end within (inl e) = goes-here _ now _ end e (omega arith) (λ few. (refl, refl, refl, refl))
+  goes_from number [] now end within (inr reading) = goes-reading _ now end reading
+  goes_from number (None ∷ lines) now end within (inl e) = goes-here _ now _ end e (omega arith) (λ few. (refl, refl, refl, refl))
+  goes_from number (None ∷ lines) now end within (inr reading) = goes-reading _ now end reading
+  goes_from number (Some (Command line) ∷ lines) now end within (inl e) = goes-here _ now _ end e (omega arith) (λ few. (refl, refl, refl, refl))
+  goes_from number (Some (Command line) ∷ lines) now end within (inr reading) = goes-reading _ now end reading
+  goes_from number (Some Empty ∷ lines) now end within (inl reading) = goes-reading _ now end reading
+  goes_from number (Some Empty ∷ lines) now end within (inr opens) = goes_from (number + 1) lines now end within.1 opens
+  goes_from number (Some (Key key) ∷ lines) now end within (inl reading) = goes-reading _ now end reading
+  goes_from number (Some (Key key) ∷ lines) now end within (inr (inl away)) =
+      let m = follow (opened key) (number + 1) lines false in record {
+        key = inr (away.same_key ∙ sym (follow-key (opened key) (number + 1) lines false));
         history = subst (λ h. IsFirstOf h m.history) (sym away.history) tt;
         answers = away.cut.answers;
         passes = subst (λ fs. Passes f fs away.cut.answers now.told end) (λ i. frames_with f (sym away.same_key i) (sym away.history i))
@@ -267,10 +271,10 @@ module _ (f : KeyedFn) where
         prints = Prints-none m away.cut.answers now.written end.outside.written away.unprinted;
         ended = λ few. absurd (omega (arith, few, ap status_of away.stops, cut_status _ away.cut.cut away.cause away.cut.one_more));
       }
-  goes number (Some (Key key) ∷ lines) now end (inr (inr (next, greeted, runs))) =
-      let m = follow is_built (opened key) (number + 1) lines false in
-      let w = went (opened key) (number + 1) lines false next end runs in record {
-        key = inr (w.same_key ∙ sym (follow-key is_built (opened key) (number + 1) lines false));
+  goes_from number (Some (Key key) ∷ lines) now end within (inr (inr (next, greeted, runs))) =
+      let m = follow (opened key) (number + 1) lines false in
+      let w = went 0 (opened key) (number + 1) lines false next end within.1 (IsKeptAt-opened 0 key) runs in record {
+        key = inr (w.same_key ∙ sym (follow-key (opened key) (number + 1) lines false));
         history = w.history;
         answers = w.answers;
         passes = subst (λ fs. Passes f fs w.answers now.told end) (sym w.frames ∙ ap (λ k. frames_with f k end.history) (sym w.same_key))
@@ -278,5 +282,9 @@ module _ (f : KeyedFn) where
         prints = record { p = w.prints.p; written = w.prints.written ∙ ap (λ o. append_known o (take w.prints.p (text_with w.answers m.shown))) greeted.unprinted };
         ended = λ few.
             let well = w.ended_well few in
-            (well.0, w.same_key ∙ sym (follow-key is_built (opened key) (number + 1) lines false), well.1, well.2 ∙ ap (λ o. append_known o (text_with w.answers m.shown)) greeted.unprinted);
+            (well.0, w.same_key ∙ sym (follow-key (opened key) (number + 1) lines false), well.1, well.2 ∙ ap (λ o. append_known o (text_with w.answers m.shown)) greeted.unprinted);
       }
+
+  -- so a run goes as its script means
+  pub goes : (bytes : List ℕ) (now : Outside) (end : Ended) → Opens f 1 (script_lines bytes) now end → Goes f (meaning bytes) now end
+  goes bytes now end opens = goes_from 1 (script_lines bytes) now end (IsWithin-lines_in (lines_of bytes)) opens

@@ -33,36 +33,36 @@ use Rattle.sse_model.specs.Exchange.{ForNext, ForTook, ForAnswer, exchange, sear
 use Rattle.sse_model.specs.Histories.{table_of}
 use Rattle.sse_script.specs.Shown.{LinkFault}
 use Rattle.sse_script.specs.Shown.{Found}
+use Rattle.line_documents.specs.LineDocument.{document}
 use Rattle.script_meaning.proofs.Headline.{headline}
 use Rattle.script_meaning.proofs.Within.{meaning_is_kept}
 use Rattle.script_meaning.proofs.Going.{Adds-nothing, AreExchanged-none, append_known-nothing}
 use Rattle.script_meaning.specs.Carries.{Outside, Carries, frames_by}
-use Rattle.script_meaning.specs.Built.{is_built}
 use Rattle.script_meaning.specs.Exchange.{AreExchanged, AreCut, IsCut, IsAwaiting, bare, as_event}
 use Rattle.script_meaning.specs.Headline.{IsOverHonest, IsCalm, Headline}
 use Rattle.script_meaning.specs.Lines.{script_lines}
 use Rattle.script_meaning.specs.Meaning.{meaning}
-use Rattle.script_meaning.specs.Outcome.{Place, opened, Collects, SetsUp, Does, document}
+use Rattle.script_meaning.specs.Outcome.{Place, opened, Collects, SetsUp, Does}
 use Rattle.script_meaning.specs.Runs.{Ended, ended, Opens, IsGreeted}
 use Rattle.script_meaning.specs.Stops.{AtEnd, At}
 use lib.Utf8.{encode}
 
-abbrev toy : KeyedFn
+abbrev pub toy : KeyedFn
 toy = keyed_fn toy_prf toy_pad
 
-toy_laws : IsKeyedFn toy
+pub toy_laws : IsKeyedFn toy
 toy_laws = record { prf_length = length-toy_prf; prf_bytes = All-toy_prf; pad_length = length-toy_pad; pad_bytes = All-toy_pad; pad_prefix = take-toy_pad }
 
 abbrev script : List ℕ
 script = codes "key " ++ replicate 64 48 ++ codes "\ndoc 1 a\nsetup 1 1\nfind a\n"
 
-abbrev key : List ℕ
+abbrev pub key : List ℕ
 key = replicate 32 0
 
-abbrev a : List ℕ
+abbrev pub a : List ℕ
 a = 0x61 ∷ []
 
-abbrev setup : Setup
+abbrev pub setup : Setup
 setup = setup_of (document 1 (a ∷ []) ∷ []) 1 1
 
 abbrev run : Run
@@ -70,27 +70,27 @@ run = record { setup = setup; later = Search a ∷ [] }
 
 -- The events.
 
-abbrev sent : FrameText → Event
+abbrev pub sent : FrameText → Event
 sent frame = Sent (frame_bytes frame) Stepped
 
-abbrev received : ReplyText → Event
+abbrev pub received : ReplyText → Event
 received reply = Received (reply_bytes reply)
 
-abbrev place : Place
+abbrev pub place : Place
 place = record { key = key; documents = document 1 (a ∷ []) ∷ []; history = None }
 
 abbrev searching : Place
 searching = record { key = key; documents = document 1 (a ∷ []) ∷ []; history = Some (record { setup = setup; later = [] }) }
 
-abbrev setting_up : List FrameText
+abbrev pub setting_up : List FrameText
 setting_up = frames_by toy place (SetsUp setup)
 
 -- these frames, each acknowledged
-abbrev acknowledged : ℕ → List FrameText → List Event
+abbrev pub acknowledged : ℕ → List FrameText → List Event
 acknowledged q [] = []
 acknowledged q (frame ∷ frames) = sent frame ∷ received (Took q) ∷ acknowledged (q + 1) frames
 
-abbrev greeting : List Event
+abbrev pub greeting : List Event
 greeting = sent Hello ∷ received (Next 0) ∷ []
 
 abbrev asking : List FrameText
@@ -116,25 +116,25 @@ search_row = record { ids = All-cons (All IsIdentifier) (1 ∷ []) [] one (All-n
 
 -- What is printed.
 
-abbrev set_up_text : List ℕ
+abbrev pub set_up_text : List ℕ
 set_up_text = codes "set up 1 words 0 blocks\n"
 
 abbrev found_text : List ℕ
 found_text = codes "found 1: 1\n"
 
-abbrev seen : List Event → List ℕ → Outside
+abbrev pub seen : List Event → List ℕ → Outside
 seen events text = record { told = Some events; written = Some text }
 
 -- The run.
 
-collects_row : (o : Outside) → Carries toy (opened key) (Collects (document 1 (a ∷ []))) o o
+pub collects_row : (o : Outside) → Carries toy (opened key) (Collects (document 1 (a ∷ []))) o o
 collects_row o = record {
   answers = [];
   sent = record { events = []; adds = Adds-nothing o.told; exchanged = AreExchanged-none; no_clash = refl };
   printed = sym (append_known-nothing o.written);
 }
 
-sets_up_row : Carries toy place (SetsUp setup) (seen greeting []) (seen (greeting ++ acknowledged 0 setting_up) set_up_text)
+pub sets_up_row : Carries toy place (SetsUp setup) (seen greeting []) (seen (greeting ++ acknowledged 0 setting_up) set_up_text)
 unfolding digits
 sets_up_row = record {
   answers = [];
@@ -153,7 +153,7 @@ finds_row = record {
 abbrev end : Ended
 end = ended (seen passing (set_up_text ++ found_text)) (Some key) (Some run) (AtEnd false)
 
-greeted_row : IsGreeted (seen [] []) (seen greeting [])
+pub greeted_row : IsGreeted (seen [] []) (seen greeting [])
 greeted_row = record { events = greeting; adds = refl; exchanged = greeting_row; unprinted = refl }
 
 opens_row : Opens toy 1 (script_lines script) (seen [] []) end
@@ -194,12 +194,12 @@ received_all s [] later last served = served
 received_all s (reply ∷ due) later last served = (due, refl, received_all s due later last served)
 
 -- a server's steps are an honest transcript
-stepped : List FrameText → List (List ReplyText) → List Event
+unfoldable pub stepped : List FrameText → List (List ReplyText) → List Event
 stepped [] replies = []
 stepped (frame ∷ frames) [] = []
 stepped (frame ∷ frames) (rs ∷ replies) = sent frame ∷ map Received (map reply_bytes rs) ++ stepped frames replies
 
-honest_steps : (s : ServerState) (frames : List FrameText) → AllByRecursion InGrammar frames → IsHonest toy s (stepped frames (steps toy s frames).1) (steps toy s frames).0
+pub honest_steps : (s : ServerState) (frames : List FrameText) → AllByRecursion InGrammar frames → IsHonest toy s (stepped frames (steps toy s frames).1) (steps toy s frames).0
 unfolding stepped
 honest_steps s [] grammar = (refl, inl refl)
 honest_steps s (frame ∷ frames) grammar = (
@@ -219,7 +219,7 @@ free_row = IsCollisionFree-from_test (table_of toy (λ epoch. key) run) at_first
 
 kept_row : IsKept (Some run)
 unfolding hex_on_literals utf8_valid_len is_utf8 chars encode
-kept_row = (meaning_is_kept is_built script).0
+kept_row = (meaning_is_kept script).0
 
 honest_row : IsOverHonest toy (Some []) (Some passing) (steps toy server.at_first frames).0
 unfolding stepped
@@ -232,7 +232,7 @@ honest_row = record {
       (honest_steps server.at_first frames (frames_sent-in_grammar toy (λ epoch. key) (Some run) toy_laws kept_row free_row));
 }
 
-calm_row : IsCalm 0
+pub calm_row : IsCalm 0
 calm_row = record {
   source = λ e. absurd (omega (arith, e));
   sink = λ e. absurd (omega (arith, e));
@@ -253,7 +253,7 @@ headline_row = headline toy toy_laws script (seen [] []) end opens_row (steps to
 awaits_next : IsAwaiting ForNext []
 awaits_next = record { allowed = record { ids = []; each = All-nil IsIdentifier; few = lit≤ tt; rest = reply_bytes (Next 0) ∷ []; first = refl }; more = λ e. absurd (cc) }
 
-awaits_took : (q : ℕ) → IsAwaiting (ForTook q) []
+pub awaits_took : (q : ℕ) → IsAwaiting (ForTook q) []
 awaits_took q = record { allowed = record { ids = []; each = All-nil IsIdentifier; few = lit≤ tt; rest = reply_bytes (Took q) ∷ []; first = refl }; more = λ e. absurd (cc) }
 
 awaits_answer : IsAwaiting ForAnswer []

@@ -7,10 +7,9 @@ use Rattle.client_registry.specs.Histories.{empty}
 use Rattle.keyed_fn.specs.KeyedFn.{KeyedFn}
 use Rattle.sse_script.specs.Shown.{BadLine}
 use Rattle.sse_script.specs.TextLines.{TakesLine}
-use Rattle.script_meaning.specs.Built.{is_built, comes_to}
 use Rattle.script_meaning.specs.Carries.{Outside, Carries}
 use Rattle.script_meaning.specs.Lines.{Line, Empty, Key, Command, Request, line_in, lines_in}
-use Rattle.script_meaning.specs.Outcome.{Place, Outcome, opened, after, is_refusal}
+use Rattle.script_meaning.specs.Outcome.{Place, Outcome, opened, outcome, after, is_refusal}
 use Rattle.script_meaning.specs.Runs.{Ended, StopsReading, StopsHere, Stops, Runs, Opens, IsGreeted, IsTurnedAway, Moment, moment, RunsFrom, OpensFrom, OpensAtKey}
 use Rattle.script_meaning.specs.Stops.{AtEnd, At}
 
@@ -93,7 +92,7 @@ module _ (f : KeyedFn) (start : Moment) (place : Place) (number : ℕ) (left : O
 
     module _ (line : Request) (reads : line_in text ≡ Some (Command line)) where
       abbrev result : Outcome
-      result = comes_to is_built place line
+      result = outcome place line
 
       over_command : (end : Ended) → ((texts : List (List ℕ)) → behind ≡ Some texts → Runs f place number (Some (Command line) ∷ lines_in texts) refused now end) → RunsFrom f start end
       over_command end runs = over_line end (λ texts e. subst (λ item. Runs f place number (item ∷ lines_in texts) refused now end) (sym reads) (runs texts e))

@@ -14,7 +14,6 @@ use Rattle.sse_script.specs.Fields.{fields_of}
 use Rattle.sse_script.specs.Numbers.{number_of, key_of, is_numeral}
 use Rattle.sse_script.specs.Lines.{Line, Key, Doc, SetupLine, AddLine, Del, key_line, document_line, setup_line, delete_line, find_line, line_by_kind}
 use Rattle.sse_script.specs.TextLines.{lines_of}
-use Rattle.script_meaning.specs.Built.{Built}
 use Rattle.script_meaning.specs.Lines.{line_read, line_in, lines_in, script_lines}
 use Rattle.script_meaning.specs.Meaning.{meant}
 use Rattle.script_meaning.proofs.Kept.{IsWithinItem, kept_meant}
@@ -102,15 +101,15 @@ pub IsWithin-lines_in : (texts : List (List ℕ)) → AllByRecursion IsWithinIte
 IsWithin-lines_in [] = tt
 IsWithin-lines_in (text ∷ texts) = (IsWithin-line_in text, IsWithin-lines_in texts)
 
--- whatever is carried out, what a script means keeps the rules of every history, and has no more commands than lines
-pub meaning_is_kept : (built : Built) (bytes : List ℕ) → IsKept (meant built (script_lines bytes)).history × (length (commands_of (meant built (script_lines bytes)).history) ≤ length (lines_of bytes))
-meaning_is_kept built bytes =
-    let kept = kept_meant built 1 (script_lines bytes) (IsWithin-lines_in (lines_of bytes)) in
+-- what a script means keeps the rules of every history, and has no more commands than lines
+pub meaning_is_kept : (bytes : List ℕ) → IsKept (meant (script_lines bytes)).history × (length (commands_of (meant (script_lines bytes)).history) ≤ length (lines_of bytes))
+meaning_is_kept bytes =
+    let kept = kept_meant 1 (script_lines bytes) (IsWithin-lines_in (lines_of bytes)) in
     (kept.0, omega (arith, kept.1, length-map (lines_of bytes) line_in))
 
 -- and is sized, where its lines and its words can be numbered in 32 bits
-pub meaning_is_sized : (built : Built) (bytes : List ℕ) → length (lines_of bytes) + 1 < 2 ^ 32 → IfSome (meant built (script_lines bytes)).history (λ run. length (run_words run) < 2 ^ 32)
-    → IfSome (meant built (script_lines bytes)).history IsSized
-meaning_is_sized built bytes few words =
-    let kept = meaning_is_kept built bytes in
-    IsSized-kept (meant built (script_lines bytes)).history kept.0 (omega (arith, few, kept.1)) words
+pub meaning_is_sized : (bytes : List ℕ) → length (lines_of bytes) + 1 < 2 ^ 32 → IfSome (meant (script_lines bytes)).history (λ run. length (run_words run) < 2 ^ 32)
+    → IfSome (meant (script_lines bytes)).history IsSized
+meaning_is_sized bytes few words =
+    let kept = meaning_is_kept bytes in
+    IsSized-kept (meant (script_lines bytes)).history kept.0 (omega (arith, few, kept.1)) words

@@ -1,7 +1,6 @@
 pub mod Lines
 pub mod Refused
 pub mod Outcome
-pub mod Built
 pub mod Stops
 pub mod Meaning
 pub mod Exchange

@@ -3,9 +3,8 @@ use Rattle.std.specs.Prelude.{ℕ, ◌+◌, Bool, false, ◌||◌, List, [], ◌
 use Rattle.client_registry.specs.Histories.{empty}
 use Rattle.client_registry.specs.Run.{History}
 use Rattle.sse_script.specs.Shown.{Shown, BadLine}
-use Rattle.script_meaning.specs.Built.{Built, is_built, comes_to}
 use Rattle.script_meaning.specs.Lines.{Line, Empty, Key, Command, script_lines}
-use Rattle.script_meaning.specs.Outcome.{Place, opened, after, shown_by, is_refusal}
+use Rattle.script_meaning.specs.Outcome.{Place, opened, outcome, after, shown_by, is_refusal}
 use Rattle.script_meaning.specs.Stops.{Stop, AtEnd, At}
 
 pub record Meaning : Type 0 where
@@ -26,25 +25,25 @@ showing shown m = record m { shown = shown ++ m.shown }
 
 -- the meaning of lines from a place on, the first of which has this number; whether a command was refused before them.
 -- A bad line ends a script, and so does one more key line
-abbrev pub follow : Built → Place → (number : ℕ) → List (Option Line) → (refused : Bool) → Meaning
-follow built place number [] refused = ends_at (Some place.key) place.history (AtEnd refused)
-follow built place number (None ∷ lines) refused = ends_at (Some place.key) place.history (At (BadLine number))
-follow built place number (Some Empty ∷ lines) refused = follow built place (number + 1) lines refused
-follow built place number (Some (Key key) ∷ lines) refused = ends_at (Some place.key) place.history (At (BadLine number))
-follow built place number (Some (Command line) ∷ lines) refused =
-    let result = comes_to built place line in
-    showing (shown_by result) (follow built (after result place) (number + 1) lines (refused || is_refusal result))
+abbrev pub follow : Place → (number : ℕ) → List (Option Line) → (refused : Bool) → Meaning
+follow place number [] refused = ends_at (Some place.key) place.history (AtEnd refused)
+follow place number (None ∷ lines) refused = ends_at (Some place.key) place.history (At (BadLine number))
+follow place number (Some Empty ∷ lines) refused = follow place (number + 1) lines refused
+follow place number (Some (Key key) ∷ lines) refused = ends_at (Some place.key) place.history (At (BadLine number))
+follow place number (Some (Command line) ∷ lines) refused =
+    let result = outcome place line in
+    showing (shown_by result) (follow (after result place) (number + 1) lines (refused || is_refusal result))
 
 -- the meaning of lines, the first of which has this number: empty ones, then the key line and those behind it
-abbrev pub meant_from : Built → (number : ℕ) → List (Option Line) → Meaning
-meant_from built number (Some Empty ∷ lines) = meant_from built (number + 1) lines
-meant_from built number (Some (Key key) ∷ lines) = follow built (opened key) (number + 1) lines false
-meant_from built number _ = ends_at None empty (At (BadLine number))
+abbrev pub meant_from : (number : ℕ) → List (Option Line) → Meaning
+meant_from number (Some Empty ∷ lines) = meant_from (number + 1) lines
+meant_from number (Some (Key key) ∷ lines) = follow (opened key) (number + 1) lines false
+meant_from number _ = ends_at None empty (At (BadLine number))
 
 -- the meaning of a script's lines, which are numbered from 1
-abbrev pub meant : Built → List (Option Line) → Meaning
-meant built lines = meant_from built 1 lines
+abbrev pub meant : List (Option Line) → Meaning
+meant lines = meant_from 1 lines
 
--- the meaning of a script's bytes to this client
+-- the meaning of a script's bytes
 abbrev pub meaning : List ℕ → Meaning
-meaning bytes = meant is_built (script_lines bytes)
+meaning bytes = meant (script_lines bytes)

@@ -10,8 +10,10 @@ use Rattle.client_registry.specs.Live.{found_in}
 use Rattle.sse_script.specs.declared.refusal.Refusal.{Refusal}
 use Rattle.sse_script.specs.declared.refusal.Refusal.TheVariants.{NotSetUp, SetUpAlready}
 use Rattle.sse_script.specs.Shown.{Shown, SetUp, Added, Deleted, Found, Refused}
+use Rattle.line_documents.specs.LineDocument.{document}
+use Rattle.line_documents.specs.Refused.{bad_word, collect_refusal}
 use Rattle.script_meaning.specs.Lines.{Request, Doc, SetupLine, AddLine, Del, Find}
-use Rattle.script_meaning.specs.Refused.{bad_word, collect_refusal, index_refusal, add_refusal, delete_refusal}
+use Rattle.script_meaning.specs.Refused.{index_refusal, add_refusal, delete_refusal}
 
 -- where a script stands behind its key line: its key, the documents that were collected, and the history
 pub record Place : Type 0 where
@@ -35,9 +37,6 @@ pub data Outcome : Type 0 where
 abbrev pub unless : Option Refusal → Outcome → Outcome
 unless None outcome = outcome
 unless (Some refusal) outcome = Refuses refusal
-
-abbrev pub document : ℕ → List (List ℕ) → Document
-document id words = record { id = id; words = words }
 
 -- a line of a script that isn't set up
 abbrev pub before_setup : List Document → Request → Outcome

@@ -7,11 +7,10 @@ use Rattle.keyed_fn.specs.KeyedFn.{KeyedFn}
 use Rattle.sse_frames.specs.Frames.{Hello}
 use Rattle.sse_link.specs.Events.{Event}
 use Rattle.sse_script.specs.Shown.{Cause, BadLine, SourceFault, NoMemory}
-use Rattle.script_meaning.specs.Built.{is_built, comes_to}
 use Rattle.script_meaning.specs.Carries.{Outside, Carries, StopsIn}
 use Rattle.script_meaning.specs.Exchange.{Adds, AreExchanged, AreCut}
 use Rattle.script_meaning.specs.Lines.{Line, Empty, Key, Command, lines_in}
-use Rattle.script_meaning.specs.Outcome.{Place, Outcome, opened, after, is_refusal}
+use Rattle.script_meaning.specs.Outcome.{Place, Outcome, opened, outcome, after, is_refusal}
 use Rattle.script_meaning.specs.Stops.{Stop, AtEnd, At, stop_text}
 
 -- where a run stopped: what is seen then, the key where its key line was read, the history up to there with the command in
@@ -49,7 +48,7 @@ Runs f place number (Some Empty ∷ lines) refused now end =
     StopsReading now (Some place.key) place.history end ⊎ Runs f place (number + 1) lines refused now end
 Runs f place number (Some (Key key) ∷ lines) refused now end = StopsHere now (Some place.key) place.history (At (BadLine number)) end
 Runs f place number (Some (Command line) ∷ lines) refused now end =
-    let result = comes_to is_built place line in
+    let result = outcome place line in
     StopsReading now (Some place.key) place.history end
     ⊎ Stops f place result now end
     ⊎ ((next : Outside) × Carries f place result now next × Runs f (after result place) (number + 1) lines (refused || is_refusal result) next end)
