@@ -1,10 +1,10 @@
 -- What the counts of faults show of how a run stopped.
 use Rattle.std.proofs.Common.{◌≡◌, ◌≢◌, ℕ, Bool, List, slice_index, refl, sym, ap, ◌∙◌, arith}
-use Rattle.client_core.proofs.Replied.{fault_told-IsFaultOf}
-use Rattle.client_core.specs.Faults.{IsFaultOf}
-use Rattle.client_core.specs.Pages.{IsNextPage, IsRefused}
-use Rattle.client_core.specs.declared.reply_fault.ReplyFault.{ReplyFault}
-use Rattle.client_core.specs.declared.reply_fault.ReplyFault.TheVariants as faults
+use Rattle.client_replies.proofs.Replied.{fault_told-IsFaultOf}
+use Rattle.client_replies.specs.Faults.{IsFaultOf}
+use Rattle.client_replies.specs.Pages.{IsNextPage, IsRefused}
+use Rattle.client_replies.specs.declared.reply_fault.ReplyFault.{ReplyFault}
+use Rattle.client_replies.specs.declared.reply_fault.ReplyFault.TheVariants as faults
 use Rattle.sse_frames.specs.Replies.{ReplyText, Took, Page, StoreFault, reply_bytes}
 use Rattle.sse_outside.specs.Causes.{Rose}
 use Rattle.sse_client.specs.Causes.{PeerCause, SinkCause}
@@ -43,6 +43,7 @@ module _ (before now : ℕ) (bytes : List ℕ) (fault : ReplyFault) (only : faul
   PeerCause-fault peers.Memory from to = steady (λ e. let no : peers.Memory ≡ peers.Link = to (told e) in cc)
   PeerCause-fault (peers.LabelClash first second) from to = steady (λ e. let no : peers.LabelClash first second ≡ peers.Link = to (told e) in cc)
   PeerCause-fault (peers.PlaceClash first second) from to = steady (λ e. let no : peers.PlaceClash first second ≡ peers.Link = to (told e) in cc)
+  PeerCause-fault (peers.NumberClash first second) from to = steady (λ e. let no : peers.NumberClash first second ≡ peers.Link = to (told e) in cc)
   PeerCause-fault (peers.Clash what place) from to = steady (λ e. let no : peers.Clash what place ≡ peers.Link = to (told e) in cc)
   PeerCause-fault (peers.Elsewhere got) from to = steady (λ e. let no : peers.Elsewhere got ≡ peers.Link = to (told e) in cc)
   PeerCause-fault (peers.BadReply start) from to = steady (λ e. let no : peers.BadReply start ≡ peers.Link = to (told e) in cc)

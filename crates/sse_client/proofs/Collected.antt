@@ -3,13 +3,13 @@ use Rattle.std.proofs.Common.{◌≡◌, List, [], ◌∷◌, ◌++◌}
 use Rattle.std.specs.Prelude.{Option, None, Result, Ok, Err, OnOk, OnErr, IfErr}
 use Rattle.client_registry.specs.Document.{Document}
 use Rattle.sse_script.specs.declared.refusal.Refusal.{Refusal}
-use Rattle.sse_client.specs.declared.line_fault.LineFault.{LineFault}
-use Rattle.sse_client.specs.declared.line_fault.LineFault.TheVariants as faults
+use Rattle.line_documents.specs.declared.line_fault.LineFault.{LineFault}
+use Rattle.line_documents.specs.declared.line_fault.LineFault.TheVariants as faults
+use Rattle.line_documents.specs.LineFaults.{SaysRefusal}
 use Rattle.sse_client.specs.declared.outcome.Outcome.{Outcome as Came}
 use Rattle.sse_client.specs.declared.outcome.Outcome.TheVariants as comings
 use Rattle.sse_client.specs.declared.peer_stop.PeerStop.{PeerStop}
 use Rattle.sse_client.specs.declared.peer_stop.PeerStop.TheVariants as peers
-use Rattle.sse_client.specs.LineFaults.{SaysRefusal}
 
 -- the outcome of a line without a line of its own, by what was done
 pub record IsAnswer {T : Type 0} (done : Result T LineFault) (answer : Result Came PeerStop) : Type 0 where

@@ -10,7 +10,9 @@ pub mod PagesPassed
 pub mod Replying
 pub mod Parts
 pub mod Plans
+pub mod Updates
 pub mod Taking
+pub mod Updated
 pub mod Running
 pub mod Opening
 pub mod InMemory

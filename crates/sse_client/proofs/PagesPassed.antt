@@ -4,9 +4,9 @@ use Rattle.std.specs.Prelude.{All}
 use Rattle.std.specs.List.{AllByRecursion}
 use Rattle.std.proofs.lemmas.List.{append-nil, map-append, length-map}
 use Rattle.std.proofs.lemmas.List.Elements.{All-from_recursion, recursion_from_All, All-nil, All-cons}
-use Rattle.client_core.specs.Pages.{IsNextPage, IsNoPage, IsRefused}
-use Rattle.client_core.specs.declared.reply_fault.ReplyFault.{ReplyFault}
-use Rattle.client_core.specs.declared.reply_fault.ReplyFault.TheVariants as faults
+use Rattle.client_replies.specs.Pages.{IsNextPage, IsNoPage, IsRefused}
+use Rattle.client_replies.specs.declared.reply_fault.ReplyFault.{ReplyFault}
+use Rattle.client_replies.specs.declared.reply_fault.ReplyFault.TheVariants as faults
 use Rattle.client_registry.specs.Live.{in_order}
 use Rattle.sse_frames.specs.Frames.{SearchFrame, frame_bytes}
 use Rattle.sse_frames.specs.Replies.{ReplyText, Page, IsPage, IsIdentifier, InReplies, reply_bytes}

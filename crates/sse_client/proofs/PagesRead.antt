@@ -7,7 +7,7 @@ use Rattle.std.specs.Simd.{first_chunks}
 use Rattle.std.proofs.lemmas.Grind.{div_ceil_times}
 use Rattle.std.proofs.lemmas.List.Concat.{flat_map-append}
 use Rattle.std.proofs.lemmas.List.{append-nil}
-use Rattle.client_core.proofs.PagesTaken.{AreTaken, pages-taken}
+use Rattle.client_replies.proofs.PagesTaken.{AreTaken, pages-taken}
 use Rattle.sse_frames.specs.Replies.{ReplyText, Next, Took, Number, Clash, Page, BadList, NoMemory, StoreFault, BadFrame, OutOfPlace, IsPage}
 use Rattle.sse_frames.specs.Sending.{page_each, pages_of, pages}
 

@@ -1,9 +1,9 @@
 -- A frame whose replies come, or of which at most a part passes, by the bytes that passed.
 use Rattle.std.proofs.Common.{◌≡◌, ◌≢◌, ℕ, Bool, true, ◌<◌, ◌^◌, List, [], ◌∷◌, ◌++◌, drop, map, Some, refl, sym, ap, ◌∙◌, subst, arith, inl, inr, ◌⊎◌}
 use Rattle.std.proofs.lemmas.List.Elements.{All-nil}
-use Rattle.client_core.specs.Faults.{fault_told, IsFaultOf}
-use Rattle.client_core.specs.declared.reply_fault.ReplyFault.{ReplyFault}
-use Rattle.client_core.specs.declared.reply_fault.ReplyFault.TheVariants as faults
+use Rattle.client_replies.specs.Faults.{fault_told, IsFaultOf}
+use Rattle.client_replies.specs.declared.reply_fault.ReplyFault.{ReplyFault}
+use Rattle.client_replies.specs.declared.reply_fault.ReplyFault.TheVariants as faults
 use Rattle.sse_frames.specs.Frames.{FrameText, Hello, SetupBegin, SetupDict, SetupArray, SetupEnd, AddFrame, DeleteFrame, SearchFrame, frame_bytes, update_number}
 use Rattle.sse_frames.specs.Replies.{ReplyText, Next, Took, Number, Clash, Page, BadList, NoMemory, StoreFault, BadFrame, OutOfPlace, InReplies, IsIdentifier, reply_bytes}
 use Rattle.sse_link.specs.Events.{Event, Sent, Received}

@@ -3,7 +3,7 @@ use Rattle.std.proofs.Common.{◌≡◌, ℕ, ◌+◌, ◌≤◌, true, false, L
 use Rattle.std.specs.List.{AllByRecursion}
 use Rattle.std.proofs.lemmas.List.{map-append}
 use Rattle.sse_frames.specs.Reading.{IsReply}
-use Rattle.client_core.specs.Pages.{IsNextPage}
+use Rattle.client_replies.specs.Pages.{IsNextPage}
 use Rattle.sse_frames.specs.Frames.{SearchFrame, frame_bytes}
 use Rattle.sse_frames.specs.Replies.{Page, IsPage, IsIdentifier, InReplies, reply_bytes}
 use Rattle.sse_frames.specs.Sending.{pages}

@@ -19,11 +19,10 @@ use Rattle.sse_script.specs.declared.line.Line.{Line as ReadLine}
 use Rattle.sse_script.specs.declared.line.Line.TheVariants as reads
 use Rattle.script_meaning.proofs.Following.{after-key}
 use Rattle.script_meaning.proofs.Steps.{IsBad, IsBadFirst, Continues, runs-reading, runs-end, runs-bad, runs-stopped, continues-next, ContinuesOpening, opens-reading, opens-end, opens-bad, opening-empty}
-use Rattle.script_meaning.specs.Built.{is_built, comes_to}
 use Rattle.script_meaning.specs.Carries.{Outside, with_answers, text_with}
 use Rattle.script_meaning.specs.Exchange.{Told}
 use Rattle.script_meaning.specs.Lines.{Empty, Command, Request, line_read, line_in}
-use Rattle.script_meaning.specs.Outcome.{Place, Outcome, after, shown_by}
+use Rattle.script_meaning.specs.Outcome.{Place, Outcome, outcome, after, shown_by}
 use Rattle.script_meaning.specs.Runs.{Ended, ended, Moment, moment, RunsFrom, OpensFrom, OpensAtKey}
 use Rattle.script_meaning.specs.Stops as ends
 use Rattle.sse_client.specs.OutcomeViews.{outcome_view, refuses}
@@ -46,7 +45,7 @@ module _ (f : KeyedFn) (stage next : Stage) (came : Came) (request : Request) (o
   carries-printed printed = λ place at.
       let g = takes place at in
       record {
-        carries = record { answers = g.answers; sent = g.sent; printed = printed ∙ ap (append_known before) (text_of_came g.answers came (comes_to is_built place request) g.shown) };
+        carries = record { answers = g.answers; sent = g.sent; printed = printed ∙ ap (append_known before) (text_of_came g.answers came (outcome place request) g.shown) };
         stands = g.stands;
         refuses = g.refuses;
       }
@@ -66,7 +65,7 @@ module _ (f : KeyedFn) (stage next : Stage) (came : Came) (request : Request) (o
         sent = g.sent;
         some = λ none. some (g.shown ∙ ap (with_answers (map in_order g.answers)) none);
         p = n;
-        printed = printed ∙ ap (λ text. append_known before (take n text)) (text_of_came g.answers came (comes_to is_built place request) g.shown);
+        printed = printed ∙ ap (λ text. append_known before (take n text)) (text_of_came g.answers came (outcome place request) g.shown);
       }))
 
 -- Lines.
@@ -161,7 +160,7 @@ module _ (f : KeyedFn) (start : Moment) (stage : Stage) (number : ℕ) (left : O
   pub ends-stopped : (behind : Option (List (List ℕ))) (text : List ℕ) (request : Request) (end : Outside) (stop : ends.Stop) → TakesLine left behind text → line_in text ≡ Some (Command request) → StopsRun f stage request now end stop
       → EndsFrom f start end stop
   ends-stopped behind text request end stop taken reads stopped =
-      let h = (after (comes_to is_built s.place request) s.place).history in
+      let h = (after (outcome s.place request) s.place).history in
       ends_with h end stop
       (runs-stopped f start s.place (number + 1) left refused now s.continues behind text taken request reads (ended end (Some s.place.key) h stop)
       (record { within = stopped s.place s.at; key = refl; history = refl }))
@@ -171,7 +170,7 @@ module _ (f : KeyedFn) (start : Moment) (stage : Stage) (number : ℕ) (left : O
       → m ≡ number + 1 → CarriesOut f stage request now next went was → refused' ≡ refused || was → IsThere f start went m behind refused' next
   there-next behind text request m next went was refused' taken reads counted carries either =
       let done = carries s.place s.at in
-      let result = comes_to is_built s.place request in
+      let result = outcome s.place request in
       record {
         place = after result s.place;
         at = done.stands;

@@ -1,21 +1,21 @@
 -- How far the sending of update frames is.
 use Rattle.std.proofs.Common.{◌≡◌, ℕ, ◌+◌, List, [], ◌∷◌, ◌++◌, map, length, take, drop, Some, refl, sym, ap, subst, ◌∙◌, append_assoc}
 use Rattle.std.proofs.lemmas.List.{take_at, drop_at}
-use Rattle.client_core.specs.Sending.{to_send}
+use Rattle.client_core.specs.Sending.{first_number, to_send}
 use Rattle.client_core.specs.declared.behind.Behind.{Behind}
-use Rattle.client_core.specs.Faults.{IsFaultOf}
-use Rattle.client_core.specs.declared.reply_fault.ReplyFault.{ReplyFault}
+use Rattle.client_replies.specs.Faults.{IsFaultOf}
+use Rattle.client_replies.specs.declared.reply_fault.ReplyFault.{ReplyFault}
 use Rattle.sse_frames.specs.Frames.{FrameText, frame_bytes, update_number}
 use Rattle.sse_frames.specs.Replies.{Took, reply_bytes}
 use Rattle.sse_model.specs.Exchange.{ForTook}
 use Rattle.sse_script.specs.Shown.{Cause}
-use Rattle.script_meaning.proofs.Going.{Adds-joined, AreExchanged-both}
+use Rattle.script_meaning.proofs.Going.{Adds-joined, Adds-nothing, AreExchanged-both, AreExchanged-none}
 use Rattle.script_meaning.specs.Exchange.{Told, AreExchanged, IsCut}
 use Rattle.sse_client.specs.Exchanges.{HasExchanged, HasCut}
 use Rattle.sse_client.specs.Progress.{IsAnswered, IsUnanswered, AreNumbered}
 use Rattle.sse_client.specs.Stops.{cause_of_fault}
 use Rattle.sse_client.proofs.Parts.{IsBegun, IsBegun-unanswered, IsBegun-answered, HasExchanged-answered, asked-update_number, shows_to_update}
-use Rattle.sse_client.proofs.UnderWay.{IsNext, next_of, none_mapped}
+use Rattle.sse_client.proofs.UnderWay.{AreOwed, IsNext, next_of, none_mapped}
 
 -- frames that were exchanged, and then others, where none is a search that was answered
 pub HasExchanged-joined : (old between new : Told) (xs ys : List FrameText) → HasExchanged old between [] xs → HasExchanged between new [] ys → HasExchanged old new [] (xs ++ ys)
@@ -32,7 +32,18 @@ pub record IsSending (old now : Told) (state : Behind) (frames : List FrameText)
   pub parts : frames ≡ done ++ left
   pub exchanged : HasExchanged old now [] done
   pub to_come : to_send state ≡ map frame_bytes left
-  pub numbered : AreNumbered state.next left
+  pub numbered : AreNumbered (first_number state) left
+
+-- nothing was exchanged yet
+pub IsSending-begun : (told : Told) (state : Behind) (frames : List FrameText) → AreOwed state frames → IsSending told told state frames
+IsSending-begun told state frames owed = record {
+  done = [];
+  left = frames;
+  parts = refl;
+  exchanged = record { events = []; adds = Adds-nothing told; exchanged = AreExchanged-none };
+  to_come = owed.0;
+  numbered = owed.1;
+}
 
 one_done : (old now new : Told) (done : List FrameText) (first : FrameText) (q : ℕ) (frame reply : List ℕ) → HasExchanged old now [] done → frame ≡ frame_bytes first → update_number first ≡ Some q
     → reply ≡ reply_bytes (Took q) → IsAnswered now new frame reply → HasExchanged old new [] (done ++ first ∷ [])
@@ -41,25 +52,25 @@ one_done old now new done first q frame reply exchanged spelled number took answ
 
 -- an acknowledgement takes the next one off
 pub IsSending-next : (old now new : Told) (state later : Behind) (frames : List FrameText) (frame reply : List ℕ) → IsSending old now state frames → take 1 (to_send state) ≡ frame ∷ []
-    → IsAnswered now new frame reply → reply ≡ reply_bytes (Took state.next) → to_send later ≡ drop 1 (to_send state) → later.next ≡ state.next + 1 → IsSending old new later frames
+    → IsAnswered now new frame reply → reply ≡ reply_bytes (Took (first_number state)) → to_send later ≡ drop 1 (to_send state) → first_number later ≡ first_number state + 1 → IsSending old new later frames
 IsSending-next old now new state later frames frame reply way one answered took rest counted =
     let n = next_of state frame way.left way.to_come way.numbered one in
     record {
       done = way.done ++ n.first ∷ [];
       left = n.others;
       parts = way.parts ∙ ap (λ x. way.done ++ x) n.are ∙ sym (append_assoc way.done (n.first ∷ []) n.others);
-      exchanged = one_done old now new way.done n.first state.next frame reply way.exchanged n.spelled n.number took answered;
+      exchanged = one_done old now new way.done n.first (first_number state) frame reply way.exchanged n.spelled n.number took answered;
       to_come = rest ∙ n.more;
       numbered = subst (λ q. AreNumbered q n.others) (sym counted) n.numbered;
     }
 
 -- the last acknowledgement ends it
 pub IsSending-last : (old now new : Told) (state : Behind) (frames : List FrameText) (frame reply : List ℕ) → IsSending old now state frames → take 1 (to_send state) ≡ frame ∷ []
-    → IsAnswered now new frame reply → reply ≡ reply_bytes (Took state.next) → drop 1 (to_send state) ≡ [] → HasExchanged old new [] frames
+    → IsAnswered now new frame reply → reply ≡ reply_bytes (Took (first_number state)) → drop 1 (to_send state) ≡ [] → HasExchanged old new [] frames
 IsSending-last old now new state frames frame reply way one answered took rest =
     let n = next_of state frame way.left way.to_come way.numbered one in
     subst (HasExchanged old new []) (sym (way.parts ∙ ap (λ x. way.done ++ x) (n.are ∙ ap (λ x. n.first ∷ x) (none_mapped n.others (sym n.more ∙ rest)))))
-    (one_done old now new way.done n.first state.next frame reply way.exchanged n.spelled n.number took answered)
+    (one_done old now new way.done n.first (first_number state) frame reply way.exchanged n.spelled n.number took answered)
 
 -- what cuts the next one cuts the sending there
 HasCut-next : (old now new : Told) (state : Behind) (frames : List FrameText) (frame : List ℕ) (c : Cause) (way : IsSending old now state frames) (n : IsNext state frame way.left) → IsBegun now new n.first c
@@ -87,8 +98,8 @@ HasCut-unanswered old now new state frames frame c way one un =
 
 -- or another one than its acknowledgement
 pub HasCut-answered : (old now new : Told) (state : Behind) (frames : List FrameText) (frame reply : List ℕ) (fault : ReplyFault) → IsSending old now state frames → take 1 (to_send state) ≡ frame ∷ []
-    → IsAnswered now new frame reply → (reply ≡ reply_bytes (Took state.next) → ⊥) → IsFaultOf reply fault → HasCut old new frames (cause_of_fault fault reply)
+    → IsAnswered now new frame reply → (reply ≡ reply_bytes (Took (first_number state)) → ⊥) → IsFaultOf reply fault → HasCut old new frames (cause_of_fault fault reply)
 HasCut-answered old now new state frames frame reply fault way one answered wrong is =
     let n = next_of state frame way.left way.to_come way.numbered one in
     HasCut-next old now new state frames frame (cause_of_fault fault reply) way n
-    (IsBegun-answered now new frame reply n.first (cause_of_fault fault reply) n.spelled answered (shows_to_update n.first state.next reply fault n.number wrong is))
+    (IsBegun-answered now new frame reply n.first (cause_of_fault fault reply) n.spelled answered (shows_to_update n.first (first_number state) reply fault n.number wrong is))

@@ -1,13 +1,16 @@
 -- How a session takes a command: what it comes to where the session stands, and that this is done.
 use Rattle.std.proofs.Common.{◌≡◌, inl, inr, ℕ, true, false, List, [], ◌∷◌, ◌++◌, length, refl, sym, ap, subst, ◌∙◌}
-use Rattle.std.specs.Prelude.{Option, None, Some, Result, Ok, Err, OnOk, IfOk, IfErr, option_map, if◌then◌else◌}
+use Rattle.std.specs.Prelude.{Option, None, Some, Result, Ok, Err, OnOk, OnErr, IfOk, IfErr, option_map, if◌then◌else◌}
+use Rattle.client_core.specs.StandsFor.{with_command}
+use Rattle.client_core.specs.declared.client.Client.{Client}
+use Rattle.client_core.specs.declared.ready.Ready.{Ready}
 use Rattle.client_registry.specs.Acceptance.{blocks_of, setup_refusal}
 use Rattle.client_registry.specs.Command.{Search}
 use Rattle.client_registry.specs.Document.{Document}
 use Rattle.client_registry.specs.Documents.{words_of}
 use Rattle.client_registry.specs.Histories.{is_set_up, longer}
 use Rattle.client_registry.specs.Live.{found_in}
-use Rattle.client_registry.specs.Run.{History, at_first}
+use Rattle.client_registry.specs.Run.{History, Run, at_first}
 use Rattle.client_registry.specs.Setup.{Setup, setup_of}
 use Rattle.index_setup.proofs.BuildErrors.{size_accepted}
 use Rattle.index_setup.specs.Entries.{key_table, label_clash, place_clash}
@@ -19,47 +22,48 @@ use Rattle.sse_frames.specs.Frames.{FrameText, SearchFrame}
 use Rattle.sse_model.specs.Histories.{frames_behind, collision_behind}
 use Rattle.sse_model.specs.Names.{table}
 use Rattle.sse_model.specs.Wire.{frames_of_setup}
+use Rattle.sse_script.specs.Lines as read
 use Rattle.sse_script.specs.Shown as says
 use Rattle.sse_script.specs.declared.refusal.Refusal.{Refusal}
 use Rattle.sse_script.specs.declared.refusal.Refusal.TheVariants as refusals
+use Rattle.line_documents.specs.LineDocument.{document}
+use Rattle.line_documents.specs.Refused.{bad_word, collect_refusal}
+use Rattle.line_documents.specs.LineFaults.{SaysRefusal}
+use Rattle.line_documents.specs.declared.line_fault.LineFault.{LineFault}
+use Rattle.line_documents.specs.declared.line_fault.LineFault.TheVariants as faults
+use Rattle.line_documents.proofs.Passed.{neither, word_passed}
 use Rattle.script_meaning.proofs.Going.{Adds-nothing, AreExchanged-none}
-use Rattle.script_meaning.specs.Built.{is_built, comes_to}
 use Rattle.script_meaning.specs.Carries.{frames_by, collision_cause, clash_in_hand, IsSent, StopsIn}
 use Rattle.script_meaning.specs.Exchange.{Told, AreExchanged, AreCut}
 use Rattle.script_meaning.specs.Lines.{Line, Command, Request, Doc, SetupLine, Find}
-use Rattle.script_meaning.specs.Outcome.{Place, Outcome, Collects, Refuses, SetsUp, Does, document, unless, before_setup, after_setup, after}
-use Rattle.script_meaning.specs.Refused.{bad_word, collect_refusal, index_refusal, size_refused}
+use Rattle.script_meaning.specs.Outcome.{Place, Outcome, Collects, Refuses, SetsUp, Does, unless, before_setup, after_setup, outcome, after}
+use Rattle.script_meaning.specs.Refused.{index_refusal, size_refused}
 use Rattle.script_meaning.specs.Stops.{At}
 use Rattle.sse_client.specs.SetupFaults.{setup_answer}
-use Rattle.sse_client.specs.Stages.{key_of, stage_view}
+use Rattle.sse_client.specs.Stages.{key_of}
 use Rattle.sse_client.specs.Exchanges.{HasExchanged, HasSearched, HasCut}
-use Rattle.sse_client.specs.LineFaults.{SaysRefusal}
 use Rattle.sse_client.specs.OutcomeViews.{outcome_view, refuses}
-use Rattle.sse_client.specs.Stands.{IsStage, IsAt, GoesOn, Takes, StopsWithin, seen}
+use Rattle.sse_client.specs.Stands.{IsReady, IsStage, IsAt, GoesOn, MayStop, Takes, StopsWithin, seen}
 use Rattle.sse_client.specs.Stops.{peer_cause}
-use Rattle.sse_client.specs.declared.line_fault.LineFault.{LineFault}
-use Rattle.sse_client.specs.declared.line_fault.LineFault.TheVariants as faults
 use Rattle.sse_client.specs.declared.outcome.Outcome.{Outcome as Came}
 use Rattle.sse_client.specs.declared.outcome.Outcome.TheVariants as comings
 use Rattle.sse_client.specs.declared.peer_stop.PeerStop.{PeerStop}
 use Rattle.sse_client.specs.declared.peer_stop.PeerStop.TheVariants as peers
 use Rattle.sse_client.specs.declared.session.Stage.{Stage}
 use Rattle.sse_client.specs.declared.session.Stage.TheVariants.{Collecting, Searching}
+use Rattle.sse_client.proofs.Updates.{StandsFor-search}
 use Rattle.sse_client.proofs.Collected.{IsAnswer, IsAdded, inside}
 use Rattle.sse_client.proofs.Parts.{AreCut-memory}
 use Rattle.sse_client.proofs.Plans.{clash_cause, no_clash-planned, IsRefusedPlan, refused_size, stopped_plan}
 
 -- What a command comes to.
 
-abbrev kept_if : Request → Outcome → Outcome
-kept_if line result = if is_built line then result else Refuses refusals.NotBuilt
-
 module _ (place : Place) (line : Request) where
-  pub before : is_set_up place.history ≡ false → comes_to is_built place line ≡ kept_if line (before_setup place.documents line)
-  before e = ap (λ up. kept_if line (if up then after_setup place.history line else before_setup place.documents line)) e
+  pub before : is_set_up place.history ≡ false → outcome place line ≡ before_setup place.documents line
+  before e = ap (λ up. if up then after_setup place.history line else before_setup place.documents line) e
 
-  pub behind : is_set_up place.history ≡ true → comes_to is_built place line ≡ kept_if line (after_setup place.history line)
-  behind e = ap (λ up. kept_if line (if up then after_setup place.history line else before_setup place.documents line)) e
+  pub behind : is_set_up place.history ≡ true → outcome place line ≡ after_setup place.history line
+  behind e = ap (λ up. if up then after_setup place.history line else before_setup place.documents line) e
 
 -- Commands that send nothing.
 
@@ -81,7 +85,7 @@ module _ (f : KeyedFn) (told : Told) (next : Stage) (came : Came) (place : Place
 -- A document.
 
 comes-doc : (place : Place) (id : ℕ) (texts : List (List ℕ)) (docs : List Document) (r : Option Refusal) → is_set_up place.history ≡ false → docs ≡ place.documents → collect_refusal docs (document id texts) ≡ r
-    → comes_to is_built place (Doc id texts) ≡ unless r (Collects (document id texts))
+    → outcome place (Doc id texts) ≡ unless r (Collects (document id texts))
 comes-doc place id texts docs r none same e =
     before place (Doc id texts) none
     ∙ ap (λ ds. unless (collect_refusal ds (document id texts)) (Collects (document id texts))) (sym same)
@@ -90,7 +94,7 @@ comes-doc place id texts docs r none same e =
 -- where a session collects, it takes a document or refuses it
 pub takes-doc : {T : Type 0} (f : KeyedFn) (told : Told) (id : ℕ) (texts : List (List ℕ)) (docs new : List Document) (next : Stage) (came : Came) (done : Result T LineFault) (place : Place)
     → is_set_up place.history ≡ false → docs ≡ place.documents → ((ds : List Document) (after : Place) → new ≡ ds → after ≡ record place { documents = ds } → IsAt f next after)
-    → IsAdded done docs new (document id texts) (collect_refusal docs (document id texts)) → IsAnswer done (Ok came) → GoesOn f told told next came place (comes_to is_built place (Doc id texts))
+    → IsAdded done docs new (document id texts) (collect_refusal docs (document id texts)) → IsAnswer done (Ok came) → GoesOn f told told next came place (outcome place (Doc id texts))
 takes-doc f told id texts docs new next came (Ok u) place none same at h a =
     let d = document id texts in
     let is : came ≡ comings.Nothing = inside came comings.Nothing (Ok came) refl a.nothing in
@@ -101,7 +105,7 @@ takes-doc f told id texts docs new next came (Err (faults.Refused shown)) place 
     is : came ≡ comings.Refused shown
     is = inside came (comings.Refused shown) (Ok came) refl (a.refused shown refl)
 
-    by : (r : Option Refusal) → collect_refusal docs (document id texts) ≡ r → Some shown ≡ r → GoesOn f told told next came place (comes_to is_built place (Doc id texts))
+    by : (r : Option Refusal) → collect_refusal docs (document id texts) ≡ r → Some shown ≡ r → GoesOn f told told next came place (outcome place (Doc id texts))
     by None e tells = absurd (cc)
     by (Some refusal) e tells =
         let line : shown ≡ refusal = cc in
@@ -124,7 +128,7 @@ module _ (f : KeyedFn) (place : Place) (word : List ℕ) where
   abbrev searching : Outcome
   searching = Does (Search word ∷ []) (says.Found (found_in place.history word))
 
-  comes-find : (r : Option Refusal) → is_set_up place.history ≡ true → bad_word 0 (word ∷ []) ≡ r → comes_to is_built place (Find word) ≡ unless r searching
+  comes-find : (r : Option Refusal) → is_set_up place.history ≡ true → bad_word 0 (word ∷ []) ≡ r → outcome place (Find word) ≡ unless r searching
   comes-find r up e = behind place (Find word) up ∙ ap (λ r. unless r searching) e
 
   token_at : (key : List ℕ) → key ≡ place.key → is_set_up place.history ≡ true → SearchFrame (token_of f key word) ∷ [] ≡ frames_by f place searching
@@ -135,7 +139,7 @@ module _ (f : KeyedFn) (place : Place) (word : List ℕ) where
 
   module _ (old new : Told) (up : is_set_up place.history ≡ true) where
     pub takes-find : (next : Stage) (came : Came) (key ids : List ℕ) → key ≡ place.key → bad_word 0 (word ∷ []) ≡ None → HasSearched old new (SearchFrame (token_of f key word)) ids
-        → outcome_view came ≡ says.Found ids ∷ [] → refuses came ≡ false → IsAt f next (after searching place) → GoesOn f old new next came place (comes_to is_built place (Find word))
+        → outcome_view came ≡ says.Found ids ∷ [] → refuses came ≡ false → IsAt f next (after searching place) → GoesOn f old new next came place (outcome place (Find word))
     takes-find next came key ids same good s view fine at =
         subst (GoesOn f old new next came place) (sym (comes-find None up good))
         (record {
@@ -152,7 +156,7 @@ module _ (f : KeyedFn) (place : Place) (word : List ℕ) where
         })
 
     pub stops-find : (key : List ℕ) (c : says.Cause) → key ≡ place.key → bad_word 0 (word ∷ []) ≡ None → HasCut old new (SearchFrame (token_of f key word) ∷ []) c
-        → (written : Option (List ℕ)) → StopsIn f place (comes_to is_built place (Find word)) (seen old written) (seen new written) (At c)
+        → (written : Option (List ℕ)) → StopsIn f place (outcome place (Find word)) (seen old written) (seen new written) (At c)
     stops-find key c same good cut written =
         subst (λ result. StopsIn f place result (seen old written) (seen new written) (At c)) (sym (comes-find None up good))
         (inr (inl (record {
@@ -167,13 +171,13 @@ module _ (f : KeyedFn) (place : Place) (word : List ℕ) where
 
   -- a field that is no word is refused
   pub takes-bad_word : {T : Type 0} (told : Told) (next : Stage) (came : Came) (fault : LineFault) (answer : Result Came PeerStop) → is_set_up place.history ≡ true → IsAnswer {T = T} (Err fault) answer → answer ≡ Ok came
-      → SaysRefusal fault (bad_word 0 (word ∷ [])) → IsAt f next place → GoesOn f told told next came place (comes_to is_built place (Find word))
+      → SaysRefusal fault (bad_word 0 (word ∷ [])) → IsAt f next place → GoesOn f told told next came place (outcome place (Find word))
   takes-bad_word told next came (faults.Refused shown) answer up a ok tells at = by (bad_word 0 (word ∷ [])) refl tells
     where
       is : came ≡ comings.Refused shown
       is = inside came (comings.Refused shown) answer ok (a.refused shown refl)
 
-      by : (r : Option Refusal) → bad_word 0 (word ∷ []) ≡ r → Some shown ≡ r → GoesOn f told told next came place (comes_to is_built place (Find word))
+      by : (r : Option Refusal) → bad_word 0 (word ∷ []) ≡ r → Some shown ≡ r → GoesOn f told told next came place (outcome place (Find word))
       by None e tells = absurd (cc)
       by (Some refusal) e tells =
           let line : shown ≡ refusal = cc in
@@ -198,36 +202,35 @@ stops-bad_word f told place result written faults.NoMemory answer stop a err =
 pub stops_if_memory : (f : KeyedFn) (told : Told) (stage : Stage) (request : Request) (r : Result (Stage × Came) PeerStop) → IfErr r (λ stop. stop ≡ peers.Memory) → IfErr r (λ stop. StopsWithin f stage request told told (peer_cause stop))
 stops_if_memory f told stage request (Ok done) memory = tt
 stops_if_memory f told stage request (Err stop) memory = λ place a written.
-    subst (λ s. StopsIn f place (comes_to is_built place request) (seen told written) (seen told written) (At (peer_cause s))) (sym memory) (stops-memory f told place (comes_to is_built place request) written)
+    subst (λ s. StopsIn f place (outcome place request) (seen told written) (seen told written) (At (peer_cause s))) (sym memory) (stops-memory f told place (outcome place request) written)
 
--- behind a search the session stands where it stood
-set_up_still : (f : KeyedFn) (word : List ℕ) (h : History) → is_set_up h ≡ true → is_set_up (longer (Search word ∷ []) h) ≡ true
-set_up_still f word None up = absurd (cc)
-set_up_still f word (Some run) up = refl
+-- a session that searches is set up
+pub is_up : (f : KeyedFn) (client : Client Ready) (place : Place) → IsAt f (Searching client) place → is_set_up place.history ≡ true
+is_up f client place at = ap is_set_up at.stands.1
 
-stage_still : (stage : Stage) (place : Place) (f : KeyedFn) (word : List ℕ) → is_set_up place.history ≡ true → IsStage stage place → IsStage stage (after (searching f place word) place)
-stage_still (Collecting client docs) place f word up (same, fresh) = absurd (cc)
-stage_still (Searching client) place f word up is = set_up_still f word place.history up
-
-pub searching_still : (f : KeyedFn) (stage : Stage) (place : Place) (word : List ℕ) → is_set_up place.history ≡ true → IsAt f stage place → IsAt f stage (after (searching f place word) place)
-searching_still f stage place word up at = record { key = at.key; stands = stage_still stage place f word up at.stands }
+-- behind a search the session stands for the history with it
+pub searching_still : (f : KeyedFn) (client : Client Ready) (place : Place) (word : List ℕ) → bad_word 0 (word ∷ []) ≡ None → IsAt f (Searching client) place → IsAt f (Searching client) (after (searching f place word) place)
+searching_still f client place word good at = record {
+  key = at.key;
+  stands = (with_command at.stands.0 (Search word), ap (longer (Search word ∷ [])) at.stands.1, StandsFor-search f place.key at.stands.0 word client.state (word_passed 0 word (neither _ None good).0) at.stands.2);
+}
 
 -- A setup.
 
--- a session that isn't collecting is one that searches
-pub at_searching : (stage : Stage) (place : Place) → stage_view stage ≡ None → is_set_up place.history ≡ true → IsStage stage place
-at_searching (Collecting client docs) place e up = absurd (cc)
-at_searching (Searching client) place e up = up
+-- a session that is set up stands where its history is this run
+at_ready : (f : KeyedFn) (run : Run) (stage : Stage) (place : Place) → place.history ≡ Some run → IsReady f place.key run stage → IsStage f stage place
+at_ready f run (Collecting client docs) place is ready = absurd ready
+at_ready f run (Searching client) place is ready = (run, is, ready)
 
 module _ (f : KeyedFn) (key : List ℕ) (docs : List Document) (b big : ℕ) where
   abbrev s : Setup
   s = setup_of docs b big
 
   module _ (place : Place) (same_key : key ≡ place.key) (same : docs ≡ place.documents) (fresh : is_set_up place.history ≡ false) where
-    comes-setup : comes_to is_built place (SetupLine b big) ≡ unless (index_refusal docs b big) (SetsUp s)
+    comes-setup : outcome place (SetupLine b big) ≡ unless (index_refusal docs b big) (SetsUp s)
     comes-setup = before place (SetupLine b big) fresh ∙ ap (λ ds. unless (index_refusal ds b big) (SetsUp (setup_of ds b big))) (sym same)
 
-    comes-set_up : setup_refusal docs b big ≡ None → comes_to is_built place (SetupLine b big) ≡ SetsUp s
+    comes-set_up : setup_refusal docs b big ≡ None → outcome place (SetupLine b big) ≡ SetsUp s
     comes-set_up none = comes-setup ∙ ap (λ r. unless (option_map size_refused r) (SetsUp s)) none
 
     frames_at : frames_of_setup (key_table f key s) at_first s ≡ frames_by f place (SetsUp s)
@@ -241,8 +244,8 @@ module _ (f : KeyedFn) (key : List ℕ) (docs : List Document) (b big : ℕ) whe
       no_clash-setup = clash_at ∙ no_clash-planned f key docs b big accepted
 
       takes-setup : (next : Stage) (came : Came) (words blocks : ℕ) → words ≡ length (words_of docs) → blocks ≡ blocks_of s → HasExchanged old new [] (frames_of_setup (key_table f key s) at_first s)
-          → outcome_view came ≡ says.SetUp words blocks ∷ [] → refuses came ≡ false → stage_view next ≡ None → key_of next ≡ key → GoesOn f old new next came place (comes_to is_built place (SetupLine b big))
-      takes-setup next came words blocks counted counted_blocks x view fine at keyed =
+          → outcome_view came ≡ says.SetUp words blocks ∷ [] → refuses came ≡ false → IsReady f key (record { setup = s; later = [] }) next → key_of next ≡ key → GoesOn f old new next came place (outcome place (SetupLine b big))
+      takes-setup next came words blocks counted counted_blocks x view fine ready keyed =
           subst (GoesOn f old new next came place) (sym (comes-set_up (size_accepted f key s accepted)))
           (record {
             answers = [];
@@ -254,11 +257,14 @@ module _ (f : KeyedFn) (key : List ℕ) (docs : List Document) (b big : ℕ) whe
             };
             shown = view ∙ (λ i. says.SetUp (counted i) (counted_blocks i) ∷ []);
             refuses = fine;
-            stands = record { key = keyed ∙ same_key; stands = at_searching next (after (SetsUp s) place) at refl };
+            stands = record {
+              key = keyed ∙ same_key;
+              stands = at_ready f (record { setup = s; later = [] }) next (after (SetsUp s) place) refl (subst (λ k. IsReady f k (record { setup = s; later = [] }) next) same_key ready);
+            };
           })
 
       stops-setup : (c : says.Cause) → HasCut old new (frames_of_setup (key_table f key s) at_first s) c → (written : Option (List ℕ))
-          → StopsIn f place (comes_to is_built place (SetupLine b big)) (seen old written) (seen new written) (At c)
+          → StopsIn f place (outcome place (SetupLine b big)) (seen old written) (seen new written) (At c)
       stops-setup c cut written =
           subst (λ result. StopsIn f place result (seen old written) (seen new written) (At c)) (sym (comes-set_up (size_accepted f key s accepted)))
           (inr (inl (record {
@@ -274,21 +280,21 @@ module _ (f : KeyedFn) (key : List ℕ) (docs : List Document) (b big : ℕ) whe
     module _ (T : Type 0) (fault : BuildFault) (plan : IsRefusedPlan T f key docs b big fault) (told : Told) where
       -- a setup whose plan was refused is refused
       pub takes-refused_setup : (next : Stage) (came : Came) (shown : Refusal) → outcome_view came ≡ says.Refused shown ∷ [] → refuses came ≡ true → IsAt f next place → setup_answer fault ≡ Ok shown
-          → GoesOn f told told next came place (comes_to is_built place (SetupLine b big))
+          → GoesOn f told told next came place (outcome place (SetupLine b big))
       takes-refused_setup next came shown view refused at answer =
           subst (GoesOn f told told next came place) (sym (comes-setup ∙ ap (λ r. unless r (SetsUp s)) (refused_size f key docs b big T fault plan shown answer)))
           (goes-refused f told next came place shown view refused at)
 
       -- equal labels and equal places stop the run at the setup, and so does want of memory
       pub stops-plan : (stop : PeerStop) → setup_answer fault ≡ Err stop → (written : Option (List ℕ))
-          → StopsIn f place (comes_to is_built place (SetupLine b big)) (seen told written) (seen told written) (At (peer_cause stop))
+          → StopsIn f place (outcome place (SetupLine b big)) (seen told written) (seen told written) (At (peer_cause stop))
       stops-plan stop answer written =
           let why = stopped_plan f key docs b big T fault plan stop answer in
           elim why.1 [
             | inl found ↦ subst (λ result. StopsIn f place result (seen told written) (seen told written) (At (peer_cause stop))) (sym (comes-set_up why.0))
                 (inl (record { cause = peer_cause stop; found = clash_at ∙ found; stops = refl; nothing = refl }))
-            | inr memory ↦ subst (λ x. StopsIn f place (comes_to is_built place (SetupLine b big)) (seen told written) (seen told written) (At (peer_cause x))) (sym memory)
-                (stops-memory f told place (comes_to is_built place (SetupLine b big)) written)
+            | inr memory ↦ subst (λ x. StopsIn f place (outcome place (SetupLine b big)) (seen told written) (seen told written) (At (peer_cause x))) (sym memory)
+                (stops-memory f told place (outcome place (SetupLine b big)) written)
           ]
 
 -- the key and the documents of a session that collects
@@ -301,12 +307,12 @@ module _ (f : KeyedFn) (key : List ℕ) (old new : Told) (stage : Stage) (docs :
 
   -- a setup whose sending ended is done
   pub takes_if_sent : (words blocks : ℕ) → words ≡ length (words_of docs) → blocks ≡ blocks_of (setup_of docs b big) → (r : Result (Stage × Came) PeerStop) → OnOk r (HasExchanged old new [] sent_frames)
-      → IfOk r (λ done. outcome_view done.1 ≡ says.SetUp words blocks ∷ []) → IfOk r (λ done. refuses done.1 ≡ false) → IfOk r (λ done. stage_view done.0 ≡ None) → IfOk r (λ done. key_of done.0 ≡ key)
+      → IfOk r (λ done. outcome_view done.1 ≡ says.SetUp words blocks ∷ []) → IfOk r (λ done. refuses done.1 ≡ false) → IfOk r (λ done. IsReady f key (record { setup = setup_of docs b big; later = [] }) done.0) → IfOk r (λ done. key_of done.0 ≡ key)
       → IfOk r (λ done. Takes f stage (SetupLine b big) old new done.0 done.1)
-  takes_if_sent words blocks counted counted_blocks (Ok done) x view fine up keyed = λ place a.
+  takes_if_sent words blocks counted counted_blocks (Ok done) x view fine ready keyed = λ place a.
       let p = at place a in
-      takes-setup f key docs b big place p.0 p.1 p.2 accepted old new done.0 done.1 words blocks counted counted_blocks x view fine up keyed
-  takes_if_sent words blocks counted counted_blocks (Err stop) x view fine up keyed = tt
+      takes-setup f key docs b big place p.0 p.1 p.2 accepted old new done.0 done.1 words blocks counted counted_blocks x view fine ready keyed
+  takes_if_sent words blocks counted counted_blocks (Err stop) x view fine ready keyed = tt
 
   -- one whose sending was cut stops the run
   pub stops_if_sent : (r : Result (Stage × Came) PeerStop) → IfErr r (λ stop. HasCut old new sent_frames (peer_cause stop)) → IfErr r (λ stop. StopsWithin f stage (SetupLine b big) old new (peer_cause stop))
@@ -317,18 +323,18 @@ module _ (f : KeyedFn) (key : List ℕ) (old new : Told) (stage : Stage) (docs :
 
 -- one more setup is refused
 pub takes-set_up_already : (f : KeyedFn) (told : Told) (next : Stage) (came : Came) (place : Place) (b big : ℕ) → is_set_up place.history ≡ true → outcome_view came ≡ says.Refused refusals.SetUpAlready ∷ [] → refuses came ≡ true → IsAt f next place
-    → GoesOn f told told next came place (comes_to is_built place (SetupLine b big))
+    → GoesOn f told told next came place (outcome place (SetupLine b big))
 takes-set_up_already f told next came place b big up view fine at = subst (GoesOn f told told next came place) (sym (behind place (SetupLine b big) up)) (goes-refused f told next came place refusals.SetUpAlready view fine at)
 
 -- so is a document behind the setup
 pub takes-doc_behind : (f : KeyedFn) (told : Told) (next : Stage) (came : Came) (place : Place) (id : ℕ) (words : List (List ℕ)) → is_set_up place.history ≡ true → outcome_view came ≡ says.Refused refusals.SetUpAlready ∷ [] → refuses came ≡ true
-    → IsAt f next place → GoesOn f told told next came place (comes_to is_built place (Doc id words))
+    → IsAt f next place → GoesOn f told told next came place (outcome place (Doc id words))
 takes-doc_behind f told next came place id words up view fine at = subst (GoesOn f told told next came place) (sym (behind place (Doc id words) up)) (goes-refused f told next came place refusals.SetUpAlready view fine at)
 
--- and a search before it
-pub takes-not_set_up : (f : KeyedFn) (told : Told) (next : Stage) (came : Came) (place : Place) (word : List ℕ) → is_set_up place.history ≡ false → outcome_view came ≡ says.Refused refusals.NotSetUp ∷ [] → refuses came ≡ true
-    → IsAt f next place → GoesOn f told told next came place (comes_to is_built place (Find word))
-takes-not_set_up f told next came place word fresh view fine at = subst (GoesOn f told told next came place) (sym (before place (Find word) fresh)) (goes-refused f told next came place refusals.NotSetUp view fine at)
+-- and what needs a setup before it
+pub takes-not_set_up : (f : KeyedFn) (told : Told) (next : Stage) (came : Came) (place : Place) (request : Request) → before_setup place.documents request ≡ Refuses refusals.NotSetUp → is_set_up place.history ≡ false
+    → outcome_view came ≡ says.Refused refusals.NotSetUp ∷ [] → refuses came ≡ true → IsAt f next place → GoesOn f told told next came place (outcome place request)
+takes-not_set_up f told next came place request early fresh view fine at = subst (GoesOn f told told next came place) (sym (before place request fresh ∙ early)) (goes-refused f told next came place refusals.NotSetUp view fine at)
 
 -- The command of a line.
 
@@ -356,9 +362,7 @@ pub takes_under : (f : KeyedFn) (told : Told) (stage : Stage) (request : Request
 takes_under f told stage request (Ok done) t = t f told
 takes_under f told stage request (Err stop) t = tt
 
--- additions and deletions are refused
-pub takes-not_built : (f : KeyedFn) (told : Told) (stage : Stage) (came : Came) (line : Line) (own request : Request) → outcome_view came ≡ says.Refused refusals.NotBuilt ∷ [] → refuses came ≡ true
-    → ((place : Place) → comes_to is_built place own ≡ Refuses refusals.NotBuilt) → line ≡ Command own → line ≡ Command request → Takes f stage request told told stage came
-takes-not_built f told stage came line own request view fine comes is e = λ place a.
-    subst (λ q. GoesOn f told told stage came place (comes_to is_built place q)) (inner own request (sym is ∙ e))
-    (subst (GoesOn f told told stage came place) (sym (comes place)) (goes-refused f told stage came place refusals.NotBuilt view fine a))
+-- and may stop a run where it may under every one
+pub stop_under : (f : KeyedFn) (stage : Stage) (line : read.Line) (r : Result (Stage × Came) PeerStop) → OnErr r ((f : KeyedFn) → MayStop f stage line) → OnErr r (MayStop f stage line)
+stop_under f stage line (Ok done) may = tt
+stop_under f stage line (Err stop) may = may f

@@ -1,14 +1,14 @@
 -- How far the sending of update frames is.
 use Rattle.std.proofs.Common.{◌≡◌, ℕ, ◌+◌, List, [], ◌∷◌, map, take, drop, Some, refl, sym, ap, subst}
 use Rattle.std.specs.List.{AllByRecursion}
-use Rattle.client_core.specs.Sending.{to_send}
+use Rattle.client_core.specs.Sending.{first_number, to_send}
 use Rattle.client_core.specs.declared.behind.Behind.{Behind}
 use Rattle.sse_frames.specs.Frames.{FrameText, IsFrame, frame_bytes, update_number}
 use Rattle.sse_client.specs.Progress.{AreNumbered}
 
 -- frames that an update is to send
 abbrev pub AreOwed : Behind → List FrameText → Type 0
-AreOwed state frames = (to_send state ≡ map frame_bytes frames) × AreNumbered state.next frames
+AreOwed state frames = (to_send state ≡ map frame_bytes frames) × AreNumbered (first_number state) frames
 
 -- the next of the frames that are left
 pub record IsNext (state : Behind) (frame : List ℕ) (left : List FrameText) : Type 0 where
@@ -16,11 +16,11 @@ pub record IsNext (state : Behind) (frame : List ℕ) (left : List FrameText) : 
   pub others : List FrameText
   pub are : left ≡ first ∷ others
   pub spelled : frame ≡ frame_bytes first
-  pub number : update_number first ≡ Some state.next
+  pub number : update_number first ≡ Some (first_number state)
   pub more : drop 1 (to_send state) ≡ map frame_bytes others
-  pub numbered : AreNumbered (state.next + 1) others
+  pub numbered : AreNumbered (first_number state + 1) others
 
-pub next_of : (state : Behind) (frame : List ℕ) (left : List FrameText) → to_send state ≡ map frame_bytes left → AreNumbered state.next left → take 1 (to_send state) ≡ frame ∷ [] → IsNext state frame left
+pub next_of : (state : Behind) (frame : List ℕ) (left : List FrameText) → to_send state ≡ map frame_bytes left → AreNumbered (first_number state) left → take 1 (to_send state) ≡ frame ∷ [] → IsNext state frame left
 next_of state frame [] to_come numbered one = absurd (let none : take 1 (to_send state) ≡ [] = ap (take 1) to_come in cc)
 next_of state frame (first ∷ others) to_come numbered one =
     let ones : take 1 (to_send state) ≡ frame_bytes first ∷ [] = ap (take 1) to_come in

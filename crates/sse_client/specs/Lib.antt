@@ -1,6 +1,7 @@
 pub mod Stops
-pub mod LineFaults
 pub mod SetupFaults
+pub mod UpdateFaults
+pub mod UpdatePlans
 pub mod OutcomeViews
 pub mod Stages
 pub mod Words

@@ -1,22 +1,26 @@
 -- Where a session stands in its script, what it does with a command there, and how a run ends.
-use Rattle.std.specs.Prelude.{◌≡◌, ◌≤◌, Bool, true, false, List, [], ℕ, map, Option, Some}
+use Rattle.std.specs.Prelude.{◌≡◌, ◌≢◌, ◌≤◌, Bool, true, false, List, [], ◌∷◌, ℕ, map, Option, Some, None}
+use Rattle.client_core.specs.StandsFor.{StandsFor}
+use Rattle.client_registry.specs.Acceptance.{setup_refusal}
 use Rattle.client_registry.specs.Histories.{is_set_up}
 use Rattle.client_registry.specs.Live.{in_order}
-use Rattle.client_registry.specs.Run.{History}
+use Rattle.client_registry.specs.Run.{History, Run}
 use Rattle.keyed_fn.specs.KeyedFn.{KeyedFn}
 use Rattle.server_core.specs.State.{ServerState}
 use Rattle.script_meaning.specs.Headline.{IsOverHonest, IsCalm, Headline}
 use Rattle.script_meaning.specs.Meaning.{meaning}
 use Rattle.script_meaning.specs.Session.{IsFree}
 use Rattle.sse_script.specs.Shown.{Cause, BadWords, BadLine, SourceFault, NoMemory}
-use Rattle.script_meaning.specs.Built.{is_built, comes_to}
 use Rattle.script_meaning.specs.Carries.{Outside, with_answers, IsSent, Carries, StopsIn}
 use Rattle.script_meaning.specs.Exchange.{Told}
 use Rattle.script_meaning.specs.Lines.{Request, script_lines}
-use Rattle.script_meaning.specs.Outcome.{Place, Outcome, after, shown_by, is_refusal}
+use Rattle.script_meaning.specs.Outcome.{Place, Outcome, outcome, after, shown_by, is_refusal}
+use Rattle.line_documents.specs.Refused.{bad_word}
+use Rattle.script_meaning.specs.Refused.{delete_refusal}
 use Rattle.script_meaning.specs.Runs.{Ended, ended, Opens, Ends, Moment, RunsFrom, OpensFrom}
 use Rattle.script_meaning.specs.Stops as ends
 use Rattle.script_meaning.specs.Stops.{status_of}
+use Rattle.sse_script.specs.Lines.{Line, Doc, SetupLine, AddLine, Del, Find}
 use Rattle.sse_client.specs.Stages.{key_of}
 use Rattle.sse_client.specs.OutcomeViews.{outcome_view, refuses}
 use Rattle.sse_client.specs.Stops.{peer_cause}
@@ -28,15 +32,30 @@ use Rattle.sse_client.specs.declared.session.Stage.TheVariants.{Collecting, Sear
 use Rattle.sse_client.specs.declared.stop.Stop.{Stop}
 use Rattle.sse_client.specs.declared.stop.Stop.TheVariants as stops
 
--- a session collects the documents of a place that isn't set up, and searches where one is
-abbrev pub IsStage : Stage → Place → Type 0
-IsStage (Collecting client docs) place = (docs ≡ place.documents) × (is_set_up place.history ≡ false)
-IsStage (Searching client) place = is_set_up place.history ≡ true
+-- a session that is set up stands for this run
+abbrev pub IsReady : KeyedFn → List ℕ → Run → Stage → Type 0
+IsReady f key run (Collecting client docs) = ⊥
+IsReady f key run (Searching client) = StandsFor f key run client.state
+
+-- a session collects the documents of a place that isn't set up, and behind the setup it stands for the history of the place
+abbrev pub IsStage : KeyedFn → Stage → Place → Type 0
+IsStage f (Collecting client docs) place = (docs ≡ place.documents) × (is_set_up place.history ≡ false)
+IsStage f (Searching client) place = (run : Run) × (place.history ≡ Some run) × StandsFor f place.key run client.state
 
 -- a session stands at a place of its script, under its key
 pub record IsAt (f : KeyedFn) (stage : Stage) (place : Place) : Type 0 where
   pub key : key_of stage ≡ place.key
-  pub stands : IsStage stage place
+  pub stands : IsStage f stage place
+
+-- a session may stop in this line: no refusal stands that is found without memory, as those of the stage, of the identifier
+-- zero, of a setup's size, of a bad word, and of a deletion
+abbrev pub MayStop : KeyedFn → Stage → Line → Type 0
+MayStop f (Collecting client docs) (Doc id words) = id ≢ 0
+MayStop f (Collecting client docs) (SetupLine b big) = setup_refusal docs b big ≡ None
+MayStop f (Searching client) (AddLine id words) = id ≢ 0
+MayStop f (Searching client) (Del id) = (place : Place) → IsAt f (Searching client) place → delete_refusal place.history id ≡ None
+MayStop f (Searching client) (Find word) = bad_word 0 (word ∷ []) ≡ None
+MayStop f _ _ = ⊥
 
 -- a session goes on at this stage, with this outcome of a command: it exchanged all frames of what the command comes to at
 -- this place, and shows that with the answers that came to its searches
@@ -49,7 +68,7 @@ pub record GoesOn (f : KeyedFn) (old new : Told) (next : Stage) (came : Came) (p
 
 -- wherever a session may stand, it does with a command what is to be done there
 abbrev pub Takes : KeyedFn → Stage → Request → Told → Told → Stage → Came → Type 0
-Takes f stage request old new next came = (place : Place) → IsAt f stage place → GoesOn f old new next came place (comes_to is_built place request)
+Takes f stage request old new next came = (place : Place) → IsAt f stage place → GoesOn f old new next came place (outcome place request)
 
 -- what is seen of a run
 abbrev pub seen : Told → Option (List ℕ) → Outside
@@ -58,7 +77,7 @@ seen told written = record { told = told; written = written }
 -- wherever a session may stand, a command stops the run there, for this cause, and prints nothing
 abbrev pub StopsWithin : KeyedFn → Stage → Request → Told → Told → Cause → Type 0
 StopsWithin f stage request old new cause =
-    (place : Place) → IsAt f stage place → (written : Option (List ℕ)) → StopsIn f place (comes_to is_built place request) (seen old written) (seen new written) (ends.At cause)
+    (place : Place) → IsAt f stage place → (written : Option (List ℕ)) → StopsIn f place (outcome place request) (seen old written) (seen new written) (ends.At cause)
 
 -- what stopped a run before the end of its script
 abbrev pub stop_seen : Stop → ends.Stop
@@ -77,11 +96,11 @@ pub record HasCarried (f : KeyedFn) (place : Place) (result : Outcome) (now next
 
 -- wherever a session may stand, a command is carried out there
 abbrev pub CarriesOut : KeyedFn → Stage → Request → Outside → Outside → Stage → Bool → Type 0
-CarriesOut f stage request now next went refused = (place : Place) → IsAt f stage place → HasCarried f place (comes_to is_built place request) now next went refused
+CarriesOut f stage request now next went refused = (place : Place) → IsAt f stage place → HasCarried f place (outcome place request) now next went refused
 
 -- wherever a session may stand, a command stops the run there
 abbrev pub StopsRun : KeyedFn → Stage → Request → Outside → Outside → ends.Stop → Type 0
-StopsRun f stage request now end stop = (place : Place) → IsAt f stage place → StopsIn f place (comes_to is_built place request) now end stop
+StopsRun f stage request now end stop = (place : Place) → IsAt f stage place → StopsIn f place (outcome place request) now end stop
 
 -- whether a command was refused
 abbrev pub has_refused : Refusals → Bool

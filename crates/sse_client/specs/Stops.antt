@@ -1,12 +1,12 @@
 -- How the faults of the devices and of the server become what stops a run.
 use Rattle.std.specs.Prelude.{ℕ, List, take}
-use Rattle.client_core.specs.declared.reply_fault.ReplyFault.{ReplyFault}
-use Rattle.client_core.specs.declared.reply_fault.ReplyFault.TheVariants as faults
+use Rattle.client_replies.specs.declared.reply_fault.ReplyFault.{ReplyFault}
+use Rattle.client_replies.specs.declared.reply_fault.ReplyFault.TheVariants as faults
 use Rattle.sse_link.specs.declared.link_fault.LinkFault.{LinkFault as FaultOfLink}
 use Rattle.sse_link.specs.declared.link_fault.LinkFault.TheVariants as links
 use Rattle.sse_outside.specs.declared.device_fault.DeviceFault.{DeviceFault}
 use Rattle.sse_outside.specs.declared.device_fault.DeviceFault.TheVariants as devices
-use Rattle.sse_script.specs.Shown.{Cause, LinkFault, NoMemory, LabelClash, PlaceClash, Clash, PeerElsewhere, BadReply}
+use Rattle.sse_script.specs.Shown.{Cause, LinkFault, NoMemory, LabelClash, PlaceClash, NumberClash, Clash, PeerElsewhere, BadReply}
 use Rattle.sse_script.specs.declared.read_stop.ReadStop.{ReadStop}
 use Rattle.sse_script.specs.declared.read_stop.ReadStop.TheVariants as reads
 use Rattle.sse_client.specs.declared.peer_stop.PeerStop.{PeerStop}
@@ -32,6 +32,7 @@ peer_cause peers.Link = LinkFault
 peer_cause peers.Memory = NoMemory
 peer_cause (peers.LabelClash first second) = LabelClash first second
 peer_cause (peers.PlaceClash first second) = PlaceClash first second
+peer_cause (peers.NumberClash first second) = NumberClash first second
 peer_cause (peers.Clash what place) = Clash what place
 peer_cause (peers.Elsewhere got) = PeerElsewhere 0 0 got
 peer_cause (peers.BadReply start) = BadReply (take start.len start.bytes)

@@ -9,7 +9,7 @@ ghost use Rattle.sse_client.specs.Causes.{PeerCause};
 ghost use Rattle.sse_client.specs.Stops.{peer_cause};
 
 use crate::peer_stop::PeerStop;
-use client_core::fault_of;
+use client_replies::fault_of;
 use sse_frames::{Frame, Reply, read_reply, write_frame};
 use sse_link::Link;
 use std::alloc::Global;

@@ -23,6 +23,7 @@ pub(crate) struct Input {
 }
 
 impl Input {
+    /// No line read yet.
     pub(crate) fn new(alloc: Global) -> Result<Input, AllocError>
         ensures reader { IfOk result (λ input. input.reader ≡ []) }
         ensures number { IfOk result (λ input. input.number ≡ 0) }

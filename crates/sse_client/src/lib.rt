@@ -1,14 +1,12 @@
 //! The client program: it reads a script, keeps its words and documents to itself, sends frames over a
 //! link, and prints what came back. It stands on `client_core` for what is sent and what a reply means,
-//! on `sse_script` for the lines, and on the traits of the outside for everything else. `sse_run` is
-//! all that a client program does; `run_in_memory` is the same over a server in this process, and
-//! `run_on_bytes` over a script in memory too.
+//! on `sse_script` for the lines, on `line_documents` for what their fields make, and on the traits of the outside for
+//! everything else. `sse_run` is all that a client program does; `run_in_memory` is the same over a server in this
+//! process, and `run_on_bytes` over a script in memory too.
 #![tactic(auto)]
 
-mod documents;
 mod exchange;
 mod input;
-mod line_fault;
 mod outcome;
 mod peer_stop;
 mod run;
@@ -16,6 +14,8 @@ mod searching;
 mod session;
 mod setting_up;
 mod stop;
+mod update_fault;
+mod updating;
 mod words;
 
 pub use run::{run_in_memory, run_on_bytes, sse_run};

@@ -16,6 +16,10 @@ pub(crate) enum Outcome {
     Nothing,
     /// The documents were set up.
     SetUp { words: u32, blocks: u32 },
+    /// The document of this identifier was added.
+    Added { id: u64 },
+    /// It was deleted.
+    Deleted { id: u64 },
     /// A search gave these identifiers, rising.
     Found(Vec<u64>),
     /// The command was refused.
@@ -44,6 +48,8 @@ impl Outcome {
                 let (words, blocks) = (*words, *blocks);
                 print(alloc, sink, &Shown::SetUp { words, blocks })
             }
+            Outcome::Added { id } => print(alloc, sink, &Shown::Added { id: *id }),
+            Outcome::Deleted { id } => print(alloc, sink, &Shown::Deleted { id: *id }),
             Outcome::Found(ids) => print(
                 alloc,
                 sink,

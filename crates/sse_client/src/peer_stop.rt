@@ -1,6 +1,6 @@
 ghost use Rattle.std.specs.Prelude.{◌≡◌, ◌≢◌, ◌≤◌, ℕ, take};
 
-use client_core::ReplyFault;
+use client_replies::ReplyFault;
 use sse_link::LinkFault;
 use std::alloc::{AllocError, AllocFailed};
 
@@ -11,10 +11,12 @@ pub(crate) enum PeerStop {
     Link,
     /// There is no memory, here or at the server.
     Memory,
-    /// Two words of the setup have equal labels.
+    /// Two words of the setup, or of a document that is added, have equal labels.
     LabelClash { first: u32, second: u32 },
     /// Two blocks of the setup have equal places.
     PlaceClash { first: u32, second: u32 },
+    /// Two words of a document that is added or deleted have equal revocation numbers.
+    NumberClash { first: u32, second: u32 },
     /// The server reported a collision.
     Clash { what: u8, place: u32 },
     /// The server expects another update frame than the client has.
@@ -32,6 +34,7 @@ pub(crate) struct ReplyStart {
 }
 
 impl ReplyStart {
+    /// The first 16 of these bytes, or all where there are fewer.
     fn of(reply: &[u8]) -> ReplyStart
         ensures { take result.len result.bytes ≡ take 16 reply.now }
     {
@@ -41,6 +44,7 @@ impl ReplyStart {
         ReplyStart { bytes, len }
     }
 
+    /// The bytes kept.
     pub(crate) fn as_slice(&self) -> &[u8]
         ensures { result.now ≡ take self.now.len self.now.bytes }
     {

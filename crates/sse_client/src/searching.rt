@@ -9,8 +9,9 @@ ghost use Rattle.sse_client.specs.Causes.{PeerCause};
 ghost use Rattle.sse_client.specs.Stops.{peer_cause};
 
 use crate::peer_stop::PeerStop;
-use client_core::{Client, Found, Progress, Ready};
+use client_core::{Client, Ready};
 use client_registry::Word;
+use client_replies::{Found, Progress};
 use keyed_fn::Keyed;
 use sse_link::Link;
 use std::alloc::Global;

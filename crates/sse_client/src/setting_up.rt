@@ -1,5 +1,5 @@
 ghost use Rattle.std.specs.Prelude.{◌≡◌, ◌≢◌, ◌≤◌, ℕ, List, [], Err, map, length, IfErr, IfOk, OnOk, IsErrOf};
-ghost use Rattle.client_core.specs.Sending.{to_send};
+ghost use Rattle.client_core.specs.Sending.{first_number, to_send};
 ghost use Rattle.std.specs.List.{AllByRecursion};
 ghost use Rattle.sse_frames.specs.Frames.{FrameText, IsFrame, frame_bytes};
 ghost use Rattle.sse_outside.specs.Causes.{Rose};
@@ -22,9 +22,10 @@ pub(crate) fn catch_up<L: Link>(
     requires frames { AllByRecursion IsFrame (to_send client.state) }
     requires room { 65544 ≤ length room.old }
     ensures key { IfOk result (λ ready. ready.key ≡ client.key) }
-    ensures sent { (frames : List FrameText) → to_send client.state ≡ map frame_bytes frames → AreNumbered client.state.next frames →
+    ensures ready { IfOk result (λ ready. ready.state ≡ client.state.ready) }
+    ensures sent { (frames : List FrameText) → to_send client.state ≡ map frame_bytes frames → AreNumbered (first_number client.state) frames →
         OnOk result (HasExchanged (L.transcript link.old) (L.transcript link.new) [] frames) }
-    ensures unsent { (frames : List FrameText) → to_send client.state ≡ map frame_bytes frames → AreNumbered client.state.next frames →
+    ensures unsent { (frames : List FrameText) → to_send client.state ≡ map frame_bytes frames → AreNumbered (first_number client.state) frames →
         IfErr result (λ stop. HasCut (L.transcript link.old) (L.transcript link.new) frames (peer_cause stop)) }
     ensures began { L.began link.new ≡ L.began link.old }
     ensures steady { OnOk result (L.faults link.new ≡ L.faults link.old) }

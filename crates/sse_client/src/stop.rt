@@ -73,6 +73,7 @@ fn peer_status(stop: &PeerStop) -> u8
         PeerStop::Memory => 7,
         PeerStop::LabelClash { .. } => 8,
         PeerStop::PlaceClash { .. } => 8,
+        PeerStop::NumberClash { .. } => 8,
         PeerStop::Clash { .. } => 8,
         PeerStop::Elsewhere { .. } => 9,
         PeerStop::BadReply(_) => 9,
@@ -91,6 +92,10 @@ fn cause_of(stop: &PeerStop) -> Cause<'_>
             second: *second,
         },
         PeerStop::PlaceClash { first, second } => Cause::PlaceClash {
+            first: *first,
+            second: *second,
+        },
+        PeerStop::NumberClash { first, second } => Cause::NumberClash {
             first: *first,
             second: *second,
         },

@@ -1,5 +1,5 @@
 use Rattle.std.proofs.Common.{take, true, false, [], ◌∷◌, Err, rules, refl, sym, ap, subst, arith, ◌∙◌}
-use Rattle.client_core.specs.Pages.{IsNextPage, is_done}
+use Rattle.client_replies.specs.Pages.{IsNextPage, is_done}
 use Rattle.client_registry.specs.WordBytes.{word_bytes}
 use Rattle.keyed_fn.specs.KeyFormulas.{token_of}
 use Rattle.keyed_fn.specs.KeyedFn.{IsKeyedFn, keyed_fn}

@@ -1,5 +1,5 @@
 use Rattle.std.proofs.Common.{◌≡◌, ◌-◌, ◌≤◌, true, length}
-use Rattle.client_core.specs.declared.found.TheConstants.{MAX_PAGES}
+use Rattle.client_replies.specs.declared.found.TheConstants.{MAX_PAGES}
 use Rattle.client_registry.specs.WordBytes.{word_bytes}
 use Rattle.keyed_fn.specs.KeyFormulas.{token_of}
 use Rattle.keyed_fn.specs.KeyedFn.{keyed_fn}

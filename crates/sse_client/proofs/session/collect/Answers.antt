@@ -1,13 +1,13 @@
 use Rattle.std.proofs.Common.{◌≡◌, refl, ap, sym, ◌∙◌, subst}
 use Rattle.std.proofs.Common.{false}
 use Rattle.client_registry.specs.Histories.{is_set_up}
+use Rattle.keyed_fn.specs.KeyedFn.{KeyedFn}
 use Rattle.script_meaning.specs.Outcome.{Place}
-use Rattle.sse_client.specs.Stands.{IsAt}
+use Rattle.sse_client.specs.Stands.{IsAt, MayStop}
 use Rattle.sse_client.proofs.Passing.{may_stop}
-use Rattle.sse_client.proofs.Taking.{takes-doc, takes-doc_behind}
+use Rattle.sse_client.proofs.Taking.{is_up, takes-doc, takes-doc_behind}
 use Rattle.sse_client.specs.declared.session.Stage.{Stage}
 use Rattle.sse_client.specs.declared.session.Stage.TheVariants.{Collecting, Searching}
-use Rattle.sse_client.specs.Stages.{MayStop}
 use Rattle.sse_script.specs.Lines as lines
 use Rattle.sse_client.proofs.session.collect.Goals as goal
 
@@ -23,10 +23,10 @@ returns-in_ok-refusal_of-in-Collecting-clause-takes c = λ f told place a.
 pub returns-in-Searching-clause-takes : goal.returns-in-Searching-clause-takes
 returns-in-Searching-clause-takes c = λ f told place a.
     let here : IsAt f (Searching c.in-Searching.client) place = subst (λ (s : Stage). IsAt f s place) c.in-Searching.is a in
-    takes-doc_behind f told _ _ place c.args.id c.args.fields here.stands refl refl here
+    takes-doc_behind f told _ _ place c.args.id c.args.fields (is_up f c.in-Searching.client place here) refl refl here
 
 pub returns-in_err-refusal_of-in-Collecting-clause-may_stop :
     goal.returns-in_err-refusal_of-in-Collecting-clause-may_stop
 returns-in_err-refusal_of-in-Collecting-clause-may_stop c =
-    may_stop c.from_residual.result (MayStop c.args.stage (lines.Doc c.args.id c.args.fields))
-    (subst (λ s. MayStop s (lines.Doc c.args.id c.args.fields)) (sym c.in-Collecting.is) (c.add_document-added.ensures.memory c.in_err-refusal_of-in-Collecting.ensures.stops))
+    may_stop c.from_residual.result ((f : KeyedFn) → MayStop f c.args.stage (lines.Doc c.args.id c.args.fields))
+    (λ f. subst (λ s. MayStop f s (lines.Doc c.args.id c.args.fields)) (sym c.in-Collecting.is) (c.add_document-added.ensures.memory c.in_err-refusal_of-in-Collecting.ensures.stops))

@@ -3,6 +3,7 @@ use Rattle.client_registry.specs.WordBytes.{word_bytes}
 use Rattle.keyed_fn.specs.KeyFormulas.{token_of}
 use Rattle.keyed_fn.specs.KeyedFn.{keyed_fn}
 use Rattle.sse_frames.specs.Frames.{SearchFrame}
+use Rattle.line_documents.specs.declared.line_fault.LineFault.TheVariants as faults
 use Rattle.sse_client.specs.Stages.{key_of}
 use Rattle.sse_client.specs.OutcomeViews.{outcome_view, refuses}
 use Rattle.sse_client.specs.Stops.{peer_cause}
@@ -10,12 +11,10 @@ use Rattle.sse_client.specs.declared.session.Stage.{Stage}
 use Rattle.sse_client.specs.declared.session.Stage.TheVariants.{Collecting, Searching}
 use Rattle.sse_client.proofs.Passing.{IfErr-from, may_stop}
 use Rattle.script_meaning.specs.Lines as requests
-use Rattle.script_meaning.specs.Built as built
+use Rattle.script_meaning.specs.Outcome.{outcome}
 use Rattle.sse_client.specs.Exchanges.{HasSearched, HasCut}
-use Rattle.sse_client.specs.Stands.{IsAt, GoesOn, StopsWithin}
-use Rattle.sse_client.proofs.Taking.{takes-find, stops-find, takes-bad_word, takes-not_set_up, stops-bad_word, searching_still}
-use Rattle.sse_client.specs.Stages.{MayStop}
-use Rattle.sse_client.specs.declared.line_fault.LineFault.TheVariants as faults
+use Rattle.sse_client.specs.Stands.{IsAt, GoesOn, MayStop, StopsWithin}
+use Rattle.sse_client.proofs.Taking.{takes-find, stops-find, takes-bad_word, takes-not_set_up, stops-bad_word, is_up, searching_still}
 use Rattle.sse_script.specs.Lines as lines
 use Rattle.sse_client.proofs.session.find.Goals as goal
 use Rattle.sse_client.proofs.session.find.Goals.{in-Ok+in_ok-search-in-Ok, in-Err+in_ok-outcome-in-Err}
@@ -24,7 +23,7 @@ pub returns-in-Collecting-clause-takes : goal.returns-in-Collecting-clause-takes
 returns-in-Collecting-clause-takes g c = λ place a.
     let f = keyed_fn g.K.Keyed.prf g.K.Keyed.pad in
     let here : IsAt f (Collecting c.in-Collecting.client c.in-Collecting.docs) place = subst (λ (s : Stage). IsAt f s place) c.in-Collecting.is a in
-    takes-not_set_up f _ _ _ place c.args.field.now here.stands.1 refl refl here
+    takes-not_set_up f _ _ _ place (requests.Find c.args.field.now) refl here.stands.1 refl refl here
 
 pub returns-in_err-search-in-Ok-clause-stops : goal.returns-in_err-search-in-Ok-clause-stops
 returns-in_err-search-in-Ok-clause-stops g c =
@@ -39,7 +38,7 @@ returns-in_err-search-in-Ok-clause-stops g c =
     c.from_residual.ensures.1
     (λ place a written.
     let here : IsAt f (Searching c.in-Searching.client) place = subst (λ (s : Stage). IsAt f s place) c.in-Searching.is a in
-    stops-find f place c.args.field.now old new here.stands key (peer_cause stop) a.key c.in-Ok.ensures.good
+    stops-find f place c.args.field.now old new (is_up f c.in-Searching.client place here) key (peer_cause stop) a.key c.in-Ok.ensures.good
     (subst (λ token. HasCut old new (SearchFrame token ∷ []) (peer_cause stop)) same c.in_err-search-in-Ok.ensures.stopped) written)
 
 pub returns-in_err-outcome-in-Err-clause-stops : goal.returns-in_err-outcome-in-Err-clause-stops
@@ -68,23 +67,22 @@ returns-after-word_of-clause-takes g c = λ place a.
           let one : HasSearched old (g.L.Link.transcript w.search.new.link) (SearchFrame (token_of f c.in-Searching.client.key (word_bytes w.in-Ok.word))) ids = w.in_ok-search-in-Ok.ensures.found in
           let there : HasSearched old new (SearchFrame (token_of f c.in-Searching.client.key (word_bytes w.in-Ok.word))) ids =
           subst (λ link. HasSearched old (g.L.Link.transcript link) (SearchFrame (token_of f c.in-Searching.client.key (word_bytes w.in-Ok.word))) ids) (sym w.link-is) one in
-          takes-find f place c.args.field.now old new here.stands next c.match-word_of.outcome key ids a.key w.in-Ok.ensures.good
+          takes-find f place c.args.field.now old new (is_up f c.in-Searching.client place here) next c.match-word_of.outcome key ids a.key w.in-Ok.ensures.good
           (subst (λ token. HasSearched old new (SearchFrame token) ids) same there) (ap outcome_view w.outcome-is) (ap refuses w.outcome-is)
-          (searching_still f next place c.args.field.now here.stands here)
+          (searching_still f c.in-Searching.client place c.args.field.now w.in-Ok.ensures.good here)
       | in-Err+in_ok-outcome-in-Err w ↦
-          subst (λ told. GoesOn f old told next c.match-word_of.outcome place (built.comes_to built.is_built place (requests.Find c.args.field.now))) (sym (ap g.L.Link.transcript w.link-is))
-          (takes-bad_word f place c.args.field.now old next c.match-word_of.outcome w.in-Err.fault w.refusal_of.result here.stands
+          subst (λ told. GoesOn f old told next c.match-word_of.outcome place (outcome place (requests.Find c.args.field.now))) (sym (ap g.L.Link.transcript w.link-is))
+          (takes-bad_word f place c.args.field.now old next c.match-word_of.outcome w.in-Err.fault w.refusal_of.result (is_up f c.in-Searching.client place here)
           (record { nothing = w.refusal_of.ensures.nothing; refused = w.refusal_of.ensures.refused; memory = w.refusal_of.ensures.memory })
           (w.in_ok-outcome-in-Err.was ∙ ap (λ came. Ok came) (sym w.outcome-is)) w.in-Err.ensures.refused here)
     ]
 
 pub returns-in_err-search-in-Ok-clause-may_stop : goal.returns-in_err-search-in-Ok-clause-may_stop
 returns-in_err-search-in-Ok-clause-may_stop g c =
-    may_stop c.from_residual.result (MayStop c.args.stage (lines.Find c.args.field.now)) (subst (λ s. MayStop s (lines.Find c.args.field.now)) (sym c.in-Searching.is) c.in-Ok.ensures.good)
+    may_stop c.from_residual.result (MayStop (keyed_fn g.K.Keyed.prf g.K.Keyed.pad) c.args.stage (lines.Find c.args.field.now)) (subst (λ s. MayStop (keyed_fn g.K.Keyed.prf g.K.Keyed.pad) s (lines.Find c.args.field.now)) (sym c.in-Searching.is) c.in-Ok.ensures.good)
 
 pub returns-in_err-outcome-in-Err-clause-may_stop :
     goal.returns-in_err-outcome-in-Err-clause-may_stop
 returns-in_err-outcome-in-Err-clause-may_stop g c =
-    may_stop c.from_residual-in_err-outcome-in-Err.result (MayStop c.args.stage (lines.Find c.args.field.now))
-    (let is : c.in-Err.fault ≡ faults.NoMemory = cc (c.in_err-outcome-in-Err.ensures.stops) in
-    subst (λ s. MayStop s (lines.Find c.args.field.now)) (sym c.in-Searching.is) (c.in-Err.ensures.memory (ap (λ e. Err e) is)))
+    let is : c.in-Err.fault ≡ faults.NoMemory = cc (c.in_err-outcome-in-Err.ensures.stops) in
+    absurd (c.in-Err.ensures.never_memory (ap (λ e. Err e) is))

@@ -13,12 +13,13 @@ use Rattle.sse_client.specs.declared.outcome.Outcome.{Outcome as Came}
 use Rattle.sse_client.specs.declared.outcome.Outcome.TheVariants as comings
 use Rattle.sse_client.specs.declared.session.Stage.{Stage}
 use Rattle.sse_client.specs.declared.session.Stage.TheVariants.{Collecting, Searching}
+use Rattle.sse_client.proofs.Updates.{frames_begun}
 use Rattle.sse_client.proofs.Passing.{IfErr-from, may_stop}
 use Rattle.sse_client.proofs.Plans.{frames_of_setup-are_numbered, stopped_plan}
 use Rattle.script_meaning.specs.Lines as requests
-use Rattle.sse_client.specs.Stands.{IsAt, StopsWithin}
-use Rattle.sse_client.proofs.Taking.{IsCollecting, takes_if_sent, stops_if_sent, takes-refused_setup, stops-plan, takes-set_up_already}
-use Rattle.sse_client.specs.Stages.{key_of, MayStop}
+use Rattle.sse_client.specs.Stands.{IsAt, MayStop, StopsWithin}
+use Rattle.sse_client.proofs.Taking.{IsCollecting, is_up, takes_if_sent, stops_if_sent, takes-refused_setup, stops-plan, takes-set_up_already}
+use Rattle.sse_client.specs.Stages.{key_of}
 use Rattle.sse_script.specs.Lines as lines
 use Rattle.sse_client.proofs.session.set_up.Goals as goal
 
@@ -36,7 +37,9 @@ returns-in-Ok-clause-takes g c =
     (here.key, here.stands.0, here.stands.1) in
     takes_if_sent f key old new c.args.stage docs c.args.b c.args.big at c.in-Ok.ensures.accepted c.in-Ok.planned.index.words c.in-Ok.planned.index.blocks c.in-Ok.ensures.words c.in-Ok.ensures.blocks
     c.send_setup.result (c.send_setup.ensures.exchanged frames c.in-Ok.ensures.frames (frames_of_setup-are_numbered (key_table f key s) at_first s)) c.send_setup.ensures.shown c.send_setup.ensures.accepted
-    c.send_setup.ensures.set_up c.send_setup.ensures.key
+    (c.send_setup.ensures.stands f s refl (size_accepted f key s c.in-Ok.ensures.accepted)
+    (frames_begun docs c.args.b c.args.big c.in-Ok.planned.index.words c.in-Ok.planned.index.blocks c.in-Ok.ensures.words c.in-Ok.ensures.blocks))
+    c.send_setup.ensures.key
 
 pub returns-in-Ok-clause-stops : goal.returns-in-Ok-clause-stops
 returns-in-Ok-clause-stops g c =
@@ -90,7 +93,7 @@ pub returns-in-Searching-clause-takes : goal.returns-in-Searching-clause-takes
 returns-in-Searching-clause-takes g c = λ place a.
     let f = keyed_fn g.K.Keyed.prf g.K.Keyed.pad in
     let here : IsAt f (Searching c.in-Searching.client) place = subst (λ (s : Stage). IsAt f s place) c.in-Searching.is a in
-    takes-set_up_already f _ _ _ place c.args.b c.args.big here.stands refl refl here
+    takes-set_up_already f _ _ _ place c.args.b c.args.big (is_up f c.in-Searching.client place here) refl refl here
 
 pub returns-in-Ok-clause-same_key : goal.returns-in-Ok-clause-same_key
 returns-in-Ok-clause-same_key g c =
@@ -98,8 +101,8 @@ returns-in-Ok-clause-same_key g c =
 
 pub returns-in-Ok-clause-may_stop : goal.returns-in-Ok-clause-may_stop
 returns-in-Ok-clause-may_stop g c =
-    may_stop c.send_setup.result (MayStop c.args.stage (lines.SetupLine c.args.b c.args.big))
-    (subst (λ s. MayStop s (lines.SetupLine c.args.b c.args.big)) (sym c.in-Collecting.is)
+    may_stop c.send_setup.result (MayStop (keyed_fn g.K.Keyed.prf g.K.Keyed.pad) c.args.stage (lines.SetupLine c.args.b c.args.big))
+    (subst (λ s. MayStop (keyed_fn g.K.Keyed.prf g.K.Keyed.pad) s (lines.SetupLine c.args.b c.args.big)) (sym c.in-Collecting.is)
     (size_accepted (keyed_fn g.K.Keyed.prf g.K.Keyed.pad) c.in-Collecting.client.key (setup_of c.in-Collecting.docs c.args.b c.args.big) c.in-Ok.ensures.accepted))
 
 pub returns-in_err-setup_refusal-in-Err-clause-may_stop :
@@ -108,5 +111,5 @@ returns-in_err-setup_refusal-in-Err-clause-may_stop g c =
     let plan = c.in-Err.ensures in
     let why = stopped_plan (keyed_fn g.K.Keyed.prf g.K.Keyed.pad) c.in-Collecting.client.key c.in-Collecting.docs c.args.b c.args.big Planned c.in-Err.fault (record { refused = plan.refused; clash = plan.clash; built = plan.built })
     c.in_err-setup_refusal-in-Err.field-0.0 (sym c.in_err-setup_refusal-in-Err.ensures.answer) in
-    may_stop c.from_residual.result (MayStop c.args.stage (lines.SetupLine c.args.b c.args.big))
-    (subst (λ s. MayStop s (lines.SetupLine c.args.b c.args.big)) (sym c.in-Collecting.is) why.0)
+    may_stop c.from_residual.result (MayStop (keyed_fn g.K.Keyed.prf g.K.Keyed.pad) c.args.stage (lines.SetupLine c.args.b c.args.big))
+    (subst (λ s. MayStop (keyed_fn g.K.Keyed.prf g.K.Keyed.pad) s (lines.SetupLine c.args.b c.args.big)) (sym c.in-Collecting.is) why.0)

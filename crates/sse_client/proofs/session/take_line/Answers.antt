@@ -1,15 +1,12 @@
-use Rattle.std.proofs.Common.{◌≡◌, inl, inr, refl, sym, subst, ap, ◌∙◌}
+use Rattle.std.proofs.Common.{◌≡◌, inl, inr, sym, subst, ap, ◌∙◌}
 use Rattle.keyed_fn.specs.KeyedFn.{keyed_fn}
 use Rattle.sse_script.specs.Views.{line_view}
-use Rattle.sse_client.specs.declared.outcome.Outcome.{Outcome as Came}
-use Rattle.sse_client.specs.declared.outcome.Outcome.TheVariants as comings
 use Rattle.sse_script.specs.declared.line.Line.{Line}
-use Rattle.sse_script.specs.declared.refusal.Refusal.TheVariants as refusals
 use Rattle.script_meaning.specs.Lines as requests
 use Rattle.script_meaning.specs.Lines.{line_read}
-use Rattle.sse_client.proofs.Taking.{takes_own, stops_own, takes_under, stops_if_memory, takes-not_built}
+use Rattle.sse_client.proofs.Taking.{takes_own, stops_own, takes_under, stop_under, stops_if_memory}
 use Rattle.std.specs.Prelude.{OnErr}
-use Rattle.sse_client.specs.Stages.{MayStop}
+use Rattle.sse_client.specs.Stands.{MayStop}
 use Rattle.sse_client.proofs.session.take_line.Goals as goal
 
 pub returns-in-Empty-clause-takes : goal.returns-in-Empty-clause-takes
@@ -55,20 +52,36 @@ returns-in-Find-clause-stops g c =
     (ap (λ (line : Line). line_read (line_view line)) c.in-Find.is) c.find.result c.find.ensures.stops
 
 pub returns-in-Add-clause-takes : goal.returns-in-Add-clause-takes
-returns-in-Add-clause-takes g c = λ request e.
-    let f = keyed_fn g.K.Keyed.prf g.K.Keyed.pad in
-    let told = g.L.Link.transcript c.args.link.now in
-    let came : Came = comings.Refused refusals.NotBuilt in
-    elim c.in-Add.is [
-      | inl is ↦ takes-not_built f told c.args.stage came (line_read (line_view c.args.line)) (requests.AddLine is.0 is.1) request refl refl (λ place. refl) (ap (λ (line : Line). line_read (line_view line)) is.2) e
-      | inr is ↦ takes-not_built f told c.args.stage came (line_read (line_view c.args.line)) (requests.Del is.0) request refl refl (λ place. refl) (ap (λ (line : Line). line_read (line_view line)) is.1) e
-    ]
+returns-in-Add-clause-takes g c =
+    takes_own (keyed_fn g.K.Keyed.prf g.K.Keyed.pad) c.args.stage (g.L.Link.transcript c.args.link.now) (g.L.Link.transcript c.add.new.link) (line_read (line_view c.args.line)) (requests.AddLine c.in-Add.id c.in-Add.words)
+    (ap (λ (line : Line). line_read (line_view line)) c.in-Add.is) c.add.result c.add.ensures.takes
+
+pub returns-in-Add-clause-stops : goal.returns-in-Add-clause-stops
+returns-in-Add-clause-stops g c =
+    stops_own (keyed_fn g.K.Keyed.prf g.K.Keyed.pad) c.args.stage (g.L.Link.transcript c.args.link.now) (g.L.Link.transcript c.add.new.link) (line_read (line_view c.args.line)) (requests.AddLine c.in-Add.id c.in-Add.words)
+    (ap (λ (line : Line). line_read (line_view line)) c.in-Add.is) c.add.result c.add.ensures.stops
+
+pub returns-in-Del-clause-takes : goal.returns-in-Del-clause-takes
+returns-in-Del-clause-takes g c =
+    takes_own (keyed_fn g.K.Keyed.prf g.K.Keyed.pad) c.args.stage (g.L.Link.transcript c.args.link.now) (g.L.Link.transcript c.delete.new.link) (line_read (line_view c.args.line)) (requests.Del c.in-Del.id)
+    (ap (λ (line : Line). line_read (line_view line)) c.in-Del.is) c.delete.result c.delete.ensures.takes
+
+pub returns-in-Del-clause-stops : goal.returns-in-Del-clause-stops
+returns-in-Del-clause-stops g c =
+    stops_own (keyed_fn g.K.Keyed.prf g.K.Keyed.pad) c.args.stage (g.L.Link.transcript c.args.link.now) (g.L.Link.transcript c.delete.new.link) (line_read (line_view c.args.line)) (requests.Del c.in-Del.id)
+    (ap (λ (line : Line). line_read (line_view line)) c.in-Del.is) c.delete.result c.delete.ensures.stops
 
 pub returns-in-Doc-clause-may_stop : goal.returns-in-Doc-clause-may_stop
-returns-in-Doc-clause-may_stop g c = subst (λ (line : Line). OnErr c.collect.result (MayStop c.args.stage (line_view line))) (sym c.in-Doc.is) c.collect.ensures.may_stop
+returns-in-Doc-clause-may_stop g c = subst (λ (line : Line). OnErr c.collect.result (MayStop (keyed_fn g.K.Keyed.prf g.K.Keyed.pad) c.args.stage (line_view line))) (sym c.in-Doc.is) (stop_under (keyed_fn g.K.Keyed.prf g.K.Keyed.pad) c.args.stage _ c.collect.result c.collect.ensures.may_stop)
 
 pub returns-in-Setup-clause-may_stop : goal.returns-in-Setup-clause-may_stop
-returns-in-Setup-clause-may_stop g c = subst (λ (line : Line). OnErr c.set_up.result (MayStop c.args.stage (line_view line))) (sym c.in-Setup.is) c.set_up.ensures.may_stop
+returns-in-Setup-clause-may_stop g c = subst (λ (line : Line). OnErr c.set_up.result (MayStop (keyed_fn g.K.Keyed.prf g.K.Keyed.pad) c.args.stage (line_view line))) (sym c.in-Setup.is) c.set_up.ensures.may_stop
+
+pub returns-in-Add-clause-may_stop : goal.returns-in-Add-clause-may_stop
+returns-in-Add-clause-may_stop g c = subst (λ (line : Line). OnErr c.add.result (MayStop (keyed_fn g.K.Keyed.prf g.K.Keyed.pad) c.args.stage (line_view line))) (sym c.in-Add.is) c.add.ensures.may_stop
+
+pub returns-in-Del-clause-may_stop : goal.returns-in-Del-clause-may_stop
+returns-in-Del-clause-may_stop g c = subst (λ (line : Line). OnErr c.delete.result (MayStop (keyed_fn g.K.Keyed.prf g.K.Keyed.pad) c.args.stage (line_view line))) (sym c.in-Del.is) c.delete.ensures.may_stop
 
 pub returns-in-Find-clause-may_stop : goal.returns-in-Find-clause-may_stop
-returns-in-Find-clause-may_stop g c = subst (λ (line : Line). OnErr c.find.result (MayStop c.args.stage (line_view line))) (sym c.in-Find.is) c.find.ensures.may_stop
+returns-in-Find-clause-may_stop g c = subst (λ (line : Line). OnErr c.find.result (MayStop (keyed_fn g.K.Keyed.prf g.K.Keyed.pad) c.args.stage (line_view line))) (sym c.in-Find.is) c.find.ensures.may_stop

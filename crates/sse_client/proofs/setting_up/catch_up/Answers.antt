@@ -1,10 +1,10 @@
-use Rattle.std.proofs.Common.{take, rules, sym, subst, ◌∙◌, ap, Some}
+use Rattle.std.proofs.Common.{refl, take, rules, sym, subst, ◌∙◌, ap, Some}
 use Rattle.sse_client.specs.Progress.{IsAnswered}
 use Rattle.sse_client.specs.Stops.{peer_cause}
 use Rattle.sse_client.proofs.Passing.{IsAnswered-same, IfErr-from}
-use Rattle.client_core.specs.Sending.{to_send}
+use Rattle.client_core.specs.Sending.{first_number, to_send}
 use Rattle.sse_client.specs.Exchanges.{HasCut}
-use Rattle.sse_client.proofs.Sending.{IsSending-next, IsSending-last, HasCut-unanswered, HasCut-answered}
+use Rattle.sse_client.proofs.Sending.{IsSending-begun, IsSending-next, IsSending-last, HasCut-unanswered, HasCut-answered}
 use Rattle.sse_client.proofs.UnderWay.{first_frame, frames_behind}
 use Rattle.sse_client.specs.Causes.{PeerCause}
 use Rattle.sse_client.proofs.Causes.{PeerCause-fault, store_told, took_no_store}
@@ -12,6 +12,17 @@ use Rattle.sse_client.proofs.setting_up.catch_up.Goals as goal
 
 pub exchange-requires-clause-frame : goal.exchange-requires-clause-frame
 exchange-requires-clause-frame g c = first_frame (to_send c.frames.client.state) c.frame.result.now c.frame.ensures c.frames.invariant.grammar
+
+pub frames-init : goal.frames-init
+frames-init g c = record {
+  room = c.requires.room;
+  began = refl;
+  steady = refl;
+  grammar = c.requires.frames;
+  key = refl;
+  ready = refl;
+  sending = λ frames owed. IsSending-begun (g.L.Link.transcript c.args.link.now) c.args.client.state frames owed;
+}
 
 pub frames-preserved : goal.frames-preserved
 frames-preserved g c =
@@ -23,12 +34,13 @@ frames-preserved g c =
     record {
       room = search rules;
       began = c.exchange.ensures.began ∙ c.frames.invariant.began;
-      steady = c.in_ok-size.ensures.steady (λ e. took_no_store c.frames.client.state.next reply c.in-Behind.ensures.after.0 (c.split_at.ensures.front ∙ e)) ∙ c.frames.invariant.steady;
-      grammar = frames_behind (to_send c.frames.client.state) (to_send c.in-Behind.next.state) c.in-Behind.ensures.after.3 c.frames.invariant.grammar;
+      steady = c.in_ok-size.ensures.steady (λ e. took_no_store (first_number c.frames.client.state) reply c.in-Behind.ensures.after.0 (c.split_at.ensures.front ∙ e)) ∙ c.frames.invariant.steady;
+      grammar = frames_behind (to_send c.frames.client.state) (to_send c.in-Behind.next.state) c.in-Behind.ensures.after.4 c.frames.invariant.grammar;
       key = search rules;
+      ready = c.in-Behind.ensures.after.2 ∙ c.frames.invariant.ready;
       sending = λ frames owed.
           IsSending-next old now new c.frames.client.state c.in-Behind.next.state frames c.frame.result.now reply (c.frames.invariant.sending frames owed) c.frame.ensures answered
-          c.in-Behind.ensures.after.0 c.in-Behind.ensures.after.3 c.in-Behind.ensures.after.2;
+          c.in-Behind.ensures.after.0 c.in-Behind.ensures.after.4 c.in-Behind.ensures.after.3;
     }
 
 pub returns-in_err-size-clause-unsent : goal.returns-in_err-size-clause-unsent
@@ -47,7 +59,7 @@ returns-in-Ready-clause-sent g c frames owed numbered =
     let new = g.L.Link.transcript c.exchange.new.link in
     let reply = c.split_at.result.0.now in
     let answered : IsAnswered now new c.frame.result.now reply = IsAnswered-same now new c.frame.result.now (take c.in_ok-size.size c.exchange.new.room) reply c.split_at.ensures.front c.in_ok-size.ensures.answered in
-    IsSending-last old now new c.frames.client.state frames c.frame.result.now reply (c.frames.invariant.sending frames (owed, numbered)) c.frame.ensures answered c.in-Ready.ensures.after.0 c.in-Ready.ensures.after.2
+    IsSending-last old now new c.frames.client.state frames c.frame.result.now reply (c.frames.invariant.sending frames (owed, numbered)) c.frame.ensures answered c.in-Ready.ensures.after.0 c.in-Ready.ensures.after.3
 
 pub returns-in-Stopped-clause-unsent : goal.returns-in-Stopped-clause-unsent
 returns-in-Stopped-clause-unsent g c frames owed numbered =

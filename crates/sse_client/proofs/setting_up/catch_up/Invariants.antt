@@ -13,6 +13,7 @@ invariant-frames g l = record {
   steady : g.L.Link.faults l.link ≡ g.L.Link.faults l.fn.link;
   grammar : AllByRecursion IsFrame (to_send l.client.state);
   key : l.client.key ≡ l.fn.client.key;
+  ready : l.client.state.ready ≡ l.fn.client.state.ready;
   sending : (frames : List FrameText) → AreOwed l.fn.client.state frames → IsSending (g.L.Link.transcript l.fn.link) (g.L.Link.transcript l.link) l.client.state frames;
 }
 
