@@ -15,6 +15,7 @@ const NO_MEMORY: u8 = 7;
 /// Its last line, which is written without taking memory.
 const NO_MEMORY_LINE: &[u8] = b"stopped: memory\n";
 
+/// Runs the script of standard input, and ends with the status of the run.
 fn main(rt: HostRuntime) -> ExitCode {
     let mut source = StdSource::new(rt.stdin());
     let mut sink = StdSink::new(rt.stdout());

@@ -5,12 +5,27 @@ use server_tables::BucketTables;
 use sse_link::{Fail as FailingCall, Loopback};
 use std::test::Fail;
 
-/// The failing calls of the source, of the sink and of the link, the status, and the lines.
-const ROWS: [(&[u64], &[u64], &[FailingCall], u8, &[u8]); 5] = [
-    (&[], &[], &[], 0, b"set up 2 words 0 blocks\nfound 2: 3 9\n"),
-    (&[0], &[], &[], 3, b"stopped: source\n"),
-    (&[], &[1], &[], 4, b"set up 2 words 0 blocks\n"),
+/// A row's name, the failing calls of the source, of the sink and of the link, the status, and the lines.
+const ROWS: [(&str, &[u64], &[u64], &[FailingCall], u8, &[u8]); 5] = [
     (
+        "nothing fails",
+        &[],
+        &[],
+        &[],
+        0,
+        b"set up 2 words 0 blocks\nfound 2: 3 9\n",
+    ),
+    ("the first read", &[0], &[], &[], 3, b"stopped: source\n"),
+    (
+        "the second write",
+        &[],
+        &[1],
+        &[],
+        4,
+        b"set up 2 words 0 blocks\n",
+    ),
+    (
+        "the first send",
         &[],
         &[],
         &[FailingCall {
@@ -21,6 +36,7 @@ const ROWS: [(&[u64], &[u64], &[FailingCall], u8, &[u8]); 5] = [
         b"stopped: link\n",
     ),
     (
+        "the receive of the page, which the server sent",
         &[],
         &[],
         &[FailingCall {
@@ -32,10 +48,11 @@ const ROWS: [(&[u64], &[u64], &[FailingCall], u8, &[u8]); 5] = [
     ),
 ];
 
+/// The same script over devices and links that fail at chosen calls.
 #[test]
 fn failing_devices(rt: HostRuntime) -> Result<(), Fail> {
     let alloc = rt.alloc();
-    for (source, sink, link, status, printed) in ROWS {
+    for (name, source, sink, link, status, printed) in ROWS {
         let mut link = Loopback::new(
             alloc,
             Real,
@@ -43,8 +60,8 @@ fn failing_devices(rt: HostRuntime) -> Result<(), Fail> {
             Vec::from_slice(alloc, link)?,
         );
         let ended = run_over(alloc, &Real, &mut link, SCRIPT, source, sink)?;
-        assert_eq!(rt; ended.printed.as_slice(), printed);
-        assert_eq!(rt; ended.status, status);
+        assert_eq!(rt; ended.printed.as_slice(), printed, "{name}");
+        assert_eq!(rt; ended.status, status, "{name}");
     }
     Ok(())
 }

@@ -1,5 +1,5 @@
 //! Whole runs of the client as tests, which stand above every crate: over an honest link with the bytes of the worked
-//! example of docs/LEAKAGE.md, over links that play back made-up replies, and over devices and links that fail at chosen
+//! examples of docs/LEAKAGE.md, over links that play back made-up replies, and over devices and links that fail at chosen
 //! calls. It exports nothing; what it shows is tested and not proved.
 #![tactic(auto)]
 
@@ -7,6 +7,8 @@
 mod clashes;
 #[cfg(test)]
 mod devices;
+#[cfg(test)]
+mod fault_texts;
 #[cfg(test)]
 mod made_up_links;
 #[cfg(test)]

@@ -23,6 +23,48 @@ const TRANSCRIPT: [&str; 10] = [
     "received 000000148501000200000000000000030000000000000009",
 ];
 
+/// The same documents and setup, then an addition, a deletion, the deleted document again, and a search.
+const UPDATES: &[u8] = b"key 0000000000000000000000000000000000000000000000000000000000000000
+doc 3 a b
+doc 9 a
+setup 4 4
+add 5 a c
+del 9
+add 9 a
+find a
+";
+
+/// What passes behind the setup.
+const UPDATES_TRANSCRIPT: [&str; 8] = [
+    "sent 0000003906000000030002000032d04025cca0bc849f42359880b659537a7e21e7810966a0cea58edd0a9b50604e2e89941bb584783fca72656f5a00da",
+    "received 000000058200000003",
+    "sent 00000017070000000400013ec097473a2967012f494f24099c9de3",
+    "received 000000058200000004",
+    "sent 000000190600000005000000013ec097473a2967012f494f24099c9de3",
+    "received 000000058200000005",
+    "sent 000000a108cdba0e13b67b167eec9a8c19d55b25659ec32cae9f4c1e88f00c5d647cd30c56a55b736c8acf12854aef95a88ae2aad5c174fb0d82a214422c7b2aae075d07204d268a9d1a393457ef909d7050edf7a661b09239c3ebd398040d9ea9c69dc3cea547bdff7d6326d5e8345f4b3224a1073fd9971d2f3c58d6b2ab55ab861d99ca173e03edc93d394b9996f9910657039491ed2a584d6a6bac38d041d6d8906f79",
+    "received 0000001c85010003000000000000000300000000000000090000000000000005",
+];
+
+/// Behind the setup, in the same way.
+#[test]
+fn additions_and_deletions(rt: HostRuntime) -> Result<(), Fail> {
+    let alloc = rt.alloc();
+    let mut link = SteadyLoopback::new(alloc, Real, Server::new(BucketTables::new(alloc)));
+    let ended = run_over(alloc, &Real, &mut link, UPDATES, &[], &[])?;
+    assert_eq!(rt;
+        ended.printed.as_slice(),
+        b"set up 2 words 0 blocks\nadded 5\ndeleted 9\nadded 9\nfound 3: 3 5 9\n".as_slice()
+    );
+    let behind_setup = link.transcript().iter().skip(8);
+    for (passed, line) in behind_setup.zip(UPDATES_TRANSCRIPT) {
+        assert_eq!(rt; line_of(alloc, passed)?.as_str(), line, "{line}");
+    }
+    assert_eq!(rt; link.transcript().len(), 8 + UPDATES_TRANSCRIPT.len());
+    Ok(())
+}
+
+/// Over a link whose transcript is compared line by line.
 #[test]
 fn the_worked_example(rt: HostRuntime) -> Result<(), Fail> {
     let alloc = rt.alloc();
@@ -31,11 +73,12 @@ fn the_worked_example(rt: HostRuntime) -> Result<(), Fail> {
     assert_eq!(rt; ended.status, 0);
     assert_eq!(rt; link.transcript().len(), TRANSCRIPT.len());
     for (passed, line) in link.transcript().iter().zip(TRANSCRIPT) {
-        assert_eq!(rt; line_of(alloc, passed)?.as_str(), line);
+        assert_eq!(rt; line_of(alloc, passed)?.as_str(), line, "{line}");
     }
     Ok(())
 }
 
+/// Client and server in one call: the lines alone.
 #[test]
 fn the_worked_example_in_memory(rt: HostRuntime) -> Result<(), Fail> {
     let alloc = rt.alloc();
@@ -51,6 +94,7 @@ fn the_worked_example_in_memory(rt: HostRuntime) -> Result<(), Fail> {
     Ok(())
 }
 
+/// What passed, as a line: which way, and the bytes in hexadecimal digits.
 fn line_of(alloc: Global, passed: &Passed) -> Result<String, AllocError> {
     let (way, bytes) = match passed {
         Passed::Sent { bytes, .. } => ("sent", bytes),
