@@ -1,9 +1,10 @@
 //! The rows of the bench: the words of the command line name what is done and how often, as `prepared 1000000`. It
-//! prints a number that each turn goes into, so that none can be left out. It takes no time itself: bench/run does,
-//! round the whole process. It stands on the crates whose calls it makes, and proves nothing of them.
+//! prints a number that each turn goes into, so that none can be left out, and for `colliding` words. It takes no time
+//! itself: bench/run does, round the whole process. It stands on the crates whose calls it makes, and proves nothing of them.
 #![tactic(auto)]
 
 mod additions;
+mod colliding;
 mod row;
 mod searches;
 mod tables;
@@ -18,11 +19,16 @@ const NO_ROW: u8 = 2;
 /// The status of a run that was out of memory, or put a label in twice.
 const FAILED: u8 = 1;
 
+/// Does the row that the words name, and prints its sum.
 fn main(rt: HostRuntime) -> io::Result<ExitCode> {
     let words: Vec<String> = env::args(&rt)?.skip(1).collect(rt.alloc())?;
+    if let Some(count) = colliding_of(&words) {
+        colliding::print(rt, count)?;
+        return Ok(ExitCode::SUCCESS);
+    }
     let Some((row, turns)) = row_of(&words) else {
         println!(rt;
-            "usage: sse_bench ROW TURNS, where ROW is one of: {}",
+            "usage: sse_bench ROW TURNS, where ROW is one of: {} colliding",
             row::NAMES
         )?;
         return Ok(ExitCode::from(NO_ROW));
@@ -38,6 +44,14 @@ fn main(rt: HostRuntime) -> io::Result<ExitCode> {
 fn row_of(words: &[String]) -> Option<(Row, u64)> {
     match words {
         [row, turns] => Some((Row::named(row)?, turns.parse().ok()?)),
+        _ => None,
+    }
+}
+
+/// How many colliding words are asked for, where the words of the command line do.
+fn colliding_of(words: &[String]) -> Option<u64> {
+    match words {
+        [row, count] if row.as_str() == "colliding" => count.parse().ok(),
         _ => None,
     }
 }

@@ -1,13 +1,13 @@
 use crate::tables::{Labels, fill, fill_plain};
 use crate::{additions, searches};
-use keyed_fn::{Keyed, PreparedKey, Real};
+use keyed_fn::{Keyed, PreparedKey, Real, xor_pad};
 use server_tables::{BucketTables, SortedTables, TableFault};
 use sha2::{Digest, Sha256};
 use std::alloc::Global;
 
 /// The names of all rows.
 pub(crate) const NAMES: &str =
-    "prepared raw digests sorted buckets alike plain searches revoked calls revoked_calls \
+    "prepared raw digests short_pads cell_pads block_pads sorted buckets alike plain searches revoked calls revoked_calls \
     behind_few behind_many";
 
 /// The key of the rows of keyed calls, 32 bytes.
@@ -22,6 +22,12 @@ pub(crate) enum Row {
     Raw,
     /// A digest of SHA-256 of 8 bytes: one block.
     Digests,
+    /// A pad of 8 bytes, as an addition needs it: one block of ChaCha20.
+    ShortPads,
+    /// A pad of 129 bytes, as a cell needs it with b = 16: three blocks.
+    CellPads,
+    /// A pad of 512 bytes, as a block needs it with B = 64: eight blocks.
+    BlockPads,
     /// An addition into sorted tables, and its look-up once all are there.
     Sorted,
     /// The same into tables in buckets.
@@ -53,6 +59,12 @@ impl Row {
             Some(Row::Raw)
         } else if name == "digests" {
             Some(Row::Digests)
+        } else if name == "short_pads" {
+            Some(Row::ShortPads)
+        } else if name == "cell_pads" {
+            Some(Row::CellPads)
+        } else if name == "block_pads" {
+            Some(Row::BlockPads)
         } else if name == "sorted" {
             Some(Row::Sorted)
         } else if name == "buckets" {
@@ -82,6 +94,7 @@ impl Row {
     pub(crate) fn run(self, alloc: Global, turns: u64) -> Result<u64, TableFault> {
         match self {
             Row::Prepared | Row::Raw | Row::Digests => Ok(self.hash(turns)),
+            Row::ShortPads | Row::CellPads | Row::BlockPads => Ok(self.encrypt(turns)),
             Row::Sorted => fill(&mut SortedTables::new(alloc), Labels::Spread, turns),
             Row::Buckets => fill(&mut BucketTables::new(alloc), Labels::Spread, turns),
             Row::Alike => fill(&mut BucketTables::new(alloc), Labels::Alike, turns),
@@ -95,6 +108,7 @@ impl Row {
         }
     }
 
+    /// The first bytes of so many values of the function, or of digests, summed modulo 2^64.
     fn hash(self, turns: u64) -> u64 {
         let key = PreparedKey::new(&Real, &KEY);
         let mut sum = 0u64;
@@ -108,5 +122,22 @@ impl Row {
             sum = sum.wrapping_add(u64::from(first));
         }
         sum
+    }
+
+    /// A short value, a cell or a block, encrypted under so many pads; the first bytes, summed.
+    fn encrypt(self, turns: u64) -> u64 {
+        let mut short = [0u8; 8];
+        let mut cell = [0u8; 129];
+        let mut block = [0u8; 512];
+        for number in 0..turns {
+            match self {
+                Row::ShortPads => xor_pad(&Real, &KEY, number, &mut short),
+                Row::CellPads => xor_pad(&Real, &KEY, number, &mut cell),
+                _ => xor_pad(&Real, &KEY, number, &mut block),
+            }
+        }
+        u64::from(short[0])
+            .wrapping_add(u64::from(cell[0]))
+            .wrapping_add(u64::from(block[0]))
     }
 }

@@ -72,6 +72,7 @@ pub(crate) fn calls(some_revoked: bool, turns: u64) -> u64 {
         .wrapping_add(u64::from(block[0]))
 }
 
+/// The first bytes of the revocation numbers of all identifiers of the list, summed modulo 2^64.
 fn numbers(token: &Token) -> u64 {
     let numbers = token.revocations(&Real);
     let mut sum = 0u64;
@@ -82,6 +83,7 @@ fn numbers(token: &Token) -> u64 {
     sum
 }
 
+/// The token of the one word.
 fn token() -> Token {
     Token::new([[1; 32], [2; 32], [3; 32], [4; 32], [5; 32]])
 }
