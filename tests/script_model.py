@@ -1,0 +1,197 @@
+"""A plain model of a script: the lines that it makes the program print, and the status, by docs/FORMATS.md.
+
+It knows no keys and no frames: a document is an identifier with words, and a search names the live documents that hold
+its word. So what it answers says nothing of collisions, of links and of memory: the statuses are 0, 1 and 2.
+"""
+import re
+
+LINE_BYTES = 2**19
+WORD_BYTES = 64
+DOCUMENT_WORDS = 4096
+SETUP_DOCUMENTS = 2**18
+SETUP_PAIRS = 2**20
+CELL_NUMBERS = 64
+BLOCK_NUMBERS = 256
+INDEX_BYTES = 2**28
+
+KEY = re.compile(rb"[0-9A-Fa-f]{64}")
+NUMBER = re.compile(rb"0|[1-9][0-9]{0,19}")
+
+
+class BadLine(Exception):
+    """The line isn't in the grammar."""
+
+
+class Refused(Exception):
+    """The command is refused; the text says why."""
+
+
+def number_in(field):
+    if not NUMBER.fullmatch(field) or int(field) >= 2**64:
+        raise BadLine
+    return int(field)
+
+
+def command_in(line):
+    """A line without its end as its name, its numbers and its words; None where it is empty."""
+    if len(line) > LINE_BYTES:
+        raise BadLine
+    name, *fields = [field for field in line.split(b" ") if field] or [None]
+    if name is None:
+        return None
+    if name == b"key" and len(fields) == 1 and KEY.fullmatch(fields[0]):
+        return "key", [], []
+    if name in (b"doc", b"add") and fields:
+        return name.decode(), [number_in(fields[0])], fields[1:]
+    if name == b"setup" and len(fields) == 2 or name == b"del" and len(fields) == 1:
+        return name.decode(), [number_in(field) for field in fields], []
+    if name == b"find" and len(fields) == 1:
+        return "find", [], fields
+    raise BadLine
+
+
+def refuse_bad_words(words):
+    """The first bad word, then too many words, then the first word that is repeated."""
+    for position, word in enumerate(words):
+        if len(word) > WORD_BYTES:
+            raise Refused(f"word {position} is too long: {len(word)}")
+        place = bad_byte_in(word)
+        if place is not None:
+            raise Refused(f"word {position} has a bad byte at {place}")
+    if len(words) > DOCUMENT_WORDS:
+        raise Refused(f"too many words: {len(words)}")
+    seen = set()
+    for position, word in enumerate(words):
+        if word in seen:
+            raise Refused(f"word {position} is repeated")
+        seen.add(word)
+
+
+def bad_byte_in(word):
+    """The place of the first byte that no word has there: a space, a control byte, or the first of what isn't UTF-8."""
+    places = [place for place, byte in enumerate(word) if byte <= 0x20 or byte == 0x7F]
+    try:
+        word.decode()
+    except UnicodeDecodeError as fault:
+        places.append(fault.start)
+    return min(places, default=None)
+
+
+def blocks_of(count, b, B):
+    """How many blocks a list of so many identifiers takes, or None where it is too long."""
+    if count <= b:
+        return 0
+    blocks = -(-count // B)
+    if blocks <= b:
+        return blocks
+    pointer_blocks = -(-blocks // B)
+    return blocks + pointer_blocks if pointer_blocks <= b else None
+
+
+class Store:
+    """The documents: before a setup those that were collected, behind it those that are live."""
+
+    def __init__(self):
+        self.is_set_up = False
+        self.live = {}  # the words of each document, by identifier
+        self.holders = {}  # the identifiers with each word, words in the order in which they came first
+        self.pairs = 0
+
+    def carry_out(self, name, numbers, words):
+        """The printed line, or None where there is none."""
+        if self.is_set_up != (name in ("add", "del", "find")):
+            raise Refused("set up already" if self.is_set_up else "not set up")
+        if name == "setup":
+            return self.set_up(*numbers)
+        if numbers == [0]:
+            raise Refused("identifier zero")
+        refuse_bad_words(words)
+        if name == "find":
+            found = sorted(self.holders.get(words[0], ()))
+            return f"found {len(found)}:" + "".join(f" {identifier}" for identifier in found)
+        identifier = numbers[0]
+        if name == "del":
+            self.delete(identifier)
+            return f"deleted {identifier}"
+        self.add(identifier, words)
+        return f"added {identifier}" if name == "add" else None
+
+    def add(self, identifier, words):
+        if identifier in self.live:
+            raise Refused(f"document {identifier} is live")
+        if not self.is_set_up:
+            if len(self.live) == SETUP_DOCUMENTS:
+                raise Refused(f"too many documents: {SETUP_DOCUMENTS + 1}")
+            if self.pairs + len(words) > SETUP_PAIRS:
+                raise Refused(f"too many pairs: {self.pairs + len(words)}")
+        self.live[identifier] = words
+        self.pairs += len(words)
+        for word in words:
+            self.holders.setdefault(word, set()).add(identifier)
+
+    def delete(self, identifier):
+        if identifier not in self.live:
+            raise Refused(f"unknown document {identifier}")
+        for word in self.live.pop(identifier):
+            self.holders[word].remove(identifier)
+
+    def set_up(self, b, B):
+        for name, value, most in (("b", b, CELL_NUMBERS), ("B", B, BLOCK_NUMBERS)):
+            if not 1 <= value <= most:
+                raise Refused(f"{name} is {value}")
+        blocks = 0
+        for number, holders in enumerate(self.holders.values()):
+            taken = blocks_of(len(holders), b, B)
+            if taken is None:
+                raise Refused(f"list of word {number} has {len(holders)} identifiers")
+            blocks += taken
+        size = len(self.holders) * (17 + 8 * b) + blocks * 8 * B
+        if size > INDEX_BYTES:
+            raise Refused(f"too many bytes: {size}")
+        self.is_set_up = True
+        return f"set up {len(self.holders)} words {blocks} blocks"
+
+
+def printed(lines):
+    """The printed lines of a script's lines, given without their ends; what is returned is the status."""
+    store, number, has_key, was_refused = Store(), 0, False, False
+    for number, line in enumerate(lines, 1):
+        try:
+            command = command_in(line)
+            if command is None:
+                continue
+            if (command[0] == "key") == has_key:
+                raise BadLine
+        except BadLine:
+            yield f"stopped: line {number}"
+            return 2
+        if not has_key:
+            has_key = True
+            continue
+        try:
+            shown = store.carry_out(*command)
+        except Refused as why:
+            was_refused = True
+            shown = f"refused: {why}"
+        if shown is not None:
+            yield shown
+    if not has_key:
+        yield f"stopped: line {number + 1}"
+        return 2
+    return 1 if was_refused else 0
+
+
+def lines_of(script):
+    """The lines of the bytes of a script, without their ends; the last may lack its end."""
+    lines = script.split(b"\n")
+    return lines[:-1] if lines[-1] == b"" else lines
+
+
+def answer(script):
+    """The printed bytes and the status."""
+    text, run = [], printed(lines_of(script))
+    while True:
+        try:
+            text.append(next(run) + "\n")
+        except StopIteration as end:
+            return "".join(text).encode(), end.value
