@@ -24,7 +24,9 @@ SETUP_PAIRS = 2**20
 INDEX_BYTES = 2**28
 
 # B, and what is tried for b: the largest hides the most. A smaller one is taken only where the index would be too
-# large, so b tells the server no more than the counts of words and blocks do, which it sees in any case.
+# large, so b tells the server no more than the counts of words and blocks do, which it sees in any case. With b = 8
+# no setup is refused: a list has at most 2^18 identifiers, below b * B * B, and of all lists those of 9 identifiers
+# take the most bytes for each pair, 81 + 2,048 for 9, which makes 2.5 * 10^8 for 2^20 pairs.
 BLOCK = 256
 CELLS = (64, 32, 16, 8)
 
@@ -151,8 +153,6 @@ class Shelf:
             say(refusal)
         if "refused: not set up" in found:
             say("the store wasn't set up")
-            if any(line.startswith(("refused: list of word", "refused: too many bytes")) for line in refused):
-                say(self.longest_list())
             return status
         if refused:
             say(f"not searched: documents: {sum(refused.values())} of {len(self.documents)}")
@@ -163,14 +163,6 @@ class Shelf:
             for place in places:
                 print(f"  {on_a_line(self.names[place])}")
         return status
-
-    def longest_list(self):
-        counts = collections.Counter(word for _, words in self.documents for word in words)
-        word, count = counts.most_common(1)[0]
-        return (
-            f"the longest list: {word}, in {count} texts; "
-            f"a list has at most b * B * B of them, and an index {INDEX_BYTES} bytes"
-        )
 
     def script(self, wanted):
         """A name's place by identifier, and the script. Numbers and order are drawn at random, so that they say
@@ -183,6 +175,8 @@ class Shelf:
             identifiers.setdefault(identifier, documents[len(identifiers)][0])
         lines = [" ".join([identifier, *words]) for identifier, (_, words) in zip(identifiers, documents)]
         count = first_setup([words for _, words in documents])
+        if count < len(documents):
+            say(f"one setup holds {count} of {len(documents)} documents; the others are added behind it")
         script = [f"key {key}"]
         script += [f"doc {line}" for line in lines[:count]]
         script += [f"setup {cell_for(words for _, words in documents[:count])} {BLOCK}"]
