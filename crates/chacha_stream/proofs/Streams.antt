@@ -1,5 +1,5 @@
 -- The bytes of the generator are the key stream, word by word.
-use Rattle.std.proofs.Common.{◌≡◌, ℕ, zero, suc, ◌+◌, ◌*◌, ◌/◌, ◌%◌, ◌^◌, ◌<◌, ◌≤◌, List, [], ◌∷◌, ◌++◌, length, take, get_or, map, refl, ap, ◌∙◌, arith, lit<, append_assoc, zero-add, slice_index, flat_map}
+use Rattle.std.proofs.Common.{◌≡◌, ℕ, zero, suc, ◌+◌, ◌*◌, ◌/◌, ◌%◌, ◌^◌, ◌<◌, ◌≤◌, List, [], ◌∷◌, ◌++◌, length, take, get_or, map, refl, sym, ap, ◌∙◌, arith, lit<, append_assoc, zero-add, slice_index, flat_map}
 use Rattle.std.specs.List.{range_with_len}
 use Rattle.std.specs.Int.{w32, to_le_bytes}
 use Rattle.std.proofs.lemmas.List.FromFn.{take-map-range_with_len, map-range_with_len_more, get_or-range_with_len}
@@ -104,3 +104,54 @@ filled key n len out rest g fits small start gave =
     ∙ ap (λ s. (fill_via_u32 (next_word 10) len s).0) start
     ∙ ap (λ (p : List ℕ × ChaCha). take len p.0) (bytes_after key n ((len + 3) / 4) fits (omega arith))
     ∙ take-map-range_with_len _ 0 (4 * ((len + 3) / 4)) len (omega arith)
+
+-- between byte i of the key stream and the next one: the word that byte i is in, and the generator behind it
+pub record InHand (key : List ℕ) (n i word : ℕ) (stream : ChaCha) : Type 0 where
+  pub word_is : word ≡ stream_word key (pad_nonce n) (i / 4)
+  pub stream_is : stream ≡ record { key = key_of key; stream = n; word_pos = (i + 1 + 3) / 4 }
+
+-- at the first byte of a word the generator gives that word
+pub word_taken : (key : List ℕ) (n i word : ℕ) (before after : ChaCha)
+    → n < 2 ^ 64
+    → i < 2 ^ 38
+    → i % 4 ≡ 0
+    → before ≡ record { key = key_of key; stream = n; word_pos = (i + 3) / 4 }
+    → (word, after) ≡ next_word 10 before
+    → InHand key n i word after
+unfolding at_word
+word_taken key n i word before after fits small first start gave =
+    let here : (i + 3) / 4 ≡ i / 4 = omega arith in
+    let next : (i / 4 + 1) % 2 ^ 68 ≡ (i + 1 + 3) / 4 = omega arith in
+    let step = gave ∙ ap (next_word 10) (start ∙ ap (at_word key n) here) in
+    record {
+      word_is = ap (λ (p : ℕ × ChaCha). p.0) step ∙ sym (same_word key (i / 4 / 16) n (i / 4 % 16) (omega arith) fits);
+      stream_is = ap (λ (p : ℕ × ChaCha). p.1) step ∙ ap (at_word key n) next;
+    }
+
+-- at any other byte the word stays
+pub word_stays : (key : List ℕ) (n i word : ℕ) (stream : ChaCha)
+    → 0 < i % 4
+    → stream ≡ record { key = key_of key; stream = n; word_pos = (i + 3) / 4 }
+    → word ≡ stream_word key (pad_nonce n) (i / 4)
+    → InHand key n i word stream
+unfolding at_word
+word_stays key n i word stream inside start in_hand =
+    let same : (i + 3) / 4 ≡ (i + 1 + 3) / 4 = omega arith in
+    record { word_is = in_hand; stream_is = start ∙ ap (at_word key n) same }
+
+-- the word is that of the next byte too, unless it ends here
+pub word_goes_on : (key : List ℕ) (n i word : ℕ) (stream : ChaCha)
+    → InHand key n i word stream
+    → 0 < (i + 1) % 4
+    → word ≡ stream_word key (pad_nonce n) ((i + 1) / 4)
+word_goes_on key n i word stream now inside =
+    let same : i / 4 ≡ (i + 1) / 4 = omega arith in
+    now.word_is ∙ ap (stream_word key (pad_nonce n)) same
+
+-- the byte of the key stream that the word in hand has for place i
+pub byte_in_hand : (key : List ℕ) (n i word : ℕ) (stream : ChaCha) (bytes : List ℕ)
+    → InHand key n i word stream
+    → bytes ≡ to_le_bytes w32 word
+    → get_or bytes (i % 4) 0 ≡ key_stream_byte key (pad_nonce n) i
+byte_in_hand key n i word stream bytes now are =
+    ap (λ b. get_or b (i % 4) 0) (are ∙ ap (to_le_bytes w32) now.word_is) ∙ sym (byte_by_word key (pad_nonce n) i)

@@ -1,8 +1,10 @@
 ghost use Rattle.std.specs.Prelude.{◌≡◌, ◌^◌, ◌≤◌, length};
 ghost use Rattle.rand_chacha.specs.ChaCha.{key_of};
 ghost use Rattle.chacha_stream.specs.Pad.{chacha_pad};
+ghost use Rattle.chacha_stream.specs.Xored.{xored};
 
 use rand_chacha::ChaCha20Rng;
+use rand_core::utils::NextWord;
 use rand_core::{Rng, SeedableRng};
 
 /// Writes pad number `n` over `out`: the first bytes of the ChaCha20 key stream (RFC 8439, 2.4) under
@@ -15,6 +17,24 @@ pub fn pad_into(key: &[u8; 32], n: u64, out: &mut [u8])
 {
     let mut stream = key_stream(key, n);
     stream.fill_bytes(out);
+}
+
+/// XORs pad number `n` under `key` into the bytes, which encrypts them, or decrypts what it encrypted
+/// (RFC 8439, 2.4). The pad is that of [`pad_into`], made word by word: no memory is taken.
+///
+/// At most 2^38 bytes, as for [`pad_into`].
+pub fn xor_in_place(bytes: &mut [u8], key: &[u8; 32], n: u64)
+    requires { length bytes.old ≤ 2 ^ 38 }
+    ensures { bytes.new ≡ xored bytes.old (chacha_pad key.now n (length bytes.old)) }
+{
+    let mut stream = key_stream(key, n);
+    let mut word = 0;
+    for (i, byte) in bytes.iter_mut().enumerate() {
+        if i % 4 == 0 {
+            word = stream.next_word();
+        }
+        *byte ^= word.to_le_bytes()[i % 4];
+    }
 }
 
 /// The generator of stream `n`. A stream number is the last two words of the nonce, and the first one

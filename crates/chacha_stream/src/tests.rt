@@ -1,4 +1,4 @@
-use crate::{pad_into, xor};
+use crate::{pad_into, xor, xor_in_place};
 
 /// The key of RFC 8439, 2.3.2 and 2.4.2.
 const COUNTED_KEY: [u8; 32] = [
@@ -67,4 +67,15 @@ fn encryption_rfc8439_2_4_2(rt: HostRuntime) {
     assert_eq!(rt; bytes.as_slice(), CIPHERTEXT.as_slice());
     xor(&mut bytes, &pad[64..]);
     assert_eq!(rt; bytes.as_slice(), PLAINTEXT);
+}
+
+/// The same in place, behind a block of zeros.
+#[test]
+fn encryption_in_place_rfc8439_2_4_2(rt: HostRuntime) {
+    let mut bytes = [0; 178];
+    bytes[64..].copy_from_slice(PLAINTEXT);
+    xor_in_place(&mut bytes, &COUNTED_KEY, COUNTED_PAD);
+    assert_eq!(rt; &bytes[64..], CIPHERTEXT.as_slice());
+    xor_in_place(&mut bytes, &COUNTED_KEY, COUNTED_PAD);
+    assert_eq!(rt; &bytes[64..], PLAINTEXT);
 }

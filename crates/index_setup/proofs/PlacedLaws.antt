@@ -75,6 +75,15 @@ parts-put_mid size r bytes new some within same =
               ap (take size) (drop-put_mid a k bytes new (i * size) behind (omega (arith, within)) (omega (arith, same)))
         ]
 
+-- a slot of whole slots has the slot's size
+pub length-slot : (size r count : ℕ) (bytes : List ℕ) → 0 < size → length bytes ≡ count * size → r < count → length (get_or (parts size bytes) r []) ≡ size
+length-slot size r count bytes some whole less =
+    let room : (r + 1) * size ≤ count * size = mul-le-mul_right size (suc_le r count less) in
+    let d : ℕ = div_ceil (length bytes) size in
+    let enough : length bytes ≤ d * size = (div_ceil_times (length bytes) size some).0 in
+    let there : r < d = elim (cases_lt r d) [ inl lt ↦ lt | inr ge ↦ let few : d * size ≤ r * size = mul-le-mul_right size (omega (arith, ge)) in absurd (omega (arith, few, room, enough, whole)) ] in
+    ap length (parts-at size bytes r there) ∙ length-take-le size (drop (r * size) bytes) (omega (arith, length-drop (r * size) bytes, whole, room))
+
 -- ---- texts placed
 
 pub placed-more : {X : Type 0} (slots : List X) (ranks : List ℕ) (texts : List X) (i : ℕ) (d : X) → i < length ranks → i < length texts

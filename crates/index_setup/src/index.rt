@@ -1,4 +1,7 @@
 ghost use Rattle.std.specs.Prelude.{◌≡◌, ◌+◌, ◌*◌, ◌<◌, ◌≤◌, ◌^◌, ◌++◌, [], length, slice_index_or, vec_len};
+ghost use Rattle.list_packing.specs.Parts.{parts};
+
+use list_packing::part;
 
 /// The index of a setup: for each word its label and encrypted cell, by rising label, and the encrypted blocks of the
 /// longer lists by rising place tag. What it hands out takes no memory.
@@ -95,6 +98,23 @@ impl Index {
         ensures { result ≡ 8 * self.now.big }
     {
         8 * self.big
+    }
+
+    /// The label of 16 bytes and the encrypted cell of entry `i`, from 0, by rising label.
+    pub fn entry(&self, i: u32) -> (&[u8], &[u8])
+        requires { i < self.now.words }
+        ensures entry { result.0.now ++ result.1.now ≡ slice_index_or (parts (17 + 8 * self.now.b) self.now.entries.items) i [] }
+        ensures label { length result.0.now ≡ 16 }
+    {
+        part(&self.entries, 17 + 8 * self.b as usize, i as usize).split_at(16)
+    }
+
+    /// The encrypted block at place `i`, from 0, by rising place tag.
+    pub fn block(&self, i: u32) -> &[u8]
+        requires { i < self.now.blocks }
+        ensures { result.now ≡ slice_index_or (parts (8 * self.now.big) self.now.array.items) i [] }
+    {
+        part(&self.array, 8 * self.big as usize, i as usize)
     }
 
     /// The entries by rising label, joined: for each word its label of 16 bytes, then its encrypted cell.

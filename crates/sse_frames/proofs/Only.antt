@@ -1,16 +1,20 @@
 -- What is spelled so is read, and as nothing else.
-use Rattle.std.proofs.Common.{◌≡◌, ℕ, List, ◌++◌, length, drop, Option, Some, None, Result, Ok, Err, sym, ap, subst, ◌∙◌}
+use Rattle.std.proofs.Common.{◌≡◌, ℕ, false, List, ◌++◌, length, drop, Option, Some, None, Result, Ok, Err, sym, ap, subst, ◌∙◌, arith}
+use Rattle.std.specs.Prelude.{IfOk, IsOkAnd}
+use Rattle.std.specs.Result.{result_err}
+use Rattle.std.proofs.lemmas.Bool.{or_from, le-ltb, ne_eqb}
 use Rattle.std.proofs.lemmas.List.{take-append-drop, length-take-le}
 use Rattle.sse_frames.specs.declared.fault.FrameFault.{FrameFault}
 use Rattle.sse_frames.specs.declared.frame.Frame.{Frame}
 use Rattle.sse_frames.specs.declared.reply.Reply.{Reply}
-use Rattle.sse_frames.specs.Frames.{FrameText, InGrammar, frame_bytes}
+use Rattle.sse_frames.specs.Frames.{FrameText, InGrammar, body_of, frame_bytes}
 use Rattle.sse_frames.specs.Replies.{ReplyText, InReplies, reply_bytes}
 use Rattle.sse_frames.specs.Seen.{seen, seen_reply}
-use Rattle.sse_frames.specs.Reading.{frame_outcome, reply_outcome, answered, IfRead, IsRead, IsFront, IsReplyFront}
-use Rattle.sse_frames.proofs.Spelling.{one_frame}
+use Rattle.sse_frames.specs.Tables.{frame_fields}
+use Rattle.sse_frames.specs.Reading.{body_fault, is_bad_length, frame_outcome, reply_outcome, answered, IfRead, IsRead, IsFrameOf, IsFront, IsReplyFront}
+use Rattle.sse_frames.proofs.Spelling.{one_body, one_frame, length-body_of}
 use Rattle.sse_frames.proofs.ReplySpelling.{one_reply}
-use Rattle.sse_frames.proofs.NoFault.{frame_outcome-frame_bytes}
+use Rattle.sse_frames.proofs.NoFault.{fault_in-body_of, frame_outcome-frame_bytes}
 use Rattle.sse_frames.proofs.ReplyNoFault.{reply_outcome-reply_bytes}
 
 -- a frame that stands in front is the one that is read there
@@ -38,6 +42,19 @@ reply_is_read (Ok (Some (reply, n))) bytes outcome found text rest is e =
     let split : reply_bytes (seen_reply reply) ++ drop n bytes ≡ reply_bytes text ++ rest = ap (λ (front : List ℕ). front ++ drop n bytes) (sym found.spelled) ∙ take-append-drop n bytes ∙ e in
     let same = one_reply (seen_reply reply) text (drop n bytes) rest found.grammar is split in
     (same.0, sym (length-take-le n bytes found.inside) ∙ ap length found.spelled ∙ ap (λ (f : ReplyText). length (reply_bytes f)) same.0)
+
+body_no_fault : (text : FrameText) → InGrammar text → body_fault 0x100000 frame_fields (body_of text) ≡ None
+body_no_fault text is =
+    let len = length-body_of text is in
+    let good : is_bad_length 0x100000 (length (body_of text)) ≡ false = or_from _ _ (ne_eqb (length (body_of text)) 0 (λ e. absurd (omega (arith, e, len.some)))) (le-ltb _ _ (omega (arith, len.most))) in
+    rw good (fault_in-body_of text is)
+
+-- a frame that has this body is the one that is read from it
+pub body_is_read : (r : Result Frame FrameFault) (body : List ℕ) → result_err r ≡ body_fault 0x100000 frame_fields body → IfOk r (λ frame. IsFrameOf frame body)
+    → (text : FrameText) → InGrammar text → body ≡ body_of text → IsOkAnd r (λ frame. seen frame ≡ text)
+body_is_read (Err e) body fault found text is same =
+    let none = fault ∙ ap (body_fault 0x100000 frame_fields) same ∙ body_no_fault text is in absurd cc
+body_is_read (Ok frame) body fault found text is same = one_body (seen frame) text found.grammar is (sym found.spelled ∙ same)
 
 -- what was read where something was
 pub read_some : (o : Option (Reply × ℕ)) (reply : Reply) (n : ℕ) (P : Reply → ℕ → Type 0) → o ≡ Some (reply, n) → IsRead (Ok o) P → P reply n

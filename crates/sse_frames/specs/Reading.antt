@@ -22,6 +22,11 @@ fault_in (Some fields) body = first_fault fields body
 abbrev pub is_bad_length : (limit n : ℕ) → Bool
 is_bad_length limit n = (n == 0) || nat_lt limit n
 
+-- what is wrong with the bytes of a whole body
+abbrev pub body_fault : (limit : ℕ) → (List ℕ → Option (List Field)) → List ℕ → Option FrameFault
+body_fault limit fields_of body =
+    if is_bad_length limit (length body) then Some (BadLength (length body)) else fault_in (fields_of body) body
+
 -- the body in front of the bytes, by the length before it; none where it isn't whole yet
 abbrev pub front : (limit : ℕ) → List ℕ → Result (Option (List ℕ)) FrameFault
 front limit bytes =

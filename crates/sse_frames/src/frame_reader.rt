@@ -1,11 +1,11 @@
-ghost use Rattle.std.specs.Prelude.{◌≡◌, ℕ, ◌+◌, ◌*◌, ◌<◌, ◌≤◌, true, List, [], ◌∷◌, ◌++◌, length, slice_index, take, drop, None, IfOk};
+ghost use Rattle.std.specs.Prelude.{◌≡◌, ℕ, ◌+◌, ◌*◌, ◌<◌, ◌≤◌, true, List, [], ◌∷◌, ◌++◌, length, slice_index, take, drop, None, IfOk, IsOkAnd};
 ghost use Rattle.std.specs.Result.{result_err};
 ghost use Rattle.std.specs.Int.{w16};
-ghost use Rattle.sse_frames.specs.Frames.{FrameText, InGrammar, frame_bytes};
+ghost use Rattle.sse_frames.specs.Frames.{FrameText, InGrammar, body_of, frame_bytes};
 ghost use Rattle.sse_frames.specs.Seen.{seen};
 ghost use Rattle.sse_frames.specs.Fields.{number_at, entry_fields, number_fields, end_field, first_fault};
 ghost use Rattle.sse_frames.specs.Tables.{hello_fields, setup_begin_fields, setup_dict_fields, setup_array_fields, setup_end_fields, add_fields, delete_fields, search_fields, frame_fields};
-ghost use Rattle.sse_frames.specs.Reading.{IsFrameOf, IsFront, IfRead, IsRead, fault_in, frame_outcome, answered};
+ghost use Rattle.sse_frames.specs.Reading.{IsFrameOf, IsFront, IfRead, IsRead, fault_in, body_fault, frame_outcome, answered};
 
 use crate::fault::FrameFault;
 use crate::fields::{
@@ -170,6 +170,33 @@ fn frame_of(body: &[u8]) -> Result<Frame<'_>, FrameFault>
     }
 }
 
+/// The frame whose body is all of the bytes, or the first fault.
+fn whole_body(bytes: &[u8]) -> Result<Frame<'_>, FrameFault>
+    ensures fault { result_err result ≡ body_fault 0x100000 frame_fields bytes.now }
+    ensures found { IfOk result (λ frame. IsFrameOf frame bytes.now) }
+{
+    let len = bytes.len();
+    if len == 0 || len > MAX_FRAME_BODY as usize {
+        return Err(FrameFault::BadLength(len as u64));
+    }
+    frame_of(bytes)
+}
+
+/// The frame whose body is all of the bytes.
+///
+/// The first fault from the left: `BadLength` where the bytes are none or more than 1,048,576, `BadKind`
+/// where the first is no kind, `BadBody` with the place of the first field that doesn't stand.
+pub fn read_body(bytes: &[u8]) -> Result<Frame<'_>, FrameFault>
+    // What is read is in the grammar and has this body, and a frame of the grammar with this body is read.
+    ensures found { IfOk result (λ frame. IsFrameOf frame bytes.now) }
+    ensures only { (text : FrameText) → InGrammar text → bytes.now ≡ body_of text → IsOkAnd result (λ frame. seen frame ≡ text) }
+
+    // There is no fault, or it is this one.
+    ensures fault { result_err result ≡ body_fault 0x100000 frame_fields bytes.now }
+{
+    whole_body(bytes)
+}
+
 /// The frame in front of the bytes and its length, none where it isn't whole yet, or the first fault.
 fn front_frame(bytes: &[u8]) -> Result<Option<(Frame<'_>, usize)>, FrameFault>
     ensures outcome { answered result ≡ frame_outcome bytes.now }
@@ -188,8 +215,7 @@ fn front_frame(bytes: &[u8]) -> Result<Option<(Frame<'_>, usize)>, FrameFault>
 /// The frame in front of the bytes, and how many bytes it has, its length among them. `None` where it
 /// isn't whole yet: there are fewer than 4 bytes, or a length in range and fewer bytes than it says.
 ///
-/// The first fault from the left: `BadLength` where the length is 0 or above 1,048,576, `BadKind` where the body's
-/// first byte is no kind, `BadBody` with the place of the first field that doesn't stand.
+/// The first fault from the left: `BadLength` where the length is 0 or above 1,048,576, then as `read_body`.
 pub fn read_frame(bytes: &[u8]) -> Result<Option<(Frame<'_>, usize)>, FrameFault>
     // What is read is in the grammar and stands in front, and a frame of the grammar that stands there is read.
     ensures found { IfRead result (λ frame n. IsFront frame n bytes.now) }

@@ -12,6 +12,7 @@ mod frame_reader;
 mod frame_writer;
 mod front;
 mod head;
+mod items;
 mod kinds;
 mod limits;
 mod put;
@@ -21,8 +22,9 @@ mod reply_writer;
 
 pub use fault::FrameFault;
 pub use frame::Frame;
-pub use frame_reader::read_frame;
+pub use frame_reader::{read_body, read_frame};
 pub use frame_writer::{search_frame, write_frame, write_frame_into};
+pub use items::Items;
 pub use limits::{
     ADDED_LEN, BLOCKS_PER_FRAME, ENTRIES_PER_FRAME, FRAME_ROOM, LABEL_LEN, MAX_B, MAX_BIG,
     MAX_CHANGES, MAX_FRAME_BODY, MAX_INDEX, MAX_NUMBER, MAX_REPLY_BODY, PAGE_LEN, REPLY_ROOM,

@@ -258,6 +258,7 @@ fn reads_what_the_formats_say(rt: HostRuntime) {
         let got = read_reply(bytes).map(|found| found.map(|(_, n)| n));
         assert_eq!(rt; got, want, "at {bytes:?}");
     }
+    assert_eq!(rt; read_body(&[1]).is_ok(), true);
 }
 
 /// Each front of each frame of the sessions, shorter than the frame.
@@ -335,5 +336,15 @@ fn writes_a_page_and_a_search(rt: HostRuntime) -> Result<(), Fail> {
     assert_eq!(rt; &room[20..24], [0, 0, 2, 3].as_slice());
     let frame = search_frame(&[7; TOKEN_LEN]);
     assert_eq!(rt; &frame[..6], [0, 0, 0, 161, 8, 7].as_slice());
+    Ok(())
+}
+
+/// Two items, in their order.
+#[test]
+fn items_grow_at_their_end(rt: HostRuntime) -> Result<(), Fail> {
+    let mut items = Items::new(rt.alloc());
+    items.push(7u8)?;
+    items.push(9u8)?;
+    assert_eq!(rt; items.as_slice(), [7, 9].as_slice());
     Ok(())
 }

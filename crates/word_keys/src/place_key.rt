@@ -1,7 +1,9 @@
 ghost use Rattle.std.specs.Prelude.{◌≡◌};
+ghost use Rattle.keyed_fn.specs.KeyedFn.{keyed_fn};
+ghost use Rattle.keyed_fn.specs.KeyFormulas.{place_tag};
 
 use crate::place_tags::PlaceTags;
-use keyed_fn::Keyed;
+use keyed_fn::{Keyed, front_at};
 use std::marker::Model;
 
 /// A word's key of part 6, 32 bytes, which tags the places of its list's blocks. Nothing gives its bytes
@@ -25,6 +27,13 @@ impl PlaceKey {
         ensures { result ≡ bytes }
     {
         PlaceKey { bytes }
+    }
+
+    /// The 16-byte place tag of block `i` of the list, from 0.
+    pub fn tag<K: Keyed>(&self, keyed: &K, i: u32) -> [u8; 16]
+        ensures { result ≡ place_tag (keyed_fn K.prf K.pad) self.now i }
+    {
+        front_at(keyed, &self.bytes, u64::from(i))
     }
 
     /// The tags of the list's blocks, prepared for many.

@@ -45,14 +45,15 @@ fn keys_and_pads_of_a_word(rt: HostRuntime) -> Result<(), Fail> {
     assert!(rt; master.hash_keys(&Real) == HashKeys::new(HASHING[0], HASHING[1]));
     let plus_keys = master.plus_keys(&Real, &word);
     let revocation_key = master.revocation_key(&Real, &word);
-    let tags = master.place_key(&Real, &word).tags(&Real);
+    let place_key = master.place_key(&Real, &word);
     assert_eq!(rt; master.list_label(&Real, &word), *LIST_LABEL);
     assert_eq!(rt; plus_keys.label(&Real, 4294967294), *PLUS_LABEL);
     assert_eq!(rt;
         revocation_key.number(&Real, 18446744073709551615),
         *REVOCATION
     );
-    assert_eq!(rt; tags.tag(&Real, 65537), *TAG);
+    assert_eq!(rt; place_key.tag(&Real, 65537), *TAG);
+    assert_eq!(rt; place_key.tags(&Real).tag(&Real, 65537), *TAG);
     let [mut cell, mut block, mut addition] = [[1, 2, 3, 4, 5, 6, 7, 8]; 3];
     let mut pads = master.list_pads(&Real, &word);
     seal(pads.next(), &Real, &mut cell);
