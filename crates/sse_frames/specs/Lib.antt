@@ -9,3 +9,4 @@ pub mod Reading
 pub mod Order
 pub mod Sending
 pub mod Texts
+pub mod Exchange

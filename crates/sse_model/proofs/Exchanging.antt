@@ -13,6 +13,7 @@ use Rattle.client_registry.specs.Run.{Offsets, History, at_first}
 use Rattle.client_registry.specs.Setup.{Setup}
 use Rattle.list_packing.specs.Parts.{parts}
 use Rattle.two_level.specs.Shape.{Shape}
+use Rattle.sse_frames.specs.Exchange.{Asked, ForNext, ForTook, ForAnswer, asked, expected, first_answer, answers_behind, replied, exchange, answers_to, searches, Sent, Received, exchanged, greeting}
 use Rattle.sse_frames.specs.Frames.{Entry, FrameText, SetupBegin, SetupDict, SetupArray, SetupEnd}
 use Rattle.sse_frames.specs.Order.{by_bytes}
 use Rattle.sse_frames.specs.Replies.{Took}
@@ -20,11 +21,10 @@ use Rattle.sse_frames.specs.Sending.{numbered, dict_frames, array_frames}
 use Rattle.sse_model.proofs.Counts.{AllByRecursion-append, AllByRecursion-each, length-frames_of_setup, length-numbered}
 use Rattle.sse_model.proofs.HistoryLaws.{frames_sent-run}
 use Rattle.sse_model.proofs.Prefixes.{frames_by, exchanged_by, exchanged_setup}
-use Rattle.sse_model.specs.Exchange.{Asked, ForNext, ForTook, ForAnswer, asked, expected, first_answer, answers_behind, replied, exchange, answers_to, searches}
 use Rattle.sse_model.specs.Histories.{table_of, frames_sent, frames_behind}
 use Rattle.sse_model.specs.Names.{Table}
 use Rattle.sse_model.specs.Positions.{entry_positions, block_positions, sealed, ranks_of}
-use Rattle.sse_model.specs.Transcript.{Sent, Received, exchanged, greeting, session}
+use Rattle.sse_model.specs.Transcript.{session}
 use Rattle.sse_model.specs.Wire.{labels_in, frames_of_setup, acknowledgements, replies_of}
 
 -- Some frames and then others.

@@ -17,6 +17,7 @@ use Rattle.client_registry.specs.Histories.{empty, is_set_up, begun_by, longer, 
 use Rattle.client_registry.specs.Over.{over}
 use Rattle.client_registry.specs.Run.{Run, Offsets, History, at_first}
 use Rattle.client_registry.specs.Setup.{Setup}
+use Rattle.sse_frames.specs.Exchange.{Passed, Sent, Received, exchanged, sent_among}
 use Rattle.sse_frames.specs.Frames.{FrameText, Hello, SearchFrame, InGrammar}
 use Rattle.sse_frames.specs.Replies.{ReplyText}
 use Rattle.sse_model.proofs.Collisions.{IsCollisionFree-first}
@@ -25,7 +26,7 @@ use Rattle.sse_model.proofs.Prefixes.{run_of, first, frames_by, exchanged_by, ex
 use Rattle.sse_model.specs.Drawn.{IsCollisionFree}
 use Rattle.sse_model.specs.Histories.{table_of, frames_sent, frames_of_first, frames_behind, collision_behind, HasNoCollision}
 use Rattle.sse_model.specs.Names.{Table}
-use Rattle.sse_model.specs.Transcript.{Passed, Sent, Received, exchanged, transcript, sent_among}
+use Rattle.sse_model.specs.Transcript.{transcript}
 use Rattle.sse_model.specs.Wire.{frames_of_setup, wire, acknowledgements, replies_of}
 
 -- The frames of a transcript.

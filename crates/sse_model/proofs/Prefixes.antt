@@ -6,11 +6,12 @@ use Rattle.client_registry.specs.Command.{Command}
 use Rattle.client_registry.specs.Over.{over}
 use Rattle.client_registry.specs.Run.{Run, Offsets}
 use Rattle.client_registry.specs.Setup.{Setup}
+use Rattle.sse_frames.specs.Exchange.{Passed, exchanged}
 use Rattle.sse_frames.specs.Frames.{FrameText}
 use Rattle.sse_model.specs.Drawn.{names_of, drawn_by, drawn, probed_by, probed}
 use Rattle.sse_model.specs.Names.{Name, Table}
 use Rattle.sse_model.specs.Positions.{entry_positions, block_positions}
-use Rattle.sse_model.specs.Transcript.{Passed, exchanged, transcript}
+use Rattle.sse_model.specs.Transcript.{transcript}
 use Rattle.sse_model.specs.Wire.{frames_of_setup, frames_of, next_number, wire, acknowledgements, replies_of, replies}
 
 -- the run of a setup and these commands

@@ -7,10 +7,11 @@ use Rattle.keyed_fn.specs.KeyedFn.{keyed_fn}
 use Rattle.keyed_fn.specs.Toy.{toy_prf, toy_pad}
 use Rattle.client_registry.specs.Document.{Document}
 use Rattle.client_registry.specs.Run.{History}
+use Rattle.sse_frames.specs.Exchange.{Passed, Sent, Received}
 use Rattle.sse_frames.specs.Frames.{frame_bytes}
 use Rattle.sse_frames.specs.Replies.{reply_bytes}
 use Rattle.sse_model.specs.Names.{Table, table}
-use Rattle.sse_model.specs.Transcript.{Passed, Sent, Received, session}
+use Rattle.sse_model.specs.Transcript.{session}
 
 -- the value of a hexadecimal digit in lower case
 abbrev pub digit : ℕ → ℕ

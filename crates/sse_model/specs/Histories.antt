@@ -6,11 +6,12 @@ use Rattle.client_registry.specs.Command.{Command}
 use Rattle.client_registry.specs.Over.{over}
 use Rattle.client_registry.specs.Run.{Run, History, at_first}
 use Rattle.client_registry.specs.Setup.{Setup}
+use Rattle.sse_frames.specs.Exchange.{sent_among}
 use Rattle.sse_frames.specs.Frames.{FrameText}
 use Rattle.sse_model.specs.Compared.{Collision, collision_of_setup, collision_of}
 use Rattle.sse_model.specs.Drawn.{IsCollisionFree}
 use Rattle.sse_model.specs.Names.{Table, table}
-use Rattle.sse_model.specs.Transcript.{session, sent_among}
+use Rattle.sse_model.specs.Transcript.{session}
 use Rattle.sse_model.specs.Wire.{frames_of_setup, frames_of, next_number}
 
 -- the table of a run's values

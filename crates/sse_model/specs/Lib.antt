@@ -2,7 +2,6 @@ pub mod Names
 pub mod Positions
 pub mod Wire
 pub mod Transcript
-pub mod Exchange
 pub mod Drawn
 pub mod Values
 pub mod Compared

@@ -1,9 +1,33 @@
--- What frames are to be replied, whatever the searches among them find, and what passes where they are.
+-- What passes between a client and a server: frames, each with its replies; and the replies that frames are to have, whatever
+-- the searches among them find.
 use Rattle.std.specs.Prelude.{ℕ, ◌+◌, List, [], ◌∷◌, ◌++◌, map, drop}
 use Rattle.sse_frames.specs.Frames.{FrameText, Hello, SetupBegin, SetupDict, SetupArray, SetupEnd, AddFrame, DeleteFrame, SearchFrame}
 use Rattle.sse_frames.specs.Replies.{ReplyText, Next, Took}
 use Rattle.sse_frames.specs.Sending.{pages}
-use Rattle.sse_model.specs.Transcript.{Passed, Sent, Received}
+
+-- a frame that was sent or a reply that was received
+pub data Passed : Type 0 where
+  Sent : FrameText → Passed
+  Received : ReplyText → Passed
+
+-- frames with replies: one behind each frame, and behind the last frame all that are left
+abbrev pub exchanged : List FrameText → List ReplyText → List Passed
+exchanged [] rs = map Received rs
+exchanged (frame ∷ []) rs = Sent frame ∷ map Received rs
+exchanged (frame ∷ next ∷ frames) [] = Sent frame ∷ exchanged (next ∷ frames) []
+exchanged (frame ∷ next ∷ frames) (r ∷ rs) = Sent frame ∷ Received r ∷ exchanged (next ∷ frames) rs
+
+-- what opens a session with a server that has taken nothing: the number that it expects
+abbrev pub greeting : List Passed
+greeting = Sent Hello ∷ Received (Next 0) ∷ []
+
+-- the frames among these
+abbrev pub sent_among : List Passed → List FrameText
+sent_among [] = []
+sent_among (Sent frame ∷ later) = frame ∷ sent_among later
+sent_among (Received reply ∷ later) = sent_among later
+
+-- Replies that are to come.
 
 -- what a frame asks of a server: the number of the update that it expects, to take the update of this number, or an answer
 pub data Asked : Type 0 where
