@@ -1,2 +1,4 @@
+pub mod DiskLaws
 pub mod Known
 mod Told
+pub mod Fronts

@@ -1,6 +1,9 @@
 pub mod Causes
+pub mod Changes
+pub mod Images
 pub mod MemSink
 pub mod MemSource
 pub mod StdSink
 pub mod Told
 pub mod Texts
+pub mod Fronts

@@ -14,6 +14,10 @@ fails_of s = s.calls.listed.items
 abbrev pub next_call_of : MemSink → ℕ
 next_call_of s = s.calls.call
 
+-- its count of calls that lacked memory
+abbrev pub shortages_of : MemSink → ℕ
+shortages_of s = s.shortages
+
 -- its count of faults
 abbrev pub faults_of : MemSink → ℕ
 faults_of s = s.calls.faults

@@ -12,3 +12,7 @@ module _ {W : Type 0} {writes : std_write.Ghosts W} where
   -- its count of faults
   abbrev pub faults_of : StdSink W writes → ℕ
   faults_of s = s.faults
+
+  -- its count of calls that lacked memory: there are none
+  abbrev pub shortages_of : StdSink W writes → ℕ
+  shortages_of s = 0

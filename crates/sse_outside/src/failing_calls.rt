@@ -1,5 +1,5 @@
-ghost use Rattle.std.specs.Prelude.{◌≡◌, ◌+◌, ◌-◌, ◌^◌, ◌↔◌, min, Contains, IsErr};
-ghost use Rattle.sse_outside.specs.Causes.{HasCause};
+ghost use Rattle.std.specs.Prelude.{◌≡◌, ◌+◌, ◌-◌, ◌≤◌, ◌^◌, ◌↔◌, min, Contains, IsErr, IsTrue};
+ghost use Rattle.sse_outside.specs.Causes.{HasCause, Rose};
 
 use crate::Failed;
 
@@ -25,19 +25,45 @@ impl FailingCalls {
         }
     }
 
-    /// Counts a call, and where its number is listed a fault too.
+    /// Whether the number of the next call is listed.
+    pub fn next_is_listed(&self) -> bool
+        ensures { IsTrue result ↔ Contains self.now.listed.items self.now.call }
+    {
+        self.listed.contains(&self.call)
+    }
+
+    /// Counts a call that doesn't fail.
+    pub fn pass(&mut self)
+        ensures listed { self.new.listed ≡ self.old.listed }
+        ensures next { self.new.call ≡ min (self.old.call + 1) (2 ^ 64 - 1) }
+        ensures faults { self.new.faults ≡ self.old.faults }
+    {
+        self.call = self.call.saturating_add(1);
+    }
+
+    /// Counts a call that fails.
+    pub fn fail(&mut self)
+        ensures listed { self.new.listed ≡ self.old.listed }
+        ensures next { self.new.call ≡ min (self.old.call + 1) (2 ^ 64 - 1) }
+        ensures later { self.old.faults ≤ self.new.faults }
+        ensures faults { Rose self.old.faults self.new.faults }
+    {
+        self.call = self.call.saturating_add(1);
+        self.faults = self.faults.saturating_add(1);
+    }
+
+    /// Counts a call, which fails where its number is listed.
     pub fn count(&mut self) -> Result<(), Failed>
         ensures fails { IsErr result ↔ Contains self.old.listed.items self.old.call }
         ensures listed { self.new.listed ≡ self.old.listed }
         ensures next { self.new.call ≡ min (self.old.call + 1) (2 ^ 64 - 1) }
         ensures cause { HasCause self.old.faults self.new.faults result }
     {
-        let call = self.call;
-        self.call = call.saturating_add(1);
-        if self.listed.contains(&call) {
-            self.faults = self.faults.saturating_add(1);
+        if self.next_is_listed() {
+            self.fail();
             return Err(Failed);
         }
+        self.pass();
         Ok(())
     }
 }

@@ -11,6 +11,7 @@ use std::alloc::Global;
 pub struct MemSink {
     bytes: Vec<u8>,
     calls: FailingCalls,
+    shortages: u64,
 }
 
 impl MemSink {
@@ -27,6 +28,7 @@ impl MemSink {
         MemSink {
             bytes: Vec::new(alloc),
             calls: FailingCalls::new(fails),
+            shortages: 0,
         }
     }
 
@@ -39,11 +41,13 @@ impl MemSink {
 }
 
 impl Sink for MemSink {
-    ghost use Rattle.sse_outside.specs.MemSink.{bytes_of, fails_of, next_call_of, faults_of};
+    ghost use Rattle.sse_outside.specs.MemSink.{bytes_of, fails_of, next_call_of, faults_of, shortages_of};
 
     ghost written = { λ s. Some (bytes_of s) };
 
     ghost faults = { faults_of };
+
+    ghost shortages = { shortages_of };
 
     fn write(&mut self, bytes: &[u8]) -> Result<usize, DeviceFault>
         requires { 0 < length bytes.now }
@@ -63,10 +67,19 @@ impl Sink for MemSink {
         ensures failed { IsErrOf result DeviceFault.Failed → Rose (faults_of self.old) (faults_of self.new) }
         ensures steady { OnOk result (faults_of self.new ≡ faults_of self.old) }
         ensures no_memory { IsErrOf result DeviceFault.NoMemory → faults_of self.new ≡ faults_of self.old }
+        ensures no_fewer { shortages_of self.old ≤ shortages_of self.new }
+        ensures shortage { IsErrOf result DeviceFault.NoMemory → Rose (shortages_of self.old) (shortages_of self.new) }
+        ensures supplied { OnOk result (shortages_of self.new ≡ shortages_of self.old) }
+        ensures failed_supplied { IsErrOf result DeviceFault.Failed → shortages_of self.new ≡ shortages_of self.old }
     {
         self.calls.count()?;
-        self.bytes.extend_from_slice(bytes)?;
-        Ok(bytes.len())
+        match self.bytes.extend_from_slice(bytes) {
+            Ok(()) => Ok(bytes.len()),
+            Err(error) => {
+                self.shortages = self.shortages.saturating_add(1);
+                Err(error.into())
+            }
+        }
     }
 }
 

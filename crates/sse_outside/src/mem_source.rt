@@ -4,7 +4,7 @@ ghost use Rattle.std.specs.Io.KnownBytes.{prepend_known, IsAtEnd};
 ghost use Rattle.sse_outside.specs.Causes.{HasCause};
 
 use crate::failing_calls::FailingCalls;
-use crate::hand_out::hand_out;
+use crate::handing::hand_out;
 use crate::{Failed, Source};
 
 /// A source over bytes in memory, of which some calls fail.

@@ -31,11 +31,13 @@ impl<W: Write> StdSink<W> {
 }
 
 impl<W: Write> Sink for StdSink<W> {
-    ghost use Rattle.sse_outside.specs.StdSink.{written_of, faults_of};
+    ghost use Rattle.sse_outside.specs.StdSink.{written_of, faults_of, shortages_of};
 
     ghost written = { written_of };
 
     ghost faults = { faults_of };
+
+    ghost shortages = { shortages_of };
 
     fn write(&mut self, bytes: &[u8]) -> Result<usize, DeviceFault>
         requires { 0 < length bytes.now }
@@ -53,6 +55,10 @@ impl<W: Write> Sink for StdSink<W> {
         ensures failed { IsErrOf result DeviceFault.Failed → Rose (faults_of self.old) (faults_of self.new) }
         ensures steady { OnOk result (faults_of self.new ≡ faults_of self.old) }
         ensures no_memory { IsErrOf result DeviceFault.NoMemory → faults_of self.new ≡ faults_of self.old }
+        ensures no_fewer { shortages_of self.old ≤ shortages_of self.new }
+        ensures shortage { IsErrOf result DeviceFault.NoMemory → Rose (shortages_of self.old) (shortages_of self.new) }
+        ensures supplied { OnOk result (shortages_of self.new ≡ shortages_of self.old) }
+        ensures failed_supplied { IsErrOf result DeviceFault.Failed → shortages_of self.new ≡ shortages_of self.old }
     {
         match write_retrying(&mut self.writer, bytes) {
             Ok(count) => Ok(count),

@@ -6,8 +6,8 @@ ghost use Rattle.sse_outside.specs.Told.{AllTellOrNone};
 use crate::{Failed, Source};
 use std::io::{ErrorKind, Read};
 
-/// The most bytes that a source hands out.
-const MOST_BYTES: u64 = 1 << 63;
+/// The most bytes that a source hands out, and the most of a file.
+pub(crate) const MOST_BYTES: u64 = 1 << 63;
 
 /// A source over a reader of std, as standard input. It tells the bytes that the reader tells: those of a slice of
 /// bytes are told, those of standard input or of a file can't be.
@@ -61,11 +61,11 @@ impl<R: Read> Source for StdSource<R> {
     }
 }
 
-/// How many of `wanted` bytes may still be handed out.
-fn room_left(handed_out: u64, wanted: usize) -> usize
-    ensures { result ≡ min wanted (2 ^ 63 - handed_out) }
+/// How many of `wanted` bytes there may be behind the first `before`.
+pub(crate) fn room_left(before: u64, wanted: usize) -> usize
+    ensures { result ≡ min wanted (2 ^ 63 - before) }
 {
-    let left = MOST_BYTES.saturating_sub(handed_out);
+    let left = MOST_BYTES.saturating_sub(before);
     wanted.min(left as usize)
 }
 

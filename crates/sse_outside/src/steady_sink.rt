@@ -7,6 +7,7 @@ use std::alloc::Global;
 #[derive(Drop)]
 pub struct SteadySink {
     bytes: Vec<u8>,
+    shortages: u64,
 }
 
 impl SteadySink {
@@ -16,6 +17,7 @@ impl SteadySink {
     {
         SteadySink {
             bytes: Vec::new(alloc),
+            shortages: 0,
         }
     }
 
@@ -32,9 +34,16 @@ impl Sink for SteadySink {
 
     ghost faults = { λ _. 0 };
 
+    ghost shortages = { λ s. s.shortages };
+
     fn write(&mut self, bytes: &[u8]) -> Result<usize, DeviceFault> {
-        self.bytes.extend_from_slice(bytes)?;
-        Ok(bytes.len())
+        match self.bytes.extend_from_slice(bytes) {
+            Ok(()) => Ok(bytes.len()),
+            Err(error) => {
+                self.shortages = self.shortages.saturating_add(1);
+                Err(error.into())
+            }
+        }
     }
 }
 

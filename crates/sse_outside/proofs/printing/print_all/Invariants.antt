@@ -8,6 +8,7 @@ invariant-loop-done g l = record {
   within : l.done ≤ length l.bytes;
   front : g.W.Sink.written l.sink ≡ append_known (g.W.Sink.written l.fn.sink) (take l.done l.bytes);
   steady : g.W.Sink.faults l.sink ≡ g.W.Sink.faults l.fn.sink;
+  supplied : g.W.Sink.shortages l.sink ≡ g.W.Sink.shortages l.fn.sink;
 }
 
 abbrev pub decreases-loop-done : goal.decreases-loop-done
