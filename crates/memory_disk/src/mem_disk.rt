@@ -1,0 +1,345 @@
+ghost use Rattle.std.specs.Prelude.{◌≡◌, ◌+◌, ◌-◌, ◌^◌, ◌<◌, ◌≤◌, min, [], ◌∷◌, ◌++◌, length, take, drop, ◌↔◌, IsErr, IsTrue, Some, None, IfOk, OnOk, OnErr, IsErrOf};
+ghost use Rattle.std.specs.Io.{ReadsAtMost};
+ghost use Rattle.sse_outside.specs.Causes.{Rose, HasCause};
+ghost use Rattle.sse_outside.specs.Images.{overwritten, Torn, Shortened, Follows, NoOther, Only, Elapses};
+ghost use Rattle.sse_outside.specs.Changes.{Wrote, FailedToWrite, CutTo, FailedToCut, Synced};
+ghost use Rattle.sse_outside.proofs.DiskLaws.{reads_now, counts_now, only_now};
+
+use crate::recorded::Recorded;
+use sse_outside::{DeviceFault, Disk, Failed, FailingCalls};
+use std::alloc::{AllocError, Global};
+
+/// A disk in memory, of which some calls fail. It keeps a record of its writes, cuts and syncs, with the bytes
+/// written.
+///
+/// A write or cut that fails leaves the file as it reads and is recorded, so that a crash may leave it done in part. A
+/// call that memory is wanting for, or a write whose end would pass 2^63, answers `NoMemory`, changes nothing and
+/// isn't counted.
+#[derive(Drop)]
+pub struct MemDisk {
+    file: Recorded,
+    calls: FailingCalls,
+    one_more: Option<u64>,
+}
+
+impl MemDisk {
+    ghost use Rattle.memory_disk.specs.Picked.{image_picked};
+    ghost use Rattle.memory_disk.specs.MemDisk.{began_of, changes_on, file_of, images_of, fails_of, fail_more_of, next_call_of, faults_of, WillFail};
+
+    /// An empty disk, whose calls of the numbers in `fails`, counted from 0, answer `Failed`.
+    pub fn new(alloc: Global, fails: Vec<u64>) -> MemDisk
+        ensures began { began_of result ≡ [] }
+        ensures none { changes_on result ≡ [] }
+        ensures file { file_of result ≡ [] }
+        ensures fails { fails_of result ≡ fails.items }
+        ensures fail_more { fail_more_of result ≡ None }
+        ensures first { next_call_of result ≡ 0 }
+        ensures faults { faults_of result ≡ 0 }
+    {
+        MemDisk {
+            file: Recorded::new(alloc),
+            calls: FailingCalls::new(fails),
+            one_more: None,
+        }
+    }
+
+    /// How many calls were counted, also those that failed.
+    pub fn calls(&self) -> u64
+        ensures { result ≡ next_call_of self.now }
+    {
+        self.calls.call
+    }
+
+    /// The bytes of the file, as a read gives them.
+    pub fn bytes(&self) -> &[u8]
+        ensures { result.now ≡ file_of self.now }
+    {
+        self.file.bytes()
+    }
+
+    /// What a crash at this moment may leave: one image for each number, on a disk of which no call fails.
+    ///
+    /// From the last sync that succeeded on, each call that changed the file, or failed in that, takes one digit of
+    /// `pick` to the base 4, the lowest first: 0 leaves nothing of it, 1 all, 2 half of its bytes, 3 other bytes. The
+    /// error is want of memory, or an image of more than 2^63 bytes.
+    pub fn image(&self, pick: u64) -> Result<MemDisk, AllocError>
+        ensures began { IfOk result (λ d. began_of d ≡ image_picked pick (began_of self.now) (changes_on self.now)) }
+        ensures image { IfOk result (λ d. images_of self.now (began_of d)) }
+        ensures none { IfOk result (λ d. changes_on d ≡ []) }
+        ensures file { IfOk result (λ d. file_of d ≡ began_of d) }
+        ensures fails { IfOk result (λ d. fails_of d ≡ []) }
+        ensures fail_more { IfOk result (λ d. fail_more_of d ≡ None) }
+        ensures first { IfOk result (λ d. next_call_of d ≡ 0) }
+        ensures faults { IfOk result (λ d. faults_of d ≡ 0) }
+    {
+        Ok(MemDisk {
+            file: self.file.image(pick)?,
+            calls: FailingCalls::new(Vec::new(self.file.alloc())),
+            one_more: None,
+        })
+    }
+
+    /// Makes the call with this number from now, counted from 1, fail too, in place of what an earlier `fail_after`
+    /// set.
+    pub fn fail_after(&mut self, call: u64)
+        requires { 1 ≤ call }
+        ensures fail_more { fail_more_of self.new ≡ Some (min (next_call_of self.old + (call - 1)) (2 ^ 64 - 1)) }
+        ensures began { began_of self.new ≡ began_of self.old }
+        ensures changes { changes_on self.new ≡ changes_on self.old }
+        ensures file { file_of self.new ≡ file_of self.old }
+        ensures fails { fails_of self.new ≡ fails_of self.old }
+        ensures next { next_call_of self.new ≡ next_call_of self.old }
+        ensures faults { faults_of self.new ≡ faults_of self.old }
+    {
+        self.one_more = Some(self.calls.call.saturating_add(call - 1));
+    }
+
+    /// Whether the next call fails.
+    fn next_fails(&self) -> bool
+        ensures { IsTrue result ↔ WillFail self.now }
+    {
+        self.one_more == Some(self.calls.call) || self.calls.next_is_listed()
+    }
+}
+
+impl Disk for MemDisk {
+    ghost use Rattle.memory_disk.specs.MemDisk.{began_of, changes_on, file_of, images_of, moment_of, left_since_of, fails_of, fail_more_of, next_call_of, faults_of, WillFail};
+
+    ghost content = { λ s. Some (file_of s) };
+
+    ghost images = { images_of };
+
+    ghost moment = { moment_of };
+
+    ghost left_since = { left_since_of };
+
+    ghost faults = { faults_of };
+
+    ghost reads_as_image = { λ s. reads_now (began_of s) (changes_on s) (file_of s) s.file.replayed };
+
+    ghost counts_now = { λ s. counts_now (began_of s) (changes_on s) };
+
+    ghost only_now = { λ s. only_now (began_of s) (changes_on s) };
+
+    fn len(&mut self) -> Result<u64, Failed>
+        // Which calls fail, and what stays.
+        ensures fails { IsErr result ↔ WillFail self.old }
+        ensures same_list { fails_of self.new ≡ fails_of self.old }
+        ensures same_more { fail_more_of self.new ≡ fail_more_of self.old }
+        ensures counted { next_call_of self.new ≡ min (next_call_of self.old + 1) (2 ^ 64 - 1) }
+        ensures began { began_of self.new ≡ began_of self.old }
+        ensures made { changes_on self.new ≡ changes_on self.old }
+
+        // As of every disk.
+        ensures bound { IfOk result (λ n. n ≤ 2 ^ 63) }
+        ensures size { IfOk result (λ n. n ≡ length (file_of self.old)) }
+        ensures within { length (file_of self.old) ≤ 2 ^ 63 }
+        ensures kept { file_of self.new ≡ file_of self.old }
+        ensures cause { HasCause (faults_of self.old) (faults_of self.new) result }
+    {
+        if self.next_fails() {
+            self.calls.fail();
+            return Err(Failed);
+        }
+        self.calls.pass();
+        Ok(self.file.bytes().len() as u64)
+    }
+
+    fn read_at(&mut self, at: u64, out: &mut [u8]) -> Result<usize, Failed>
+        // Which calls fail, and what stays.
+        ensures fails { IsErr result ↔ WillFail self.old }
+        ensures same_list { fails_of self.new ≡ fails_of self.old }
+        ensures same_more { fail_more_of self.new ≡ fail_more_of self.old }
+        ensures counted { next_call_of self.new ≡ min (next_call_of self.old + 1) (2 ^ 64 - 1) }
+        ensures began { began_of self.new ≡ began_of self.old }
+        ensures made { changes_on self.new ≡ changes_on self.old }
+
+        // As of every disk.
+        ensures bound { ReadsAtMost result out.new }
+        ensures bytes { IfOk result (λ n. take n out.new ≡ take (length out.new) (drop at (file_of self.old))) }
+        ensures within { length (file_of self.old) ≤ 2 ^ 63 }
+        ensures kept { file_of self.new ≡ file_of self.old }
+        ensures cause { HasCause (faults_of self.old) (faults_of self.new) result }
+    {
+        if self.next_fails() {
+            self.calls.fail();
+            return Err(Failed);
+        }
+        self.calls.pass();
+        Ok(self.file.read(at, out))
+    }
+
+    fn write_at(&mut self, at: u64, bytes: &[u8]) -> Result<(), DeviceFault>
+        requires within { at ≤ length (file_of self.old) }
+        requires fits { at + length bytes.now < 2 ^ 64 }
+
+        // Which calls fail, and what is recorded.
+        ensures fails { IsErrOf result DeviceFault.Failed → WillFail self.old }
+        ensures passes { OnOk result (WillFail self.old → ⊥) }
+        ensures same_list { fails_of self.new ≡ fails_of self.old }
+        ensures same_more { fail_more_of self.new ≡ fail_more_of self.old }
+        ensures counted { (IsErrOf result DeviceFault.NoMemory → ⊥) → next_call_of self.new ≡ min (next_call_of self.old + 1) (2 ^ 64 - 1) }
+        ensures not_counted { IsErrOf result DeviceFault.NoMemory → next_call_of self.new ≡ next_call_of self.old }
+        ensures began { began_of self.new ≡ began_of self.old }
+        ensures made { OnOk result (changes_on self.new ≡ changes_on self.old ++ Wrote at bytes.now ∷ []) }
+        ensures made_failed { IsErrOf result DeviceFault.Failed → changes_on self.new ≡ changes_on self.old ++ FailedToWrite at bytes.now ∷ [] }
+        ensures made_none { IsErrOf result DeviceFault.NoMemory → changes_on self.new ≡ changes_on self.old }
+        ensures file_err { OnErr result (file_of self.new ≡ file_of self.old) }
+
+        // As of every disk.
+        ensures limit { OnOk result (at + length bytes.now ≤ 2 ^ 63) }
+        ensures written { OnOk result (file_of self.new ≡ overwritten at bytes.now (file_of self.old)) }
+        ensures torn { Follows (Torn at (length bytes.now)) (images_of self.old) (images_of self.new) }
+        ensures time { Elapses (moment_of self.old) (moment_of self.new) (left_since_of self.old) (left_since_of self.new) (images_of self.new) }
+        ensures later { faults_of self.old ≤ faults_of self.new }
+        ensures failed { IsErrOf result DeviceFault.Failed → Rose (faults_of self.old) (faults_of self.new) }
+        ensures steady { OnOk result (faults_of self.new ≡ faults_of self.old) }
+        ensures no_memory { IsErrOf result DeviceFault.NoMemory → faults_of self.new ≡ faults_of self.old }
+    {
+        if at > (1 << 63) - bytes.len() as u64 {
+            return Err(DeviceFault::NoMemory);
+        }
+        if self.next_fails() {
+            self.file.fail_write(at, bytes)?;
+            self.calls.fail();
+            return Err(DeviceFault::Failed);
+        }
+        self.file.write(at, bytes)?;
+        self.calls.pass();
+        Ok(())
+    }
+
+    fn cut(&mut self, len: u64) -> Result<(), DeviceFault>
+        requires within { len ≤ length (file_of self.old) }
+
+        // Which calls fail, and what is recorded.
+        ensures fails { IsErrOf result DeviceFault.Failed → WillFail self.old }
+        ensures passes { OnOk result (WillFail self.old → ⊥) }
+        ensures same_list { fails_of self.new ≡ fails_of self.old }
+        ensures same_more { fail_more_of self.new ≡ fail_more_of self.old }
+        ensures counted { (IsErrOf result DeviceFault.NoMemory → ⊥) → next_call_of self.new ≡ min (next_call_of self.old + 1) (2 ^ 64 - 1) }
+        ensures not_counted { IsErrOf result DeviceFault.NoMemory → next_call_of self.new ≡ next_call_of self.old }
+        ensures began { began_of self.new ≡ began_of self.old }
+        ensures made { OnOk result (changes_on self.new ≡ changes_on self.old ++ CutTo len ∷ []) }
+        ensures made_failed { IsErrOf result DeviceFault.Failed → changes_on self.new ≡ changes_on self.old ++ FailedToCut len ∷ [] }
+        ensures made_none { IsErrOf result DeviceFault.NoMemory → changes_on self.new ≡ changes_on self.old }
+        ensures file_err { OnErr result (file_of self.new ≡ file_of self.old) }
+
+        // As of every disk.
+        ensures shortened { OnOk result (file_of self.new ≡ take len (file_of self.old)) }
+        ensures torn { Follows (Shortened len) (images_of self.old) (images_of self.new) }
+        ensures time { Elapses (moment_of self.old) (moment_of self.new) (left_since_of self.old) (left_since_of self.new) (images_of self.new) }
+        ensures later { faults_of self.old ≤ faults_of self.new }
+        ensures failed { IsErrOf result DeviceFault.Failed → Rose (faults_of self.old) (faults_of self.new) }
+        ensures steady { OnOk result (faults_of self.new ≡ faults_of self.old) }
+        ensures no_memory { IsErrOf result DeviceFault.NoMemory → faults_of self.new ≡ faults_of self.old }
+    {
+        if self.next_fails() {
+            self.file.fail_cut(len)?;
+            self.calls.fail();
+            return Err(DeviceFault::Failed);
+        }
+        self.file.cut(len)?;
+        self.calls.pass();
+        Ok(())
+    }
+
+    fn sync(&mut self) -> Result<(), DeviceFault>
+        // Which calls fail, and what is recorded: a sync that fails leaves all as it was.
+        ensures fails { IsErrOf result DeviceFault.Failed → WillFail self.old }
+        ensures passes { OnOk result (WillFail self.old → ⊥) }
+        ensures same_list { fails_of self.new ≡ fails_of self.old }
+        ensures same_more { fail_more_of self.new ≡ fail_more_of self.old }
+        ensures counted { (IsErrOf result DeviceFault.NoMemory → ⊥) → next_call_of self.new ≡ min (next_call_of self.old + 1) (2 ^ 64 - 1) }
+        ensures not_counted { IsErrOf result DeviceFault.NoMemory → next_call_of self.new ≡ next_call_of self.old }
+        ensures began { began_of self.new ≡ began_of self.old }
+        ensures made { OnOk result (changes_on self.new ≡ changes_on self.old ++ Synced ∷ []) }
+        ensures made_none { OnErr result (changes_on self.new ≡ changes_on self.old) }
+        ensures file { file_of self.new ≡ file_of self.old }
+
+        // As of every disk.
+        ensures durable { OnOk result (Only (file_of self.old) (images_of self.new)) }
+        ensures images_kept { NoOther (images_of self.old) (images_of self.new) }
+        ensures time { Elapses (moment_of self.old) (moment_of self.new) (left_since_of self.old) (left_since_of self.new) (images_of self.new) }
+        ensures later { faults_of self.old ≤ faults_of self.new }
+        ensures failed { IsErrOf result DeviceFault.Failed → Rose (faults_of self.old) (faults_of self.new) }
+        ensures steady { OnOk result (faults_of self.new ≡ faults_of self.old) }
+        ensures no_memory { IsErrOf result DeviceFault.NoMemory → faults_of self.new ≡ faults_of self.old }
+    {
+        if self.next_fails() {
+            self.calls.fail();
+            return Err(DeviceFault::Failed);
+        }
+        self.file.sync()?;
+        self.calls.pass();
+        Ok(())
+    }
+}
+
+#[cfg(test)]
+mod tests {
+    use super::*;
+    use std::test::Fail;
+
+    /// One byte written to an empty disk and not synced: the file stays empty, or has that byte or another one.
+    #[test]
+    fn one_byte_is_there_or_not(rt: HostRuntime) -> Result<(), Fail> {
+        let mut disk = MemDisk::new(rt.alloc(), Vec::new(rt.alloc()));
+        assert_eq!(rt; disk.write_at(0, b"\x01"), Ok(()));
+        let files: [&[u8]; 8] = [b"", b"\x01", b"", b"\xfe", b"", b"\x01", b"", b"\xfe"];
+        for (pick, file) in files.iter().enumerate() {
+            let image = disk.image(pick as u64)?;
+            assert_eq!(rt; image.bytes(), *file, "pick {pick}");
+            assert_eq!(rt; image.calls(), 0, "pick {pick}");
+        }
+        Ok(())
+    }
+
+    /// Four bytes that last, all of them cut, and a write of two that fails: by how much is left of the cut and of the
+    /// write.
+    #[test]
+    fn a_cut_and_a_failed_write_may_be_there_in_part(rt: HostRuntime) -> Result<(), Fail> {
+        let mut disk = MemDisk::new(rt.alloc(), vec![in rt.alloc(); 3]?);
+        assert_eq!(rt; disk.write_at(0, b"abcd"), Ok(()));
+        assert_eq!(rt; disk.sync(), Ok(()));
+        assert_eq!(rt; disk.cut(0), Ok(()));
+        assert_eq!(rt; disk.write_at(0, b"xy"), Err(DeviceFault::Failed));
+        assert_eq!(rt; disk.bytes(), b"".as_slice());
+        let rows: [(u64, &[u8]); 10] = [
+            (0, b"abcd"),
+            (1, b""),
+            (2, b"ab"),
+            (3, b"\x9e\x9d\x9c\x9b"),
+            (4, b"xycd"),
+            (5, b"xy"),
+            (6, b"xy"),
+            (9, b"x"),
+            (10, b"xb"),
+            (13, b"\x87\x86"),
+        ];
+        for (pick, file) in rows {
+            assert_eq!(rt; disk.image(pick)?.bytes(), file, "pick {pick}");
+        }
+        Ok(())
+    }
+
+    /// The calls 1 and 3 fail, and later the second from then on; a later number takes the place of an earlier one.
+    #[test]
+    fn calls_fail_where_they_are_told_to(rt: HostRuntime) -> Result<(), Fail> {
+        let mut disk = MemDisk::new(rt.alloc(), vec![in rt.alloc(); 1, 3]?);
+        let mut out = [0; 3];
+        assert_eq!(rt; disk.write_at(0, b"ab"), Ok(()));
+        assert_eq!(rt; disk.sync(), Err(DeviceFault::Failed));
+        assert_eq!(rt; disk.len(), Ok(2));
+        assert_eq!(rt; disk.cut(0), Err(DeviceFault::Failed));
+        assert_eq!(rt; disk.read_at(1, &mut out), Ok(1));
+        assert_eq!(rt; out, *b"b\0\0");
+        disk.fail_after(1);
+        disk.fail_after(2);
+        assert_eq!(rt; disk.read_at(2, &mut out), Ok(0));
+        assert_eq!(rt; disk.read_at(0, &mut out), Err(Failed));
+        assert_eq!(rt; disk.len(), Ok(2));
+        assert_eq!(rt; disk.calls(), 8);
+        Ok(())
+    }
+}
