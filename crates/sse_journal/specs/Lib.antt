@@ -1,0 +1,9 @@
+pub mod Files
+pub mod AnyMoment
+pub mod Faults
+pub mod Texts
+pub mod Holds
+pub mod Heads
+pub mod Walks
+pub mod JournalView
+pub mod Reads
