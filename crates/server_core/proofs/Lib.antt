@@ -3,4 +3,6 @@ mod CellLemmas
 pub mod Laws
 mod Rows
 mod SearchLemmas
-pub mod WayLaws
+mod PlaceLemmas
+mod PassLemmas
+pub mod WalkLaws

@@ -1,23 +1,25 @@
--- A search, piece by piece: what is found so far, and what is still to come.
-use Rattle.std.proofs.Common.{◌≡◌, ℕ, zero, suc, ◌+◌, ◌<◌, ◌==◌, Bool, true, false, cond, not, List, [], ◌∷◌, ◌++◌, length, drop, Option, Some, None, refl, sym, ap, subst, ◌∙◌, arith}
-use Rattle.std.specs.Prelude.{option_and_then, slice_index, All}
+-- A search, piece by piece: lists joined, blocks, additions, and that each identifier is above 0.
+use Rattle.std.proofs.Common.{◌≡◌, ℕ, zero, suc, ◌+◌, ◌-◌, ◌<◌, ◌==◌, Bool, true, false, cond, not, List, [], ◌∷◌, ◌++◌, length, drop, Option, Some, None, refl, sym, ap, subst, ◌∙◌, arith}
+use Rattle.std.specs.Prelude.{option_and_then, All}
 use Rattle.std.specs.Int.{w64, from_be_bytes}
-use Rattle.std.specs.List.{slice_get, list_all}
+use Rattle.std.specs.List.{slice_get, list_all, filter}
 use Rattle.std.specs.Option.{option_map, option_map_or}
-use Rattle.std.specs.Ordering.{nat_cmp}
-use Rattle.std.specs.Cmp.Lexicographic.{slice_cmp}
+use Rattle.std.specs.FinMap as map
 use Rattle.std.specs.FinSet as set
-use Rattle.std.proofs.lemmas.List.{append_assoc, append-nil}
-use Rattle.std.proofs.lemmas.List.Elements.{All-nil, All-cons, All-append, All-filter}
-use Rattle.std.proofs.lemmas.Option.{slice_get_past}
+use Rattle.std.proofs.lemmas.List.{append_assoc}
+use Rattle.std.proofs.lemmas.List.Elements.{All-nil, All-cons, All-append, All-filter, All-tail, All-take}
+use Rattle.std.proofs.Math.Seq.{take-append_seam}
 use Rattle.keyed_fn.specs.KeyedFn.{KeyedFn}
 use Rattle.keyed_fn.specs.KeyFormulas.{list_label, cell_pad, plus_label, plus_pad, block_pad, revocation}
 use Rattle.keyed_fn.specs.Xored.{xored}
 use Rattle.search_token.specs.TokenKeys.{TokenKeys}
-use Rattle.server_tables.specs.Contents.{NumberSet}
+use Rattle.server_tables.specs.Contents.{Contents}
+use Rattle.server_core.specs.declared.spot.Spot.{Spot}
+use Rattle.server_core.specs.declared.spot.Spot.TheVariants.{Cell, Blocks, Added}
 use Rattle.two_level.specs.Plan.{CellKind, Identifiers, DataPointers, BlockPointers}
-use Rattle.two_level.specs.Opened.{numbers_of, leading, kind_of, joined, followed, opened, listed, EndsAfter}
-use Rattle.server_core.specs.Search.{block_at, setup_ids, added_at, added_from, shown, searched}
+use Rattle.two_level.specs.Opened.{numbers_of, leading, kind_of, joined, followed, opened, listed}
+use Rattle.server_core.specs.Search.{block_at, setup_ids, added_at, added_from}
+use Rattle.server_core.specs.Coming.{pointers_from, additions_from, ids_from, coming}
 
 -- Lists joined.
 
@@ -25,83 +27,14 @@ pub joined-joined : (xs ys : List ℕ) (o : Option (List ℕ)) → joined (Some 
 joined-joined xs ys None = refl
 joined-joined xs ys (Some zs) = ap (λ l. Some l) (sym (append_assoc xs ys zs))
 
-pub joined-assoc : (a b c : Option (List ℕ)) → joined a (joined b c) ≡ joined (joined a b) c
-joined-assoc None b c = refl
-joined-assoc (Some xs) None c = refl
-joined-assoc (Some xs) (Some ys) c = joined-joined xs ys c
-
--- one piece more is found, and the rest is to come
-pub joined-more : (xs zs : List ℕ) (o rest : Option (List ℕ)) → joined (Some xs) o ≡ Some zs → joined (Some xs) (joined o rest) ≡ joined (Some zs) rest
-joined-more xs zs o rest is = joined-assoc (Some xs) o rest ∙ ap (λ front. joined front rest) is
-
--- nothing is joined to nothing alone
-pub joined-none : (xs : List ℕ) (o : Option (List ℕ)) → joined (Some xs) o ≡ None → o ≡ None
-joined-none xs None is = refl
-joined-none xs (Some ys) is = cc
-
 -- nothing is found, and nothing else is to come
 pub joined-nothing : (o : Option (List ℕ)) → joined (Some []) o ≡ o
 joined-nothing None = refl
 joined-nothing (Some xs) = refl
 
-pub joined-end : (xs : List ℕ) → joined (Some xs) (Some []) ≡ Some xs
-joined-end xs = ap (λ l. Some l) (append-nil xs)
-
--- Blocks followed.
-
-module _ (block : ℕ → ℕ → Option (List ℕ)) where
-  followed-append : (first : ℕ) (ps qs : List ℕ) → followed block first (ps ++ qs) ≡ joined (followed block first ps) (followed block (first + length ps) qs)
-  followed-append first [] qs =
-      let same : first ≡ first + 0 = omega arith in
-      ap (λ n. followed block n qs) same ∙ sym (joined-nothing (followed block (first + 0) qs))
-  followed-append first (p ∷ ps) qs =
-      let same : first + 1 + length ps ≡ first + suc (length ps) = omega arith in
-      ap (joined (option_and_then leading (block first p))) (followed-append (first + 1) ps qs ∙ ap (λ n. joined (followed block (first + 1) ps) (followed block n qs)) same)
-      ∙ joined-assoc (option_and_then leading (block first p)) (followed block (first + 1) ps) (followed block (first + suc (length ps)) qs)
-
-  -- the lower blocks from number n on, where the upper ones give these pointers and then others
-  abbrev pub lower : (n : ℕ) → Option (List ℕ) → Option (List ℕ)
-  lower n upper = option_and_then (followed block n) upper
-
-  pub lower-more : (n : ℕ) (xs zs ps : List ℕ) (later : Option (List ℕ)) → joined (Some xs) (followed block n ps) ≡ Some zs → joined (Some xs) (lower n (joined (Some ps) later)) ≡ joined (Some zs) (lower (n + length ps) later)
-  lower-more n xs zs ps None is = refl
-  lower-more n xs zs ps (Some qs) is = ap (joined (Some xs)) (followed-append n ps qs) ∙ joined-more xs zs (followed block n ps) (followed block (n + length ps) qs) is
-
-  pub lower-none : (n : ℕ) (ps : List ℕ) (later : Option (List ℕ)) → followed block n ps ≡ None → lower n (joined (Some ps) later) ≡ None
-  lower-none n ps None is = refl
-  lower-none n ps (Some qs) is = followed-append n ps qs ∙ ap (λ o. joined o (followed block (n + length ps) qs)) is
-
-  -- the list behind a cell of each kind
-  abbrev pub cell_of : (kind : ℕ) (numbers : List ℕ) → Option (List ℕ)
-  cell_of kind numbers = option_and_then (λ k. opened block k numbers) (kind_of kind)
-
-  pub opened-identifiers : (kind : ℕ) (numbers front : List ℕ) → kind ≡ 0 → leading numbers ≡ Some front → cell_of kind numbers ≡ Some front
-  opened-identifiers kind numbers front is same = ap (λ k. cell_of k numbers) is ∙ same
-
-  pub opened-data : (kind : ℕ) (numbers front : List ℕ) → kind ≡ 1 → leading numbers ≡ Some front → cell_of kind numbers ≡ followed block 0 front
-  opened-data kind numbers front is same = ap (λ k. cell_of k numbers) is ∙ ap (option_and_then (followed block 0)) same
-
-  pub opened-blocks : (kind : ℕ) (numbers front : List ℕ) → kind ≡ 2 → leading numbers ≡ Some front → cell_of kind numbers ≡ lower (length front) (followed block 0 front)
-  opened-blocks kind numbers front is same = ap (λ k. cell_of k numbers) is ∙ ap (option_and_then (λ tops. option_and_then (followed block (length tops)) (followed block 0 tops))) same
-
-  pub listed-parts : (clear : List ℕ) → 0 < length clear → listed block clear ≡ cell_of (slice_index clear 0) (numbers_of (drop 1 clear))
-  listed-parts [] some = absurd (omega arith)
-  listed-parts (kind ∷ rest) some = refl
-
-pub block_past : (f : KeyedFn) (keys : TokenKeys) (array : List (List ℕ)) (number pointer : ℕ) → length array < pointer → block_at f keys array number pointer ≡ None
-block_past f keys array number zero past = refl
-block_past f keys array number (suc place) past = ap (option_map (λ text. numbers_of (xored text (block_pad f keys.pad_key number (length text))))) (slice_get_past array place (omega arith))
-
 -- the numbers of a block that is there
 pub block_at-there : (f : KeyedFn) (keys : TokenKeys) (array : List (List ℕ)) (number pointer place : ℕ) (block : List ℕ) → pointer ≡ suc place → Some block ≡ slice_get array place → block_at f keys array number pointer ≡ Some (numbers_of (xored block (block_pad f keys.pad_key number (length block))))
 block_at-there f keys array number pointer place block is there = ap (block_at f keys array number) is ∙ ap (option_map (λ text. numbers_of (xored text (block_pad f keys.pad_key number (length text))))) (sym there)
-
-pub block_at-missing : (f : KeyedFn) (keys : TokenKeys) (array : List (List ℕ)) (number pointer place : ℕ) → pointer ≡ suc place → None ≡ slice_get array place → block_at f keys array number pointer ≡ None
-block_at-missing f keys array number pointer place is there = ap (block_at f keys array number) is ∙ ap (option_map (λ text. numbers_of (xored text (block_pad f keys.pad_key number (length text))))) (sym there)
-
--- no block is past the end of the array
-pub block_at-ends : (f : KeyedFn) (keys : TokenKeys) (array : List (List ℕ)) → EndsAfter (length array) (block_at f keys array)
-block_at-ends f keys array = record { past = block_past f keys array }
 
 -- Additions.
 
@@ -114,24 +47,12 @@ added-more f keys plus c n xs text id there is some =
     ∙ ap (λ b. joined (Some xs) (cond b None (option_map (λ ids. id ∷ ids) later))) some
     ∙ joined-joined xs (id ∷ []) later
 
--- none where its label is missing, and no list where it is 0
-pub added-missing : (f : KeyedFn) (keys : TokenKeys) (plus : List ℕ → Option (List ℕ)) (c n : ℕ) → plus (plus_label f keys.plus_label_key c) ≡ None → added_from f keys plus c (suc n) ≡ Some []
-added-missing f keys plus c n missing = ap (λ o. added_at f keys c o (added_from f keys plus (c + 1) n)) missing
-
+-- no list where it is 0
 pub added-zero : (f : KeyedFn) (keys : TokenKeys) (plus : List ℕ → Option (List ℕ)) (c n : ℕ) (text : List ℕ) → plus (plus_label f keys.plus_label_key c) ≡ Some text → from_be_bytes w64 (xored text (plus_pad f keys.plus_pad_key c)) ≡ 0 → added_from f keys plus c (suc n) ≡ None
 added-zero f keys plus c n text there zero_is =
     let later = added_from f keys plus (c + 1) n in
     ap (λ o. added_at f keys c o later) there
     ∙ ap (λ m. cond (m == 0) None (option_map (λ ids. m ∷ ids) later)) zero_is
-
--- Nothing revoked, nothing filtered out.
-
-all_shown : (f : KeyedFn) (keys : TokenKeys) (ids : List ℕ) → shown f keys (set.contains (set.empty {R = slice_cmp nat_cmp})) ids ≡ ids
-all_shown f keys [] = refl
-all_shown f keys (id ∷ ids) = rw (set.contains-empty (slice_cmp nat_cmp)) (ap (λ xs. id ∷ xs) (all_shown f keys ids))
-
-pub shown-none : (f : KeyedFn) (keys : TokenKeys) (revoked : NumberSet) (ids : List ℕ) → revoked ≡ set.empty → shown f keys (set.contains revoked) ids ≡ ids
-shown-none f keys revoked ids none = ap (λ s. shown f keys (set.contains s) ids) none ∙ all_shown f keys ids
 
 -- Each identifier that is found is above 0.
 
@@ -209,15 +130,34 @@ AllFound-added : (f : KeyedFn) (keys : TokenKeys) (plus : List ℕ → Option (L
 AllFound-added f keys plus c zero = All-nil IsPositive
 AllFound-added f keys plus c (suc n) = AllFound-added_at f keys c (plus (plus_label f keys.plus_label_key c)) (added_from f keys plus (c + 1) n) (AllFound-added f keys plus (c + 1) n)
 
-AllFound-shown : (f : KeyedFn) (keys : TokenKeys) (is_revoked : List ℕ → Bool) (first later : Option (List ℕ)) → AllFound first → AllFound later → AllFound (option_and_then (λ ids. option_map (λ more. shown f keys is_revoked (ids ++ more)) later) first)
-AllFound-shown f keys is_revoked None later hf hl = tt
-AllFound-shown f keys is_revoked (Some ids) None hf hl = tt
-AllFound-shown f keys is_revoked (Some ids) (Some more) hf hl = All-filter (λ id. not (is_revoked (revocation f keys.revocation_key id))) IsPositive (ids ++ more) (All-append IsPositive ids more hf hl)
-
 AllFound-some : (o : Option (List ℕ)) (ids : List ℕ) → o ≡ Some ids → AllFound o → All IsPositive ids
 AllFound-some None ids is h = cc
 AllFound-some (Some xs) ids is h = let same : xs ≡ ids = cc in subst (All IsPositive) same h
 
-pub All-searched : (f : KeyedFn) (keys : TokenKeys) (cell : List ℕ → Option (List ℕ)) (array : List (List ℕ)) (plus : List ℕ → Option (List ℕ)) (additions : ℕ) (is_revoked : List ℕ → Bool) (ids : List ℕ) → searched f keys cell array plus additions is_revoked ≡ Some ids → All (λ id. 0 < id) ids
-All-searched f keys cell array plus additions is_revoked ids is =
-    AllFound-some _ ids is (AllFound-shown f keys is_revoked (setup_ids f keys cell array) (added_from f keys plus 0 additions) (AllFound-setup f keys array (cell (list_label f keys.label_key))) (AllFound-added f keys plus 0 additions))
+AllFound-dropped : (block : ℕ → ℕ → Option (List ℕ)) (number at : ℕ) (o : Option (List ℕ)) → AllFound (option_and_then (λ pointers. followed block number (drop at pointers)) o)
+AllFound-dropped block number at None = tt
+AllFound-dropped block number at (Some ps) = AllFound-followed block number (drop at ps)
+
+AllFound-from : (f : KeyedFn) (keys : TokenKeys) (c : Contents) (spot : Spot) → AllFound (ids_from f keys c spot)
+AllFound-from f keys c Cell =
+    AllFound-joined (setup_ids f keys (map.get c.dictionary) c.array) (additions_from f keys c 0) (AllFound-setup f keys c.array (map.get c.dictionary (list_label f keys.label_key))) (AllFound-added f keys (map.get c.additions) 0 (map.len c.additions - 0))
+AllFound-from f keys c (Blocks top at number) =
+    AllFound-joined (option_and_then (λ pointers. followed (block_at f keys c.array) number (drop at pointers)) (pointers_from f keys c top)) (additions_from f keys c 0) (AllFound-dropped (block_at f keys c.array) number at (pointers_from f keys c top)) (AllFound-added f keys (map.get c.additions) 0 (map.len c.additions - 0))
+AllFound-from f keys c (Added n) = AllFound-added f keys (map.get c.additions) n (map.len c.additions - n)
+
+All-drop : (n : ℕ) (xs : List ℕ) → All IsPositive xs → All IsPositive (drop n xs)
+All-drop zero xs h = h
+All-drop (suc n) [] h = h
+All-drop (suc n) (x ∷ xs) h = All-drop n xs (All-tail IsPositive x xs h)
+
+AllFound-coming : (p : ℕ → Bool) (within : ℕ) (o : Option (List ℕ)) → AllFound o → AllFound (option_map (λ ids. filter p (drop within ids)) o)
+AllFound-coming p within None h = tt
+AllFound-coming p within (Some ids) h = All-filter p IsPositive (drop within ids) (All-drop within ids h)
+
+-- each identifier that a walk still gives is above 0
+pub All-coming : (f : KeyedFn) (keys : TokenKeys) (c : Contents) (spot : Spot) (within : ℕ) (rest : List ℕ) → coming f keys c spot within ≡ Some rest → All (λ id. 0 < id) rest
+All-coming f keys c spot within rest is =
+    AllFound-some _ rest is (AllFound-coming (λ id. not (set.contains c.revoked (revocation f keys.revocation_key id))) within (ids_from f keys c spot) (AllFound-from f keys c spot))
+
+pub All-front : (xs ys : List ℕ) → All (λ id. 0 < id) (xs ++ ys) → All (λ id. 0 < id) xs
+All-front xs ys h = subst (All (λ id. 0 < id)) (take-append_seam xs ys) (All-take (λ id. 0 < id) (length xs) (xs ++ ys) h)

@@ -1,8 +1,10 @@
 pub mod Holds
+pub mod Opening
 pub mod Refusal
 pub mod Search
 pub mod State
 pub mod Step
 pub mod Views
-pub mod Way
+pub mod Coming
+pub mod Walk
 pub mod Texts

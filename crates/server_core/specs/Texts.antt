@@ -2,8 +2,8 @@
 use Rattle.std.specs.Prelude.{ℕ, List, ◌++◌, codes, decimal, ◌==◌, if◌then◌else◌}
 use Rattle.server_core.specs.declared.refuse.Refuse.{Refuse}
 use Rattle.server_core.specs.declared.refuse.Refuse.TheVariants as refusing
-use Rattle.server_core.specs.declared.search_fault.SearchFault.{SearchFault}
-use Rattle.server_core.specs.declared.search_fault.SearchFault.TheVariants.{OutOfPlace, BadList, NoMemory}
+use Rattle.server_core.specs.declared.walk_fault.WalkFault.{WalkFault}
+use Rattle.server_core.specs.declared.walk_fault.WalkFault.TheVariants.{OutOfPlace, BadList}
 
 -- of a collision of this kind at this place of a frame's list
 abbrev pub clash_text : (what place : ℕ) → List ℕ
@@ -18,7 +18,6 @@ refuse_text refusing.OutOfPlace = codes "the frame is not one for the server's s
 refuse_text (refusing.Clash what place) = clash_text what place
 refuse_text refusing.NoMemory = codes "out of memory"
 
-abbrev pub search_fault_text : SearchFault → List ℕ
-search_fault_text OutOfPlace = codes "the setup is not whole"
-search_fault_text BadList = codes "what the token finds is no list"
-search_fault_text NoMemory = codes "out of memory"
+abbrev pub walk_fault_text : WalkFault → List ℕ
+walk_fault_text OutOfPlace = codes "the setup is not whole"
+walk_fault_text BadList = codes "what the token finds is no list"

@@ -1,5 +1,6 @@
 -- What a contract sees of the answers of the code, and of the memory that a frame needs.
-use Rattle.std.specs.Prelude.{ℕ, List, [], ◌∷◌, length}
+use Rattle.std.specs.Prelude.{ℕ, List, [], ◌∷◌, ◌++◌, length, take}
+use Rattle.search_token.specs.KeyedFn.{KeyedFn}
 use Rattle.sse_frames.specs.Frames.{FrameText, Hello, SetupBegin, SetupDict, SetupArray, SetupEnd, AddFrame, DeleteFrame, SearchFrame}
 use Rattle.sse_frames.specs.Replies as replies
 use Rattle.sse_frames.specs.Replies.{ReplyText, InReplies}
@@ -8,6 +9,8 @@ use Rattle.server_core.specs.declared.refuse.Refuse.TheVariants.{Number, OutOfPl
 use Rattle.server_core.specs.declared.answer.Answer.{Answer}
 use Rattle.server_core.specs.declared.answer.Answer.TheVariants as answers
 use Rattle.sse_frames.specs.Sending.{pages}
+use Rattle.server_core.specs.State.{ServerState}
+use Rattle.server_core.specs.Walk.{contents_of, rest_of, HasPage}
 use Rattle.server_tables.specs.Room as tables
 use Rattle.server_tables.specs.Room.{Room, no_room, pieces}
 
@@ -24,16 +27,22 @@ answer_of OutOfPlace = answers.OutOfPlace
 answer_of (Clash what place) = answers.Clash what place
 answer_of NoMemory = answers.NoMemory
 
--- the replies that an answer stands for, after a search with the list of what it found
-abbrev pub answer_replies : Answer → List ℕ → List ReplyText
-answer_replies (answers.Next q) ids = replies.Next q ∷ []
-answer_replies (answers.Took q) ids = replies.Took q ∷ []
-answer_replies (answers.Number next) ids = replies.Number next ∷ []
-answer_replies (answers.Clash what place) ids = replies.Clash what place ∷ []
-answer_replies answers.Found ids = pages ids
-answer_replies answers.BadList ids = replies.BadList ∷ []
-answer_replies answers.NoMemory ids = replies.NoMemory ∷ []
-answer_replies answers.OutOfPlace ids = replies.OutOfPlace ∷ []
+-- the replies that an answer stands for: those to a search begin with the identifiers that stand in the page, and the walk
+-- gives the others
+abbrev pub answer_replies : KeyedFn → ServerState → Answer → (page : List ℕ) → List ReplyText
+answer_replies f s (answers.Next q) page = replies.Next q ∷ []
+answer_replies f s (answers.Took q) page = replies.Took q ∷ []
+answer_replies f s (answers.Number next) page = replies.Number next ∷ []
+answer_replies f s (answers.Clash what place) page = replies.Clash what place ∷ []
+answer_replies f s (answers.Found count walk) page = pages (take count page ++ rest_of f (contents_of s) walk)
+answer_replies f s answers.BadList page = replies.BadList ∷ []
+answer_replies f s answers.NoMemory page = replies.NoMemory ∷ []
+answer_replies f s answers.OutOfPlace page = replies.OutOfPlace ∷ []
+
+-- where a search was begun, its walk goes on behind the page
+abbrev pub HasBegun : KeyedFn → ServerState → Answer → (page : List ℕ) → Type 0
+HasBegun f s (answers.Found count walk) page = HasPage f (contents_of s) count walk page
+HasBegun f s _ page = Unit {0}
 
 -- the numbers of an answer are in the ranges of its reply
 abbrev pub HasRange : Answer → Type 0
@@ -55,7 +64,7 @@ room_of (SearchFrame token) = no_room
 abbrev pub HasRoom : Room → FrameText → Type 0
 HasRoom room frame = tables.HasRoom room (room_of frame)
 
--- the frames for which a server takes memory: neither Hello nor those that begin and end a setup
+-- the frames for which a server takes memory: those that bring something to keep
 abbrev pub TakesMemory : FrameText → Type 0
 TakesMemory Hello = ⊥
 TakesMemory (SetupBegin q b big m a) = ⊥
@@ -64,4 +73,4 @@ TakesMemory (SetupArray q width blocks) = Unit {0}
 TakesMemory (SetupEnd q) = ⊥
 TakesMemory (AddFrame q entries numbers) = Unit {0}
 TakesMemory (DeleteFrame q numbers) = Unit {0}
-TakesMemory (SearchFrame token) = Unit {0}
+TakesMemory (SearchFrame token) = ⊥

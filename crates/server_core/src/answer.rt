@@ -1,10 +1,10 @@
 ghost use Rattle.std.specs.Prelude.{◌≡◌};
 ghost use Rattle.server_core.specs.Views.{answer_of};
 
-use crate::Refuse;
+use crate::{Refuse, Walk};
 
-/// What a server answers to a frame.
-#[derive(Clone, Copy, Debug, PartialEq, Eq)]
+/// What a server answers to a frame. It isn't shown, as the walk of a search has the word's token.
+#[derive(Clone, Copy)]
 pub enum Answer {
     /// To Hello: the number of the next update frame.
     Next(u32),
@@ -14,11 +14,11 @@ pub enum Answer {
     Number(u32),
     /// What collides and where, as in `Refuse::Clash`. Nothing has changed.
     Clash { what: u8, place: u32 },
-    /// To a search: the identifiers are in the list that was lent.
-    Found,
+    /// To a search: so many identifiers stand at the front of the page that was lent, and the walk gives the others.
+    Found { count: usize, walk: Walk },
     /// To a search: what stands under the word's labels is no list.
     BadList,
-    /// Out of memory. Nothing has changed.
+    /// To an update frame that brings something to keep: out of memory. Nothing has changed.
     NoMemory,
     /// The frame isn't one for the server's stage. Nothing has changed.
     OutOfPlace,

@@ -11,19 +11,26 @@ mod answer;
 mod blocks;
 mod entries;
 mod filling;
+mod group;
 mod numbers;
+mod pages;
+mod places;
 mod refuse;
 mod revoking;
-mod search;
-mod search_fault;
 mod server;
+mod spot;
 mod stage;
+mod walk;
+mod walk_fault;
 
 pub use answer::Answer;
 pub use refuse::Refuse;
-pub use search_fault::SearchFault;
 pub use server::Server;
 pub use stage::Stage;
+pub use walk::{First, Walk};
+pub use walk_fault::WalkFault;
 
 #[cfg(test)]
 mod tests;
+#[cfg(test)]
+mod walk_tests;

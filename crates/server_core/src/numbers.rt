@@ -1,23 +1,5 @@
-ghost use Rattle.std.specs.Prelude.{◌≡◌, ◌+◌, ◌%◌, ◌<◌, [], ◌∷◌, ◌++◌, length, OnOk, OnErr, MatchOption, Err};
+ghost use Rattle.std.specs.Prelude.{◌≡◌, ◌+◌, ◌%◌, ◌<◌, [], ◌∷◌, length, MatchOption};
 ghost use Rattle.two_level.specs.Opened.{numbers_of};
-
-use crate::SearchFault;
-
-/// Adds joined numbers of 8 bytes each, most significant byte first, behind those of `out`.
-///
-/// Errors: `NoMemory`.
-pub fn push_numbers(bytes: &[u8], out: &mut Vec<u64>) -> Result<(), SearchFault>
-    requires { length bytes.now % 8 ≡ 0 }
-    ensures ok { OnOk result (out.new.items ≡ out.old.items ++ numbers_of bytes.now) }
-    ensures err { OnErr result (result ≡ Err SearchFault.NoMemory) }
-{
-    let mut rest = bytes;
-    while let Some((number, behind)) = next_number(rest) {
-        out.push(number)?;
-        rest = behind;
-    }
-    Ok(())
-}
 
 /// The first of the joined numbers of 8 bytes, and the bytes behind it.
 pub fn next_number(bytes: &[u8]) -> Option<(u64, &[u8])>

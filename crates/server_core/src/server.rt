@@ -1,22 +1,23 @@
-ghost use Rattle.std.specs.Prelude.{◌≡◌, ◌≢◌, ℕ, List, ◌∷◌, true, ◌↔◌, [], All, Some, false, ◌==◌, ◌&&◌, nat_le, ◌+◌, ◌*◌, ◌/◌, ◌-◌, ◌^◌, ◌<◌, ◌≤◌, length, IsSome, IfSome, IsErrAnd, IsOkUnless, OnOk, OnErr, Err, None};
+ghost use Rattle.std.specs.Prelude.{◌≡◌, ◌≢◌, ℕ, List, ◌∷◌, true, ◌↔◌, [], All, Some, false, ◌==◌, ◌&&◌, nat_le, ◌+◌, ◌*◌, ◌/◌, ◌-◌, ◌^◌, ◌<◌, ◌≤◌, length, IsSome, IfSome, IsErrAnd, IsOkUnless, OnOk, OnErr, Err, None, take, ◌++◌, IfOk};
 ghost use Rattle.std.specs.FinMap as map;
 ghost use Rattle.std.specs.Option.{option_map};
 ghost use Rattle.sse_frames.specs.Frames.{InGrammar, SearchFrame, update_number};
 ghost use Rattle.sse_frames.specs.Seen.{seen, entries_in, items_in};
-ghost use Rattle.keyed_fn.specs.KeyedFn.{keyed_fn};
+ghost use Rattle.keyed_fn.specs.KeyedFn.{KeyedFn, keyed_fn};
 ghost use Rattle.server_tables.specs.Contents.{no_contents};
 ghost use Rattle.server_core.specs.Search.{found};
-ghost use Rattle.server_core.specs.State.{at_first, is_ready};
+ghost use Rattle.server_core.specs.State.{ServerState, at_first, is_ready};
 ghost use Rattle.server_core.specs.Refusal.{is_nil, in_place, clash, clash_at, refusal};
+ghost use Rattle.server_core.specs.Walk.{IsWalk, contents_of, rest_of};
 ghost use Rattle.server_core.specs.Step.{taken, answers, step};
-ghost use Rattle.server_core.specs.Views.{refuse_reply, answer_replies, HasRange, HasRoom, TakesMemory};
+ghost use Rattle.server_core.specs.Views.{refuse_reply, answer_replies, HasBegun, HasRange, HasRoom, TakesMemory};
 
 use crate::adding::{add_all, first_added};
 use crate::entries::{entry_count, item_count};
 use crate::filling::{first_known, push_blocks, put_all};
 use crate::revoking::{first_missing, first_revoked, restore_all, revoke_all};
-use crate::search::find;
-use crate::{Answer, Refuse, SearchFault, Stage};
+use crate::walk::{first_page, next_page};
+use crate::{Answer, First, Refuse, Stage, Walk, WalkFault};
 use keyed_fn::Keyed;
 use search_token::Token;
 use server_tables::Tables;
@@ -149,49 +150,65 @@ impl<T: Tables> Server<T> {
         }
     }
 
-    /// The identifiers that the token finds, into `out`, which is cleared first: those of setup, in its
-    /// order, then those added, in the order in which they came, without the deleted ones.
+    /// Opens the whole way of a search, and hands out what it gives first, as many identifiers as fit the page: those of
+    /// setup, in its order, then those added, in the order in which they came, without the deleted ones. The walk goes on
+    /// behind them. Over a page of no identifiers it only begins.
     ///
-    /// Errors: `OutOfPlace` before the setup is whole; `BadList` where what stands under the token's
-    /// labels is no list; `NoMemory`. `out` is empty after an error.
-    pub fn search<K: Keyed>(
+    /// Errors: `OutOfPlace` before the setup is whole; `BadList` where what stands under the token's labels is no list.
+    /// Takes no memory.
+    pub fn walk<K: Keyed>(
         &self,
         keyed: &K,
         token: &Token,
-        out: &mut Vec<u64>,
-    ) -> Result<(), SearchFault>
-        ensures out_of_place { (result ≡ Err SearchFault.OutOfPlace) ↔ (is_ready self.now.state.stage ≡ false) }
-        ensures list { OnOk result (found (keyed_fn K.prf K.pad) self.now.state token.now ≡ Some out.new.items) }
-        ensures ids { All (λ id. 0 < id) out.new.items }
-        ensures bad_list { result ≡ Err SearchFault.BadList → found (keyed_fn K.prf K.pad) self.now.state token.now ≡ None }
-        ensures err { OnErr result (out.new.items ≡ []) }
+        page: &mut [u64],
+    ) -> Result<First, WalkFault>
+        ensures out_of_place { (result ≡ Err WalkFault.OutOfPlace) ↔ (is_ready self.now.state.stage ≡ false) }
+        ensures bad_list { result ≡ Err WalkFault.BadList → found (keyed_fn K.prf K.pad) self.now.state token.now ≡ None }
+        ensures first { IfOk result (λ first. found (keyed_fn K.prf K.pad) self.now.state token.now ≡ Some (take first.count page.new ++ rest_of (keyed_fn K.prf K.pad) (contents_of self.now.state) first.walk)) }
+        ensures walk { IfOk result (λ first. IsWalk (keyed_fn K.prf K.pad) (contents_of self.now.state) first.walk) }
+        ensures room { IfOk result (λ first. first.count ≤ length page.new) }
+        ensures full { IfOk result (λ first. first.walk.is_over ≡ false → first.count ≡ length page.new) }
+        ensures ids { IfOk result (λ first. All (λ id. 0 < id) (take first.count page.new)) }
+        ensures long { length page.new ≡ length page.old }
     {
-        out.clear();
         if !self.stage.is_ready() {
-            return Err(SearchFault::OutOfPlace);
+            return Err(WalkFault::OutOfPlace);
         }
-        match find(&self.tables, keyed, token, out) {
-            Ok(()) => Ok(()),
-            Err(fault) => {
-                out.clear();
-                Err(fault)
-            }
+        match first_page(&self.tables, keyed, token, page) {
+            Ok(first) => Ok(first),
+            Err(_) => Err(WalkFault::BadList),
         }
     }
 
-    /// The answer to a frame: the server's step, by `prepare` and `apply`, `search` or `next`. `out` has what
-    /// a search found where the answer is `Found`.
+    /// Hands out what a walk gives next, as many identifiers as fit the page. The server is as it was when the walk began.
+    /// Takes no memory.
+    pub fn fill<K: Keyed>(&self, keyed: &K, walk: &mut Walk, page: &mut [u64]) -> usize
+        requires walk { IsWalk (keyed_fn K.prf K.pad) (contents_of self.now.state) walk.old }
+        requires some { 0 < length page.old }
+        ensures handed { rest_of (keyed_fn K.prf K.pad) (contents_of self.now.state) walk.old ≡ take result page.new ++ rest_of (keyed_fn K.prf K.pad) (contents_of self.now.state) walk.new }
+        ensures walk { IsWalk (keyed_fn K.prf K.pad) (contents_of self.now.state) walk.new }
+        ensures room { result ≤ length page.new }
+        ensures full { walk.new.is_over ≡ false → result ≡ length page.new }
+        ensures ids { All (λ id. 0 < id) (take result page.new) }
+        ensures long { length page.new ≡ length page.old }
+    {
+        next_page(&self.tables, keyed, walk, page)
+    }
+
+    /// The answer to a frame: the server's step, by `prepare` and `apply`, `walk` or `next`. After `Found` the page begins
+    /// with what the search gives first.
     ///
-    /// `NoMemory` where there is no memory, which never comes for Hello or for a frame that begins or ends
-    /// a setup, nor for one that is refused for another cause; the server's state is then as before.
-    pub fn handle<K: Keyed>(&mut self, keyed: &K, frame: &Frame<'_>, out: &mut Vec<u64>) -> Answer
+    /// `NoMemory` where there is no memory, which comes only for an update frame that brings something to keep and isn't
+    /// refused for another cause; the server's state is then as before. A search takes none.
+    pub fn handle<K: Keyed>(&mut self, keyed: &K, frame: &Frame<'_>, page: &mut [u64]) -> Answer
         requires { InGrammar (seen frame.now) }
         ensures state { result ≢ Answer.NoMemory → self.new.state ≡ (step (keyed_fn K.prf K.pad) self.old.state (seen frame.now)).0 }
-        ensures replies { result ≢ Answer.NoMemory → answer_replies result out.new.items ≡ (step (keyed_fn K.prf K.pad) self.old.state (seen frame.now)).1 }
+        ensures replies { result ≢ Answer.NoMemory → answer_replies (keyed_fn K.prf K.pad) self.new.state result page.new ≡ (step (keyed_fn K.prf K.pad) self.old.state (seen frame.now)).1 }
+        ensures begun { HasBegun (keyed_fn K.prf K.pad) self.new.state result page.new }
         ensures no_memory { result ≡ Answer.NoMemory → (self.new.state ≡ self.old.state) × TakesMemory (seen frame.now) }
         ensures memory_last { result ≡ Answer.NoMemory → refusal self.old.state (seen frame.now) ≡ None }
-        ensures ids { result ≡ Answer.Found → All (λ id. 0 < id) out.new.items }
         ensures range { HasRange result }
+        ensures long { length page.new ≡ length page.old }
     {
         match *frame {
             Frame::Hello => Answer::Next(self.next),
@@ -201,7 +218,7 @@ impl<T: Tables> Server<T> {
             Frame::SetupEnd { .. } => self.answer_update(frame),
             Frame::Add { .. } => self.answer_update(frame),
             Frame::Delete { .. } => self.answer_update(frame),
-            Frame::Search { token } => self.answer_search(keyed, token, out),
+            Frame::Search { token } => self.answer_search(keyed, token, page),
         }
     }
 
@@ -209,11 +226,11 @@ impl<T: Tables> Server<T> {
     fn answer_update(&mut self, frame: &Frame<'_>) -> Answer
         requires update { IsSome (update_number (seen frame.now)) }
         requires grammar { InGrammar (seen frame.now) }
-        ensures refused { IfSome (refusal self.old.state (seen frame.now)) (λ reply. (self.new.state ≡ self.old.state) × ((ids : List ℕ) → answer_replies result ids ≡ reply ∷ [])) }
+        ensures refused { IfSome (refusal self.old.state (seen frame.now)) (λ reply. (self.new.state ≡ self.old.state) × ((f : KeyedFn) (s : ServerState) (page : List ℕ) → answer_replies f s result page ≡ reply ∷ [])) }
         ensures taken { refusal self.old.state (seen frame.now) ≡ None → result ≢ Answer.NoMemory → (self.new.state ≡ taken self.old.state (seen frame.now)) × (Some self.old.state.next ≡ update_number (seen frame.now)) × (result ≡ Answer.Took self.old.state.next) }
         ensures no_memory { result ≡ Answer.NoMemory → (self.new.state ≡ self.old.state) × TakesMemory (seen frame.now) }
         ensures memory_last { result ≡ Answer.NoMemory → refusal self.old.state (seen frame.now) ≡ None }
-        ensures no_search { result ≢ Answer.Found }
+        ensures no_search { (f : KeyedFn) (s : ServerState) (page : List ℕ) → HasBegun f s result page }
         ensures range { HasRange result }
     {
         let q = self.next;
@@ -226,22 +243,23 @@ impl<T: Tables> Server<T> {
         }
     }
 
-    /// The answer to a search with the 160 bytes of a token; `out` has what it found.
-    fn answer_search<K: Keyed>(&self, keyed: &K, token: &[u8], out: &mut Vec<u64>) -> Answer
+    /// The answer to a search with the 160 bytes of a token; the page begins with what it gives first.
+    fn answer_search<K: Keyed>(&self, keyed: &K, token: &[u8], page: &mut [u64]) -> Answer
         requires { length token.now ≡ 160 }
-        ensures ready { is_ready self.now.state.stage ≡ true → result ≢ Answer.NoMemory → answer_replies result out.new.items ≡ answers (keyed_fn K.prf K.pad) self.now.state (SearchFrame token.now) }
+        ensures ready { is_ready self.now.state.stage ≡ true → answer_replies (keyed_fn K.prf K.pad) self.now.state result page.new ≡ answers (keyed_fn K.prf K.pad) self.now.state (SearchFrame token.now) }
         ensures not_ready { is_ready self.now.state.stage ≡ false → result ≡ Answer.OutOfPlace }
-        ensures ids { All (λ id. 0 < id) out.new.items }
+        ensures begun { HasBegun (keyed_fn K.prf K.pad) self.now.state result page.new }
+        ensures memory { result ≢ Answer.NoMemory }
         ensures range { HasRange result }
+        ensures long { length page.new ≡ length page.old }
     {
         let Some((bytes, _)) = token.split_first_chunk::<160>() else {
             return Answer::OutOfPlace;
         };
-        match self.search(keyed, &Token::from_bytes(bytes), out) {
-            Ok(()) => Answer::Found,
-            Err(SearchFault::OutOfPlace) => Answer::OutOfPlace,
-            Err(SearchFault::BadList) => Answer::BadList,
-            Err(SearchFault::NoMemory) => Answer::NoMemory,
+        match self.walk(keyed, &Token::from_bytes(bytes), page) {
+            Ok(First { count, walk }) => Answer::Found { count, walk },
+            Err(WalkFault::OutOfPlace) => Answer::OutOfPlace,
+            Err(WalkFault::BadList) => Answer::BadList,
         }
     }
 

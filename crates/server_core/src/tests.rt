@@ -41,24 +41,36 @@ const DELETE_ONCE: &[u8] =
 const DELETE_TAKEN: &[u8] =
     b"\x00\x00\x00\x17\x07\x00\x00\x00\x07\x00\x01\xef\xf1\xf3\xf5\xf7\xf9\xfb\xfd\xff\x01\x03\x05\x07\x09\x0b\x0d";
 
+/// What is wanted of an answer, a search's with its identifiers.
+#[derive(Clone, Copy, Debug, PartialEq, Eq)]
+enum Wanted<'a> {
+    Next(u32),
+    Took(u32),
+    Number(u32),
+    Clash { what: u8, place: u32 },
+    Found(&'a [u64]),
+    BadList,
+    OutOfPlace,
+}
+
 // What a new server answers to frames in a row.
-const WHOLE: [(&[u8], Answer); 16] = [
-    (SEARCH, Answer::OutOfPlace),
-    (HELLO, Answer::Next(0)),
-    (BEGIN, Answer::Took(0)),
-    (ARRAY_EARLY, Answer::OutOfPlace),
-    (DICT, Answer::Took(1)),
-    (END, Answer::Took(2)),
-    (BEGIN, Answer::Number(3)),
-    (DELETE, Answer::Number(3)),
-    (ADD, Answer::Took(3)),
-    (ADD, Answer::Number(4)),
-    (DELETE, Answer::Took(4)),
-    (ADD_AGAIN, Answer::Took(5)),
-    (ADD_TAKEN, Answer::Clash { what: 2, place: 0 }),
-    (DELETE_ONCE, Answer::Took(6)),
-    (DELETE_TAKEN, Answer::Clash { what: 3, place: 0 }),
-    (SEARCH, Answer::Found),
+const WHOLE: [(&[u8], Wanted<'static>); 16] = [
+    (SEARCH, Wanted::OutOfPlace),
+    (HELLO, Wanted::Next(0)),
+    (BEGIN, Wanted::Took(0)),
+    (ARRAY_EARLY, Wanted::OutOfPlace),
+    (DICT, Wanted::Took(1)),
+    (END, Wanted::Took(2)),
+    (BEGIN, Wanted::Number(3)),
+    (DELETE, Wanted::Number(3)),
+    (ADD, Wanted::Took(3)),
+    (ADD, Wanted::Number(4)),
+    (DELETE, Wanted::Took(4)),
+    (ADD_AGAIN, Wanted::Took(5)),
+    (ADD_TAKEN, Wanted::Clash { what: 2, place: 0 }),
+    (DELETE_ONCE, Wanted::Took(6)),
+    (DELETE_TAKEN, Wanted::Clash { what: 3, place: 0 }),
+    (SEARCH, Wanted::Found(&[1])),
 ];
 
 // A setup with one block, and the block: it points to itself once it is decrypted as the list's first block.
@@ -87,47 +99,63 @@ const TO_ITSELF: &[u8] =
     b"\x00\x00\x00\x22\x03\x00\x00\x00\x01\x00\x09\x00\x01\xc3\xc5\xc7\xc9\xcb\xcd\xcf\xd1\xd3\xd5\xd7\xd9\xdb\xdd\xdf\xe1\xc6\xc5\xc6\xc7\xc8\xc9\xca\xcb\xcd";
 
 /// A setup of this dictionary frame, and a search that gets this answer.
-fn setup(dict: &'static [u8], answer: Answer) -> [(&'static [u8], Answer); 4] {
+fn setup(dict: &'static [u8], answer: Wanted<'static>) -> [(&'static [u8], Wanted<'static>); 4] {
     [
-        (BEGIN, Answer::Took(0)),
-        (dict, Answer::Took(1)),
-        (END, Answer::Took(2)),
+        (BEGIN, Wanted::Took(0)),
+        (dict, Wanted::Took(1)),
+        (END, Wanted::Took(2)),
         (SEARCH, answer),
     ]
 }
 
-const SELF: [(&[u8], Answer); 5] = [
-    (BEGIN_BLOCK, Answer::Took(0)),
-    (TO_ITSELF, Answer::Took(1)),
-    (ARRAY, Answer::Took(2)),
-    (END_BLOCK, Answer::Took(3)),
-    (SEARCH, Answer::Found),
+const SELF: [(&[u8], Wanted<'static>); 5] = [
+    (BEGIN_BLOCK, Wanted::Took(0)),
+    (TO_ITSELF, Wanted::Took(1)),
+    (ARRAY, Wanted::Took(2)),
+    (END_BLOCK, Wanted::Took(3)),
+    (SEARCH, Wanted::Found(&[0x0301_0f01_0301_0700])),
 ];
 
-/// Whether a new server gives these answers to frames in a row, and has found these at the end.
-fn answers(rt: &impl Abort, alloc: Global, frames: &[(&[u8], Answer)], wanted: &[u64]) {
-    let mut server = Server::new(SortedTables::new(alloc));
-    let mut found = Vec::new(alloc);
-    for (bytes, answer) in frames {
-        let Ok(Some((frame, _))) = read_frame(bytes) else {
-            panic!(rt; "no frame")
-        };
-        assert_eq!(rt; server.handle(&Toy, &frame, &mut found), *answer);
+/// Whether a server gives this answer to a frame.
+fn answers(rt: &impl Abort, server: &mut Server<SortedTables>, bytes: &[u8], wanted: Wanted<'_>) {
+    let Ok(Some((frame, _))) = read_frame(bytes) else {
+        panic!(rt; "no frame")
+    };
+    let mut page = [0; 2];
+    match server.handle(&Toy, &frame, &mut page) {
+        Answer::Next(q) => assert_eq!(rt; Wanted::Next(q), wanted),
+        Answer::Took(q) => assert_eq!(rt; Wanted::Took(q), wanted),
+        Answer::Number(next) => assert_eq!(rt; Wanted::Number(next), wanted),
+        Answer::Clash { what, place } => assert_eq!(rt; Wanted::Clash { what, place }, wanted),
+        Answer::Found { count, walk } => {
+            assert!(rt; walk.is_over());
+            assert_eq!(rt; Wanted::Found(&page[..count]), wanted)
+        }
+        Answer::BadList => assert_eq!(rt; Wanted::BadList, wanted),
+        Answer::NoMemory => panic!(rt; "out of memory"),
+        Answer::OutOfPlace => assert_eq!(rt; Wanted::OutOfPlace, wanted),
     }
-    assert_eq!(rt; found.as_slice(), wanted);
+}
+
+/// Whether a new server gives these answers to frames in a row.
+fn are_answered(rt: &impl Abort, alloc: Global, frames: &[(&[u8], Wanted<'_>)]) {
+    let mut server = Server::new(SortedTables::new(alloc));
+    for (bytes, wanted) in frames {
+        answers(rt, &mut server, bytes, *wanted);
+    }
 }
 
 /// A setup, a search, an addition and a deletion, and what is refused between them.
 #[test]
 fn a_whole_connection_is_answered(rt: HostRuntime) {
-    answers(&rt, rt.alloc(), &WHOLE, &[1]);
+    are_answered(&rt, rt.alloc(), &WHOLE);
 }
 
 /// Cells of an unknown kind, of a block that is not there, of nothing, and of a block that points to itself.
 #[test]
 fn cells_that_nobody_made_are_answered(rt: HostRuntime) {
-    answers(&rt, rt.alloc(), &setup(UNKNOWN, Answer::BadList), &[]);
-    answers(&rt, rt.alloc(), &setup(NO_BLOCK, Answer::BadList), &[]);
-    answers(&rt, rt.alloc(), &setup(NOTHING, Answer::Found), &[]);
-    answers(&rt, rt.alloc(), &SELF, &[0x0301_0f01_0301_0700]);
+    are_answered(&rt, rt.alloc(), &setup(UNKNOWN, Wanted::BadList));
+    are_answered(&rt, rt.alloc(), &setup(NO_BLOCK, Wanted::BadList));
+    are_answered(&rt, rt.alloc(), &setup(NOTHING, Wanted::Found(&[])));
+    are_answered(&rt, rt.alloc(), &SELF);
 }

@@ -1,4 +1,4 @@
-use crate::searches::{SEARCH, hand, set_up};
+use crate::searches::{PAGE, SEARCH, SHORT, find, hand, set_up};
 use crate::tables::Labels;
 use keyed_fn::Real;
 use search_token::Token;
@@ -17,9 +17,9 @@ const ONE_ENTRY: &[u8] = b"\x00\x01\x00\x00";
 /// Adds an identifier to each of 10,000 words, then additions of other words until there are so many, and searches so
 /// often, for one of the words after another. How many were found in all, modulo 2^64.
 pub(crate) fn search(alloc: Global, additions: u64, turns: u64) -> Result<u64, AllocError> {
-    let mut found = Vec::new(alloc);
+    let mut page = [0u64; PAGE];
     let mut server = Server::new(BucketTables::new(alloc));
-    set_up(alloc, &token(WORDS), &mut server, &mut found)?;
+    set_up(alloc, &token(WORDS), SHORT, &mut server, &mut page)?;
     let mut bytes = Vec::new(alloc);
     for number in 0..additions {
         let (label, sealed) = entry(number);
@@ -29,15 +29,14 @@ pub(crate) fn search(alloc: Global, additions: u64, turns: u64) -> Result<u64, A
         bytes.extend_from_slice(ONE_ENTRY)?;
         bytes.extend_from_slice(&label)?;
         bytes.extend_from_slice(&sealed)?;
-        hand(&mut server, &bytes, &mut found);
+        hand(&mut server, &bytes, &mut page);
     }
     let mut sum = 0u64;
     for turn in 0..turns {
         bytes.clear();
         bytes.extend_from_slice(SEARCH)?;
         bytes.extend_from_slice(&token(turn % WORDS).to_bytes())?;
-        hand(&mut server, &bytes, &mut found);
-        sum = sum.wrapping_add(found.len() as u64);
+        sum = sum.wrapping_add(find(&Real, &mut server, &bytes, &mut page));
     }
     Ok(sum)
 }

@@ -1,3 +1,4 @@
+use crate::searches::{LONG, SHORT};
 use crate::tables::{Labels, fill, fill_plain};
 use crate::{additions, searches};
 use keyed_fn::{Keyed, PreparedKey, Real, xor_pad};
@@ -8,7 +9,7 @@ use std::alloc::Global;
 /// The names of all rows.
 pub(crate) const NAMES: &str =
     "prepared raw digests short_pads cell_pads block_pads sorted buckets alike plain searches revoked calls revoked_calls \
-    behind_few behind_many";
+    pages revoked_pages page_calls revoked_page_calls behind_few behind_many";
 
 /// The key of the rows of keyed calls, 32 bytes.
 const KEY: [u8; 32] = [7; 32];
@@ -44,6 +45,14 @@ pub(crate) enum Row {
     Calls,
     /// Those of the second.
     RevokedCalls,
+    /// A search for 2^20 identifiers, of which none is revoked.
+    Pages,
+    /// The same where a tenth is.
+    RevokedPages,
+    /// The keyed calls of the first of these searches.
+    PageCalls,
+    /// Those of the second.
+    RevokedPageCalls,
     /// A search for one identifier, which was added, where the server has 10^4 additions.
     BehindFew,
     /// The same where it has 10^6.
@@ -81,6 +90,14 @@ impl Row {
             Some(Row::Calls)
         } else if name == "revoked_calls" {
             Some(Row::RevokedCalls)
+        } else if name == "pages" {
+            Some(Row::Pages)
+        } else if name == "revoked_pages" {
+            Some(Row::RevokedPages)
+        } else if name == "page_calls" {
+            Some(Row::PageCalls)
+        } else if name == "revoked_page_calls" {
+            Some(Row::RevokedPageCalls)
         } else if name == "behind_few" {
             Some(Row::BehindFew)
         } else if name == "behind_many" {
@@ -99,10 +116,14 @@ impl Row {
             Row::Buckets => fill(&mut BucketTables::new(alloc), Labels::Spread, turns),
             Row::Alike => fill(&mut BucketTables::new(alloc), Labels::Alike, turns),
             Row::Plain => Ok(fill_plain(alloc, Labels::Spread, turns)?),
-            Row::Searches => Ok(searches::search(alloc, false, turns)?),
-            Row::Revoked => Ok(searches::search(alloc, true, turns)?),
-            Row::Calls => Ok(searches::calls(false, turns)),
-            Row::RevokedCalls => Ok(searches::calls(true, turns)),
+            Row::Searches => Ok(searches::search(alloc, SHORT, false, turns)?),
+            Row::Revoked => Ok(searches::search(alloc, SHORT, true, turns)?),
+            Row::Calls => Ok(searches::calls(SHORT, false, turns)),
+            Row::RevokedCalls => Ok(searches::calls(SHORT, true, turns)),
+            Row::Pages => Ok(searches::search(alloc, LONG, false, turns)?),
+            Row::RevokedPages => Ok(searches::search(alloc, LONG, true, turns)?),
+            Row::PageCalls => Ok(searches::calls(LONG, false, turns)),
+            Row::RevokedPageCalls => Ok(searches::calls(LONG, true, turns)),
             Row::BehindFew => Ok(additions::search(alloc, 10_000, turns)?),
             Row::BehindMany => Ok(additions::search(alloc, 1_000_000, turns)?),
         }

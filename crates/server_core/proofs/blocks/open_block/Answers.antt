@@ -1,4 +1,4 @@
-use Rattle.std.proofs.Common.{◌≡◌, ◌*◌, ◌-◌, ◌%◌, length, take, Some, refl, sym, ap, ◌∙◌, arith}
+use Rattle.std.proofs.Common.{◌≡◌, ◌*◌, ◌-◌, ◌%◌, length, take, Some, sym, ap, ◌∙◌, arith}
 use Rattle.std.specs.Prelude.{option_and_then}
 use Rattle.std.proofs.lemmas.List.{take-append-le}
 use Rattle.keyed_fn.specs.KeyedFn.{keyed_fn}
@@ -7,15 +7,9 @@ use Rattle.keyed_fn.specs.Xored.{xored}
 use Rattle.std.proofs.lemmas.List.FromFn.{length-map-range_with_len}
 use Rattle.list_packing.proofs.NumbersLemmas.{numbers_of-take}
 use Rattle.two_level.specs.Opened.{numbers_of, leading}
-use Rattle.server_core.specs.Search.{block_at}
 use Rattle.server_core.proofs.CellLemmas.{IsBlock-at}
 use Rattle.server_core.proofs.SearchLemmas.{block_at-there}
 use Rattle.server_core.proofs.blocks.open_block.Goals as goal
-
-pub returns-then-pointer-eq0-clause-bad_list : goal.returns-then-pointer-eq0-clause-bad_list
-returns-then-pointer-eq0-clause-bad_list g c =
-    let f = keyed_fn g.K.Keyed.prf g.K.Keyed.pad in
-    (refl, ap (λ p. option_and_then leading (block_at f c.args.token.now (g.T.Tables.contents c.args.tables.now).array c.args.number p)) c.if-pointer-eq0.true)
 
 pub slice_bounds-opened-end : goal.slice_bounds-opened-end
 slice_bounds-opened-end g c =
