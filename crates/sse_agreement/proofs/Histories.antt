@@ -16,11 +16,11 @@ use Rattle.client_registry.specs.Over.{over}
 use Rattle.client_registry.specs.Run.{Run, History, at_first}
 use Rattle.client_registry.specs.Setup.{Setup, setup_list}
 use Rattle.client_registry.specs.Sized.{IsHistory}
+use Rattle.sse_frames.specs.Exchange.{replied}
 use Rattle.sse_frames.specs.Replies.{Next, IsIdentifier}
 use Rattle.sse_model.proofs.Exchanging.{replied-setup, replied-commands}
 use Rattle.sse_model.proofs.HistoryLaws.{frames_sent-run}
 use Rattle.sse_model.proofs.Prefixes.{frames_by}
-use Rattle.sse_model.specs.Exchange.{replied}
 use Rattle.sse_model.specs.Histories.{table_of, frames_sent, HasNoCollision}
 use Rattle.sse_model.specs.Names.{Table}
 use Rattle.sse_model.specs.Wire.{acknowledgements}

@@ -9,16 +9,16 @@ use Rattle.server_core.specs.State.{ServerState}
 use Rattle.sse_link.specs.declared.due.Due.{Due}
 use Rattle.sse_link.specs.declared.due.Due.TheVariants as dues
 use Rattle.sse_link.specs.declared.fail.Fail.{Fail}
-use Rattle.sse_link.specs.declared.mark.Mark.{Mark}
+use Rattle.link_events.specs.declared.mark.Mark.{Mark}
 use Rattle.sse_link.specs.Due.{waiting, IsDue}
-use Rattle.sse_link.specs.Events.{Event, Sent, Received, IsKnown, AreKnown}
+use Rattle.link_events.specs.Events.{Event, Sent, Received, IsKnown, AreKnown}
 use Rattle.sse_link.specs.Failing.{listed_at, FailsSend}
 use Rattle.sse_link.specs.Marks.{mark_of}
-use Rattle.sse_link.specs.Served.{Served, Answers, IsServed, idle}
+use Rattle.link_events.specs.Served.{Served, Answers, IsServed, idle}
 use Rattle.sse_frames.specs.Frames.{IsFrame}
 use Rattle.sse_link.specs.Steady.{IsSteady}
 use Rattle.sse_link.specs.Told.{Told, IsSent, IsLost}
-use Rattle.sse_link.proofs.Honest.{IsServed-sent, IsServed-received, IsServed-dropped}
+use Rattle.link_events.proofs.Honest.{IsServed-sent, IsServed-received, IsServed-dropped}
 
 known_sent : (events : List Event) (bytes : List ℕ) (mark : Mark) → AreKnown events → IsKnown mark → AreKnown (events ++ Sent bytes mark ∷ [])
 known_sent [] bytes mark known one = (one, tt)
@@ -36,21 +36,21 @@ IsKnown-mark_of (dues.Single replies.NoMemory) = tt
 IsKnown-mark_of _ = tt
 
 -- a frame that was answered
-pub steady_sent : (f : KeyedFn) (events : List Event) (began before after : ServerState) (due due' : Due) (found found' bytes : List ℕ) → IsSteady f events began before due found → (sent : IsFrame bytes) → IsDue due' found'
-    → Answers f before sent.frame (mark_of due') after (map reply_bytes (waiting due' found')) → IsSteady f (events ++ Sent bytes (mark_of due') ∷ []) began after due' found'
-steady_sent f events began before after due due' found found' bytes steady sent writable answered = record {
+pub steady_sent : (f : KeyedFn) (events : List Event) (began before after : ServerState) (due due' : Due) (page page' bytes : List ℕ) → IsSteady f events began before due page → (sent : IsFrame bytes) → IsDue f after due' page'
+    → Answers f before sent.frame (mark_of due') after (map reply_bytes (waiting f after due' page')) → IsSteady f (events ++ Sent bytes (mark_of due') ∷ []) began after due' page'
+steady_sent f events began before after due due' page page' bytes steady sent writable answered = record {
   writable = writable;
   known = known_sent events bytes (mark_of due') steady.known (IsKnown-mark_of due');
-  honest = IsServed-sent f (idle began) (record { state = before; due = map reply_bytes (waiting due found) }) (record { state = after; due = map reply_bytes (waiting due' found') }) events bytes (mark_of due') steady.honest (record { sent = sent; answered = answered });
+  honest = IsServed-sent f (idle began) (record { state = before; due = map reply_bytes (waiting f before due page) }) (record { state = after; due = map reply_bytes (waiting f after due' page') }) events bytes (mark_of due') steady.honest (record { sent = sent; answered = answered });
 }
 
 -- a reply that was received
-pub steady_received : (f : KeyedFn) (events : List Event) (began state : ServerState) (due due' : Due) (found bytes : List ℕ) → IsSteady f events began state due found → IsDue due' found
-    → map reply_bytes (waiting due found) ≡ bytes ∷ map reply_bytes (waiting due' found) → IsSteady f (events ++ Received bytes ∷ []) began state due' found
-steady_received f events began state due due' found bytes steady writable first = record {
+pub steady_received : (f : KeyedFn) (events : List Event) (began state : ServerState) (due due' : Due) (page page' bytes : List ℕ) → IsSteady f events began state due page → IsDue f state due' page'
+    → map reply_bytes (waiting f state due page) ≡ bytes ∷ map reply_bytes (waiting f state due' page') → IsSteady f (events ++ Received bytes ∷ []) began state due' page'
+steady_received f events began state due due' page page' bytes steady writable first = record {
   writable = writable;
   known = known_received events bytes steady.known;
-  honest = IsServed-received f (idle began) (record { state = state; due = map reply_bytes (waiting due found) }) events bytes _ steady.honest first;
+  honest = IsServed-received f (idle began) (record { state = state; due = map reply_bytes (waiting f state due page) }) events bytes _ steady.honest first;
 }
 
 -- where a link is cut, the replies that wait are dropped

@@ -1,5 +1,3 @@
-pub mod Honest
 pub mod Pages
 mod Handled
 mod Kept
-mod Rows

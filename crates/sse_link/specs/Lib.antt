@@ -1,9 +1,6 @@
-pub mod Events
 pub mod Due
 pub mod Marks
-pub mod Passed
 pub mod Recorded
-pub mod Served
 pub mod Told
 pub mod Counts
 pub mod Steady

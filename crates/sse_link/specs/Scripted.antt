@@ -2,7 +2,7 @@
 use Rattle.std.specs.Prelude.{ℕ, ◌+◌, Bool, ◌||◌, List, length, take, Option, Some, None, nat_lt, ◌==◌, if◌then◌else◌, refl}
 use Rattle.std.specs.Int.{w32, from_be_bytes}
 use Rattle.std.specs.Coded.{Coded, code_by, coded×, coded_list, coded_ℕ, coded_bool}
-use Rattle.sse_link.specs.Events.{Event, events_code}
+use Rattle.link_events.specs.Events.{Event, events_code}
 
 -- how many bytes the reply in front has, its four length bytes among them: these four where the length is out of range,
 -- and None where the bytes end inside it

@@ -3,9 +3,9 @@ use Rattle.std.specs.Prelude.{◌≡◌, ℕ, List, [], ◌∷◌, ◌++◌, ref
 use Rattle.std.specs.Coded.{Coded, code_by, coded×, coded_list, coded_ℕ}
 use Rattle.keyed_fn.specs.KeyedFn.{KeyedFn}
 use Rattle.server_core.specs.State.{ServerState, state_code}
-use Rattle.sse_link.specs.declared.mark.Mark.{Mark}
-use Rattle.sse_link.specs.Events.{Event, Sent, Received, IsKnown, events_code}
-use Rattle.sse_link.specs.Served.{Served, Serves}
+use Rattle.link_events.specs.declared.mark.Mark.{Mark}
+use Rattle.link_events.specs.Events.{Event, Sent, Received, IsKnown, events_code}
+use Rattle.link_events.specs.Served.{Served, Serves}
 
 -- all that passed, the server at its other end as it was before and as it is now, and the replies that wait
 pub record Told : Type 0 where

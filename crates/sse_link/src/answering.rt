@@ -6,11 +6,11 @@ ghost use Rattle.server_core.specs.Refusal.{is_nil};
 ghost use Rattle.sse_link.specs.BadFrames.{bad_reason, IsNoFrame};
 ghost use Rattle.sse_link.specs.Due.{waiting, IsDue};
 ghost use Rattle.sse_link.specs.Marks.{mark_of};
-ghost use Rattle.sse_link.specs.Served.{Answers};
+ghost use Rattle.link_events.specs.Served.{Answers};
 ghost use Rattle.sse_frames.specs.Frames.{IsFrame};
 
 use crate::Due;
-use crate::due::due_of;
+use crate::due::{FULL_PAGE, due_of};
 use crate::whole::whole_frame;
 use keyed_fn::Keyed;
 use server_core::Server;
@@ -21,22 +21,22 @@ use sse_frames::Reply;
 /// step or out of memory. Bytes that aren't leave the server as it is, and have the one reply that says why: reason 1
 /// for a length that is out of range or isn't that of the bytes, 2 for an unknown kind, 3 for another field.
 ///
-/// `found` has the identifiers that the replies to a search are made of.
+/// The page has the identifiers of the first reply to a search. Only an update frame takes memory.
 pub fn answer_bytes<K: Keyed, T: Tables>(
     keyed: &K,
     server: &mut Server<T>,
     bytes: &[u8],
-    found: &mut Vec<u64>,
+    page: &mut [u64; FULL_PAGE],
 ) -> Due
     ensures frame { (sent : IsFrame bytes.now) →
-        Answers (keyed_fn K.prf K.pad) server.old.state sent.frame (mark_of result) server.new.state (map reply_bytes (waiting result found.new.items)) }
+        Answers (keyed_fn K.prf K.pad) server.old.state sent.frame (mark_of result) server.new.state (map reply_bytes (waiting (keyed_fn K.prf K.pad) server.new.state result page.new)) }
     ensures bad_state { IsNoFrame bytes.now → server.new.state ≡ server.old.state }
-    ensures bad_reply { IsNoFrame bytes.now → waiting result found.new.items ≡ BadFrame (bad_reason (frame_outcome bytes.now)) ∷ [] }
-    ensures some { is_nil (waiting result found.new.items) ≡ false }
-    ensures due { IsDue result found.new.items }
+    ensures bad_reply { IsNoFrame bytes.now → waiting (keyed_fn K.prf K.pad) server.new.state result page.new ≡ BadFrame (bad_reason (frame_outcome bytes.now)) ∷ [] }
+    ensures some { is_nil (waiting (keyed_fn K.prf K.pad) server.new.state result page.new) ≡ false }
+    ensures due { IsDue (keyed_fn K.prf K.pad) server.new.state result page.new }
 {
     match whole_frame(bytes) {
-        Ok(frame) => due_of(server.handle(keyed, &frame, found)),
+        Ok(frame) => due_of(server.handle(keyed, &frame, page)),
         Err(reason) => Due::Single(Reply::BadFrame(reason)),
     }
 }

@@ -1,27 +1,31 @@
-ghost use Rattle.std.specs.Prelude.{◌≡◌, ◌≢◌, ◌↔◌, ◌∷◌, ◌≤◌, ◌<◌, true, false, All, IsTrue, ℕ, List, [], not, length, take, map};
-ghost use Rattle.sse_frames.specs.Replies.{Page, StoreFault, IsPage, reply_bytes};
-ghost use Rattle.server_core.specs.Refusal.{is_nil};
-ghost use Rattle.server_core.specs.Views.{answer_replies, HasRange};
-ghost use Rattle.sse_link.specs.declared.mark.Mark.TheVariants.{Stepped, LackedMemory};
-ghost use Rattle.sse_link.specs.Due.{waiting, IsOpenPage, IsDue};
+ghost use Rattle.std.specs.Prelude.{◌≡◌, ◌≢◌, ◌↔◌, ◌≤◌, ◌<◌, ℕ, false, not, List, length, take, All, IsTrue, IfSome};
+ghost use Rattle.keyed_fn.specs.KeyedFn.{KeyedFn, keyed_fn};
+ghost use Rattle.sse_frames.specs.Replies.{Page, StoreFault, reply_bytes};
+ghost use Rattle.server_core.specs.State.{ServerState};
+ghost use Rattle.server_core.specs.Views.{answer_replies, HasRange, HasBegun};
+ghost use Rattle.link_events.specs.declared.mark.Mark.TheVariants.{Stepped, LackedMemory};
+ghost use Rattle.sse_link.specs.Due.{waiting, first_of, behind_first, is_more, IsOpenPage, IsDue, CanWrite};
 ghost use Rattle.sse_link.specs.Marks.{mark_of};
 
 use crate::Mark;
-use server_core::Answer;
-use sse_frames::{PAGE_LEN, Reply, write_page, write_reply};
+use keyed_fn::Keyed;
+use server_core::{Answer, Server, Walk};
+use server_tables::Tables;
+use sse_frames::{Reply, write_page, write_reply};
 
 /// The identifiers of a page that isn't the last.
-const FULL_PAGE: usize = PAGE_LEN as usize;
+pub const FULL_PAGE: usize = 8192;
 
-/// The replies that wait to be received. The identifiers that a search found stand beside them.
-#[derive(Clone, Copy, Debug)]
+/// The replies that wait to be received. Beside them stands a page, which begins with the identifiers of the first one
+/// of a search.
+#[derive(Clone, Copy)]
 pub enum Due {
     /// No reply.
     Nothing,
     /// One reply, which isn't a page.
     Single(Reply<'static>),
-    /// The pages of what a search found, from this place of the list on.
-    Pages { from: usize },
+    /// The pages of a search: the first has so many identifiers, and the walk gives those of the others.
+    Pages { count: usize, walk: Walk },
 }
 
 impl Due {
@@ -35,33 +39,51 @@ impl Due {
         }
     }
 
-    /// Writes the first of the replies that wait at the front of `out`, and says how many bytes it has, and
-    /// what waits then.
-    pub fn write_first(&self, found: &[u64], out: &mut [u8]) -> (usize, Due)
-        requires due { IsDue self.now found.now }
-        requires some { waiting self.now found.now ≢ [] }
+    /// Writes the first of the replies that wait at the front of `out`, and says how many bytes it has.
+    pub fn write_first(&self, page: &[u64; FULL_PAGE], out: &mut [u8]) -> usize
+        requires due { CanWrite self.now page.now }
         requires room { 65544 ≤ length out.old }
-        ensures reply { map reply_bytes (waiting self.now found.now) ≡ take result.0 out.new ∷ map reply_bytes (waiting result.1 found.now) }
-        ensures due { IsDue result.1 found.now }
-        ensures open { IsTrue (not (is_nil (waiting result.1 found.now))) ↔ IsOpenPage (take result.0 out.new) }
-        ensures no_fault { take result.0 out.new ≢ reply_bytes StoreFault }
-        ensures least { 4 ≤ result.0 }
-        ensures most { result.0 ≤ 65544 }
+        ensures reply { IfSome (first_of self.now page.now) (λ reply. take result out.new ≡ reply_bytes reply) }
+        ensures open { IsTrue (is_more self.now) ↔ IsOpenPage (take result out.new) }
+        ensures no_fault { take result out.new ≢ reply_bytes StoreFault }
+        ensures least { 4 ≤ result }
+        ensures most { result ≤ 65544 }
     {
         match *self {
-            Due::Nothing => (4, Due::Nothing),
-            Due::Single(reply) => (write_reply(&reply, out), Due::Nothing),
-            Due::Pages { from } => write_pages(from, found, out),
+            Due::Nothing => 4,
+            Due::Single(reply) => write_reply(&reply, out),
+            Due::Pages { count, walk } => write_ids(walk.is_over(), &page[..count], out),
         }
+    }
+
+    /// What waits behind the first reply: where it is a page that isn't the last, the next page, whose identifiers come
+    /// to the front of `page`. Takes no memory.
+    pub fn behind_first<K: Keyed, T: Tables>(
+        &self,
+        keyed: &K,
+        server: &Server<T>,
+        page: &mut [u64; FULL_PAGE],
+    ) -> Due
+        requires { IsDue (keyed_fn K.prf K.pad) server.now.state self.now page.old }
+        ensures waits { waiting (keyed_fn K.prf K.pad) server.now.state result page.new ≡ behind_first (keyed_fn K.prf K.pad) server.now.state self.now }
+        ensures due { IsDue (keyed_fn K.prf K.pad) server.now.state result page.new }
+    {
+        let Due::Pages { mut walk, .. } = *self else {
+            return Due::Nothing;
+        };
+        if walk.is_over() {
+            return Due::Nothing;
+        }
+        let count = server.fill(keyed, &mut walk, page);
+        Due::Pages { count, walk }
     }
 }
 
 /// The replies of an answer.
 pub(crate) fn due_of(answer: Answer) -> Due
     requires { HasRange answer }
-    ensures replies { (ids : List ℕ) → waiting result ids ≡ answer_replies answer ids }
-    ensures single { (ids : List ℕ) → answer ≢ Answer.Found → IsDue result ids }
-    ensures pages { answer ≡ Answer.Found → result ≡ Due.Pages 0 }
+    ensures replies { (f : KeyedFn) (s : ServerState) (page : List ℕ) → waiting f s result page ≡ answer_replies f s answer page }
+    ensures due { (f : KeyedFn) (s : ServerState) (page : List ℕ) → HasBegun f s answer page → IsDue f s result page }
     ensures stepped { answer ≢ Answer.NoMemory → mark_of result ≡ Stepped }
     ensures lacked { answer ≡ Answer.NoMemory → mark_of result ≡ LackedMemory }
 {
@@ -70,59 +92,24 @@ pub(crate) fn due_of(answer: Answer) -> Due
         Answer::Took(q) => Due::Single(Reply::Took(q)),
         Answer::Number(next) => Due::Single(Reply::Number(next)),
         Answer::Clash { what, place } => Due::Single(Reply::Clash { what, place }),
-        Answer::Found => Due::Pages { from: 0 },
+        Answer::Found { count, walk } => Due::Pages { count, walk },
         Answer::BadList => Due::Single(Reply::BadList),
         Answer::NoMemory => Due::Single(Reply::NoMemory),
         Answer::OutOfPlace => Due::Single(Reply::OutOfPlace),
     }
 }
 
-/// The first of the pages that wait from a place on.
-fn write_pages(from: usize, found: &[u64], out: &mut [u8]) -> (usize, Due)
-    requires due { IsDue (Due.Pages from) found.now }
-    requires room { 65544 ≤ length out.old }
-    ensures reply { map reply_bytes (waiting (Due.Pages from) found.now) ≡ take result.0 out.new ∷ map reply_bytes (waiting result.1 found.now) }
-    ensures due { IsDue result.1 found.now }
-    ensures open { IsTrue (not (is_nil (waiting result.1 found.now))) ↔ IsOpenPage (take result.0 out.new) }
-    ensures no_fault { take result.0 out.new ≢ reply_bytes StoreFault }
-    ensures least { 4 ≤ result.0 }
-    ensures most { result.0 ≤ 65544 }
-{
-    let (_, rest) = found.split_at(from);
-    if rest.len() > FULL_PAGE {
-        let n = write_open_page(rest, out);
-        return (
-            n,
-            Due::Pages {
-                from: from + FULL_PAGE,
-            },
-        );
-    }
-    (write_last_page(rest, out), Due::Nothing)
-}
-
-/// A full page of the first identifiers, behind which more follow.
-fn write_open_page(ids: &[u64], out: &mut [u8]) -> usize
+/// The page of these identifiers, which is the last one or not.
+fn write_ids(is_last: bool, ids: &[u64], out: &mut [u8]) -> usize
+    requires most { length ids.now ≤ 8192 }
+    requires full { is_last ≡ false → length ids.now ≡ 8192 }
     requires ids { All (λ id. 0 < id) ids.now }
-    requires more { 8192 < length ids.now }
     requires room { 65544 ≤ length out.old }
-    ensures page { take result out.new ≡ reply_bytes (Page false (take 8192 ids.now)) }
-    ensures full { IsPage false (take 8192 ids.now) }
+    ensures page { take result out.new ≡ reply_bytes (Page is_last ids.now) }
+    ensures open { IsTrue (not is_last) ↔ IsOpenPage (take result out.new) }
+    ensures no_fault { take result out.new ≢ reply_bytes StoreFault }
     ensures least { 4 ≤ result }
     ensures most { result ≤ 65544 }
 {
-    let (page, _) = ids.split_at(FULL_PAGE);
-    write_page(false, page, out)
-}
-
-/// The page of the identifiers that are left.
-fn write_last_page(ids: &[u64], out: &mut [u8]) -> usize
-    requires ids { All (λ id. 0 < id) ids.now }
-    requires few { length ids.now ≤ 8192 }
-    requires room { 65544 ≤ length out.old }
-    ensures page { take result out.new ≡ reply_bytes (Page true ids.now) }
-    ensures least { 4 ≤ result }
-    ensures most { result ≤ 65544 }
-{
-    write_page(true, ids, out)
+    write_page(is_last, ids, out)
 }

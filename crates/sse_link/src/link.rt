@@ -3,8 +3,8 @@ ghost use Rattle.std.specs.declared.option.Option.{Option};
 ghost use Rattle.std.specs.Option.{option_map};
 ghost use Rattle.sse_outside.specs.Causes.{Rose};
 ghost use Rattle.sse_frames.specs.Replies.{StoreFault, reply_bytes};
-ghost use Rattle.sse_link.specs.declared.mark.Mark.{Mark};
-ghost use Rattle.sse_link.specs.Events.{Event, Sent, Received, Remote};
+ghost use Rattle.link_events.specs.declared.mark.Mark.{Mark};
+ghost use Rattle.link_events.specs.Events.{Event, Sent, Received, Remote};
 ghost use Rattle.sse_link.specs.Due.{IsOpenPage};
 ghost use Rattle.sse_frames.specs.Frames.{IsFrame};
 

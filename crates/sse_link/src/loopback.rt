@@ -3,10 +3,10 @@ ghost use Rattle.sse_frames.specs.Replies.{StoreFault, reply_bytes};
 ghost use Rattle.server_core.specs.Refusal.{is_nil};
 ghost use Rattle.keyed_fn.specs.KeyedFn.{keyed_fn};
 ghost use Rattle.sse_link.specs.Due.{IsOpenPage};
-ghost use Rattle.sse_link.specs.Events.{AreKnown};
+ghost use Rattle.link_events.specs.Events.{AreKnown};
 ghost use Rattle.sse_link.specs.Failing.{listed_at, worked, failed, FailsSend};
-ghost use Rattle.sse_link.specs.Passed.{events_of};
-ghost use Rattle.sse_link.specs.Served.{IsServed, idle};
+ghost use Rattle.link_events.specs.Passed.{events_of};
+ghost use Rattle.link_events.specs.Served.{IsServed, idle};
 ghost use Rattle.sse_frames.specs.Frames.{IsFrame};
 ghost use Rattle.sse_link.specs.Told.{told_first, served, dropped, IsSent, IsReceived};
 

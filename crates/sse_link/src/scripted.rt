@@ -2,7 +2,7 @@ ghost use Rattle.std.specs.Prelude.{◌≡◌, ◌≢◌, ◌↔◌, ◌+◌, �
 ghost use Rattle.sse_frames.specs.Replies.{StoreFault, reply_bytes};
 ghost use Rattle.sse_frames.specs.Seen.{seen_reply};
 ghost use Rattle.sse_link.specs.Due.{leaves_more, IsOpenPage};
-ghost use Rattle.sse_link.specs.Passed.{events_of};
+ghost use Rattle.link_events.specs.Passed.{events_of};
 ghost use Rattle.sse_link.specs.Scripted.{reply_size};
 
 use crate::counts::one_more;
@@ -64,8 +64,8 @@ impl ScriptedLink {
 impl Link for ScriptedLink {
     ghost use Rattle.std.specs.Prelude.{Some, None, Err, ◌∷◌, ◌++◌, take, drop, IfOk, OnOk, OnErr};
     ghost use Rattle.sse_outside.specs.Causes.{Rose};
-    ghost use Rattle.sse_link.specs.declared.mark.Mark.TheVariants.{Unknown};
-    ghost use Rattle.sse_link.specs.Events.{Sent, Received};
+    ghost use Rattle.link_events.specs.declared.mark.Mark.TheVariants.{Unknown};
+    ghost use Rattle.link_events.specs.Events.{Sent, Received};
     ghost use Rattle.sse_frames.specs.Frames.{IsFrame};
 
     ghost reply_due = { λ l. l.due };

@@ -3,13 +3,14 @@ ghost use Rattle.sse_frames.specs.Replies.{StoreFault, reply_bytes};
 ghost use Rattle.server_core.specs.Refusal.{is_nil};
 ghost use Rattle.keyed_fn.specs.KeyedFn.{keyed_fn};
 ghost use Rattle.sse_link.specs.Due.{IsOpenPage};
-ghost use Rattle.sse_link.specs.Events.{AreKnown};
-ghost use Rattle.sse_link.specs.Passed.{events_of};
-ghost use Rattle.sse_link.specs.Served.{IsServed, idle};
+ghost use Rattle.link_events.specs.Events.{AreKnown};
+ghost use Rattle.link_events.specs.Passed.{events_of};
+ghost use Rattle.link_events.specs.Served.{IsServed, idle};
 ghost use Rattle.sse_frames.specs.Frames.{IsFrame};
 ghost use Rattle.sse_link.specs.Told.{told_first, served, IsSent, IsReceived};
 
 use crate::answering::answer_bytes;
+use crate::due::FULL_PAGE;
 use crate::transcript::Transcript;
 use crate::{Due, Link, LinkFault, Passed};
 use keyed_fn::Keyed;
@@ -27,8 +28,9 @@ use std::snapshot::Snapshot;
 pub struct SteadyLoopback<K: Keyed, T: Tables> {
     keyed: K,
     server: Server<T>,
-    found: Vec<u64>,
     due: Due,
+    /// The identifiers of the first page that waits stand at the front.
+    page: [u64; FULL_PAGE],
     passed: Transcript,
     /// The server as it was handed in, which only contracts see.
     began: Snapshot<Server<T>>,
@@ -52,10 +54,10 @@ impl<K: Keyed, T: Tables> Model for SteadyLoopback<K, T> {
       events = recorded l.passed;
       began = l.began.value.state;
       state = l.server.state;
-      due = map reply_bytes (waiting l.due l.found.items);
+      due = map reply_bytes (waiting (keyed_fn K.prf K.pad) l.server.state l.due l.page);
     } };
 
-    ghost invariant = { λ l. IsSteady (keyed_fn K.prf K.pad) (recorded l.passed) l.began.value.state l.server.state l.due l.found.items };
+    ghost invariant = { λ l. IsSteady (keyed_fn K.prf K.pad) (recorded l.passed) l.began.value.state l.server.state l.due l.page };
 }
 
 impl<K: Keyed, T: Tables> SteadyLoopback<K, T> {
@@ -67,8 +69,8 @@ impl<K: Keyed, T: Tables> SteadyLoopback<K, T> {
         SteadyLoopback {
             keyed,
             server,
-            found: Vec::new(alloc),
             due: Due::Nothing,
+            page: [0; FULL_PAGE],
             passed: Transcript::new(alloc),
             began,
         }
@@ -105,7 +107,7 @@ impl<K: Keyed, T: Tables> Link for SteadyLoopback<K, T> {
         ensures err { OnErr result ((result ≡ Err LinkFault.NoMemory) × (self.new ≡ self.old)) }
     {
         let bytes = self.passed.make_room(frame)?;
-        self.due = answer_bytes(&self.keyed, &mut self.server, frame, &mut self.found);
+        self.due = answer_bytes(&self.keyed, &mut self.server, frame, &mut self.page);
         self.passed.sent(bytes, self.due.mark());
         Ok(())
     }
@@ -120,10 +122,12 @@ impl<K: Keyed, T: Tables> Link for SteadyLoopback<K, T> {
         ensures most { IfOk result (λ n. n ≤ 65544) }
         ensures err { OnErr result ((result ≡ Err LinkFault.NoMemory) × (self.new ≡ self.old)) }
     {
-        let (n, due) = self.due.write_first(&self.found, out);
+        let n = self.due.write_first(&self.page, out);
         let reply = self.passed.make_room(&out[..n])?;
         self.passed.received(reply);
-        self.due = due;
+        self.due = self
+            .due
+            .behind_first(&self.keyed, &self.server, &mut self.page);
         Ok(n)
     }
 }

@@ -5,7 +5,7 @@ use crate::whole::whole_frame;
 use keyed_fn::Toy;
 use server_core::Server;
 use server_tables::BucketTables;
-use sse_frames::REPLY_ROOM;
+use sse_frames::{REPLY_ROOM, write_reply};
 use std::alloc::Global;
 use std::test::Fail as Failed;
 
@@ -98,10 +98,12 @@ fn reply_to(
     server: &mut Server<BucketTables>,
     bytes: &[u8],
 ) -> Result<Vec<u8>, NoMemory> {
-    let mut found = Vec::new(alloc);
-    let due = answer_bytes(&Toy, server, bytes, &mut found);
+    let mut page = [0; FULL_PAGE];
     let mut out = zeros(alloc, REPLY_ROOM)?;
-    let (n, _) = due.write_first(&found, &mut out);
+    let n = match answer_bytes(&Toy, server, bytes, &mut page) {
+        Due::Single(reply) => write_reply(&reply, &mut out),
+        due => due.write_first(&page, &mut out),
+    };
     out.truncate(n);
     Ok(out)
 }

@@ -1,5 +1,5 @@
 use Rattle.keyed_fn.specs.KeyedFn.{keyed_fn}
-use Rattle.sse_link.specs.Served.{idle}
+use Rattle.link_events.specs.Served.{idle}
 use Rattle.sse_link.specs.Told.{served}
 use Rattle.sse_link.proofs.Kept.{cut_served}
 use Rattle.sse_link.proofs.loopback.Loopback.transcript.Goals as goal

@@ -1,8 +1,8 @@
 -- What a record of bytes says passed over the link.
 use Rattle.std.specs.Prelude.{List, map}
-use Rattle.sse_link.specs.declared.passed.Passed as code
-use Rattle.sse_link.specs.declared.passed.Passed.TheVariants as passed
-use Rattle.sse_link.specs.Events.{Event, Sent, Received}
+use Rattle.link_events.specs.declared.passed.Passed as code
+use Rattle.link_events.specs.declared.passed.Passed.TheVariants as passed
+use Rattle.link_events.specs.Events.{Event, Sent, Received}
 
 abbrev pub event_of : code.Passed → Event
 event_of (passed.Sent bytes mark) = Sent bytes.items mark

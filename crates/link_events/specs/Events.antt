@@ -3,8 +3,8 @@ use Rattle.std.specs.Prelude.{◌≡◌, ◌⊎◌, ℕ, zero, suc, List, [], �
 use Rattle.std.specs.Coded.{Coded, code_by, coded×, coded⊎, coded_list, coded_ℕ}
 use Rattle.std.proofs.Common.{inl, inr}
 use Rattle.server_core.specs.State.{ServerState}
-use Rattle.sse_link.specs.declared.mark.Mark.{Mark}
-use Rattle.sse_link.specs.declared.mark.Mark.TheVariants.{Unknown, Stepped, LackedMemory}
+use Rattle.link_events.specs.declared.mark.Mark.{Mark}
+use Rattle.link_events.specs.declared.mark.Mark.TheVariants.{Unknown, Stepped, LackedMemory}
 
 -- the server at the other end
 pub record Remote : Type 0 where

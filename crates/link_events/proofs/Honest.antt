@@ -6,10 +6,10 @@ use Rattle.sse_frames.specs.Replies.{reply_bytes}
 use Rattle.server_core.specs.State.{ServerState}
 use Rattle.server_core.specs.Step.{step}
 use Rattle.sse_frames.proofs.Spelling.{one_frame}
-use Rattle.sse_link.specs.Events.{Event, Sent, Received, IsKnown, AreKnown, BeginsWithFrame}
-use Rattle.sse_link.specs.Served.{Served, idle, IsStep, LacksMemory, Answers, Serves, AreKept, IsServed, IsHonest, IsAnswered}
-use Rattle.sse_link.specs.declared.mark.Mark.{Mark}
-use Rattle.sse_link.specs.declared.mark.Mark.TheVariants.{Unknown, Stepped, LackedMemory}
+use Rattle.link_events.specs.Events.{Event, Sent, Received, IsKnown, AreKnown, BeginsWithFrame}
+use Rattle.link_events.specs.Served.{Served, idle, IsStep, LacksMemory, Answers, Serves, AreKept, IsServed, IsHonest, IsAnswered}
+use Rattle.link_events.specs.declared.mark.Mark.{Mark}
+use Rattle.link_events.specs.declared.mark.Mark.TheVariants.{Unknown, Stepped, LackedMemory}
 
 -- Joining and splitting.
 

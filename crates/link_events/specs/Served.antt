@@ -1,13 +1,14 @@
 -- What an honest link brings: for each frame the server's step, and its replies in order.
 use Rattle.std.specs.Prelude.{◌≡◌, ◌⊎◌, ℕ, List, [], ◌∷◌, ◌++◌, map}
-use Rattle.sse_frames.specs.Frames.{FrameText, Hello, IsFrame}
+use Rattle.sse_frames.specs.Frames.{FrameText, IsFrame}
 use Rattle.sse_frames.specs.Replies.{NoMemory, reply_bytes}
 use Rattle.keyed_fn.specs.KeyedFn.{KeyedFn}
 use Rattle.server_core.specs.State.{ServerState, at_first}
 use Rattle.server_core.specs.Step.{step}
-use Rattle.sse_link.specs.Events.{Event, Sent, Received}
-use Rattle.sse_link.specs.declared.mark.Mark.{Mark}
-use Rattle.sse_link.specs.declared.mark.Mark.TheVariants.{Unknown, Stepped, LackedMemory}
+use Rattle.server_core.specs.Views.{TakesMemory}
+use Rattle.link_events.specs.Events.{Event, Sent, Received}
+use Rattle.link_events.specs.declared.mark.Mark.{Mark}
+use Rattle.link_events.specs.declared.mark.Mark.TheVariants.{Unknown, Stepped, LackedMemory}
 
 -- a server, and the bytes of each reply that waits
 pub record Served : Type 0 where
@@ -22,19 +23,15 @@ idle state = record { state = state; due = [] }
 abbrev pub at_start : Served
 at_start = idle at_first
 
--- a server may be out of memory for every frame but Hello
-abbrev pub MayLackMemory : FrameText → Type 0
-MayLackMemory Hello = ⊥
-MayLackMemory _ = Unit {0}
-
 -- the frame made this state and had these replies, which are the server's step
 pub record IsStep (f : KeyedFn) (before : ServerState) (frame : FrameText) (after : ServerState) (replies : List (List ℕ)) : Type 0 where
   pub state : after ≡ (step f before frame).0
   pub replies_are : replies ≡ map reply_bytes (step f before frame).1
 
--- in place of its step the server was out of memory: it said so, and stayed as it was
+-- in place of its step the server was out of memory, as it may be for a frame that brings it something to keep: it said so,
+-- and stayed as it was
 pub record LacksMemory (before : ServerState) (frame : FrameText) (after : ServerState) (replies : List (List ℕ)) : Type 0 where
-  pub may : MayLackMemory frame
+  pub takes : TakesMemory frame
   pub state : after ≡ before
   pub replies_are : replies ≡ reply_bytes NoMemory ∷ []
 
