@@ -1,0 +1,4 @@
+pub mod Firsts
+pub mod Leaking
+pub mod Drawing
+pub mod Histories
