@@ -16,6 +16,10 @@ pub data Cause : Type 0 where
   Clash : (what place : ℕ) → Cause
   PeerElsewhere : (low high got : ℕ) → Cause
   BadReply : (reply : List ℕ) → Cause
+  NoJournal : Cause
+  HasRecords : Cause
+  BadRecord : (number : ℕ) → Cause
+  WrongKey : Cause
 
 -- what one printed line says
 pub data Shown : Type 0 where
@@ -23,5 +27,6 @@ pub data Shown : Type 0 where
   Added : (id : ℕ) → Shown
   Deleted : (id : ℕ) → Shown
   Found : (ids : List ℕ) → Shown
+  Resumed : (frames : ℕ) → Shown
   Refused : Refusal → Shown
   Stopped : Cause → Shown

@@ -1,9 +1,9 @@
 -- A cause and a line to be printed, seen as what they say: their bytes are borrowed.
 use Rattle.sse_script.specs.Shown as says
 use Rattle.sse_script.specs.declared.cause.Cause.{Cause}
-use Rattle.sse_script.specs.declared.cause.Cause.TheVariants.{BadWords, BadLine, SourceFault, LinkFault, DiskFault, NoMemory, LabelClash, PlaceClash, NumberClash, Clash, PeerElsewhere, BadReply}
+use Rattle.sse_script.specs.declared.cause.Cause.TheVariants.{BadWords, BadLine, SourceFault, LinkFault, DiskFault, NoMemory, LabelClash, PlaceClash, NumberClash, Clash, PeerElsewhere, BadReply, NoJournal, HasRecords, BadRecord, WrongKey}
 use Rattle.sse_script.specs.declared.shown.Shown.{Shown}
-use Rattle.sse_script.specs.declared.shown.Shown.TheVariants.{SetUp, Added, Deleted, Found, Refused, Stopped}
+use Rattle.sse_script.specs.declared.shown.Shown.TheVariants.{SetUp, Added, Deleted, Found, Resumed, Refused, Stopped}
 
 -- why a run stopped
 abbrev pub cause_view : Cause → says.Cause
@@ -19,6 +19,10 @@ cause_view (NumberClash first second) = says.NumberClash first second
 cause_view (Clash what place) = says.Clash what place
 cause_view (PeerElsewhere low high got) = says.PeerElsewhere low high got
 cause_view (BadReply reply) = says.BadReply reply.now
+cause_view NoJournal = says.NoJournal
+cause_view HasRecords = says.HasRecords
+cause_view (BadRecord number) = says.BadRecord number
+cause_view WrongKey = says.WrongKey
 
 -- what a line to be printed says
 abbrev pub shown_view : Shown → says.Shown
@@ -26,5 +30,6 @@ shown_view (SetUp words blocks) = says.SetUp words blocks
 shown_view (Added id) = says.Added id
 shown_view (Deleted id) = says.Deleted id
 shown_view (Found ids) = says.Found ids.now
+shown_view (Resumed frames) = says.Resumed frames
 shown_view (Refused refusal) = says.Refused refusal
 shown_view (Stopped cause) = says.Stopped (cause_view cause)

@@ -4,8 +4,8 @@ use Rattle.std.specs.List.{concat}
 use Rattle.hex.specs.Hex.{encode_lower}
 use Rattle.sse_script.specs.declared.refusal.Refusal.{Refusal}
 use Rattle.sse_script.specs.declared.refusal.Refusal.TheVariants.{NotSetUp, SetUpAlready, Zero, TooLong, BadByte, TooManyWords, RepeatedWord, AlreadyLive, UnknownDocument, TooManyDocuments, TooManyPairs, TooManyBytes, BadParameter, ListTooLong, CounterFull, HistoryFull}
-use Rattle.sse_script.specs.Shown.{Cause, BadWords, BadLine, SourceFault, LinkFault, DiskFault, NoMemory, LabelClash, PlaceClash, NumberClash, Clash, PeerElsewhere, BadReply}
-use Rattle.sse_script.specs.Shown.{Shown, SetUp, Added, Deleted, Found, Refused, Stopped}
+use Rattle.sse_script.specs.Shown.{Cause, BadWords, BadLine, SourceFault, LinkFault, DiskFault, NoMemory, LabelClash, PlaceClash, NumberClash, Clash, PeerElsewhere, BadReply, NoJournal, HasRecords, BadRecord, WrongKey}
+use Rattle.sse_script.specs.Shown.{Shown, SetUp, Added, Deleted, Found, Resumed, Refused, Stopped}
 
 -- behind `refused: `
 abbrev pub refusal_text : Refusal → List (List ℕ)
@@ -45,6 +45,10 @@ cause_text (Clash what place) = codes "clash " ∷ decimal what ∷ codes " at "
 cause_text (PeerElsewhere low high got) =
     codes "server is at " ∷ decimal got ∷ codes ", wanted " ∷ decimal low ∷ codes " to " ∷ decimal high ∷ []
 cause_text (BadReply reply) = codes "reply " ∷ encode_lower (take 16 reply) ∷ []
+cause_text NoJournal = codes "no journal" ∷ []
+cause_text HasRecords = codes "journal has records" ∷ []
+cause_text (BadRecord number) = codes "record " ∷ decimal number ∷ []
+cause_text WrongKey = codes "key" ∷ []
 
 -- each identifier behind a space
 abbrev pub ids_text : List ℕ → List ℕ
@@ -56,6 +60,7 @@ line_text (SetUp words blocks) = codes "set up " ∷ decimal words ∷ codes " w
 line_text (Added id) = codes "added " ∷ decimal id ∷ []
 line_text (Deleted id) = codes "deleted " ∷ decimal id ∷ []
 line_text (Found ids) = codes "found " ∷ decimal (length ids) ∷ codes ":" ∷ ids_text ids ∷ []
+line_text (Resumed frames) = codes "resumed " ∷ decimal frames ∷ codes " frames" ∷ []
 line_text (Refused refusal) = codes "refused: " ∷ refusal_text refusal
 line_text (Stopped cause) = codes "stopped: " ∷ cause_text cause
 

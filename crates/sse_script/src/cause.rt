@@ -25,4 +25,12 @@ pub enum Cause<'a> {
     PeerElsewhere { low: u32, high: u32, got: u32 },
     /// A reply that isn't among those expected: its bytes, of which the first 16 are printed.
     BadReply { reply: &'a [u8] },
+    /// The disk holds no journal, or one without the record that the run goes on from.
+    NoJournal,
+    /// The journal has records, and the run is to begin a new one.
+    HasRecords,
+    /// A record of the journal, counted from 0, isn't one that can stand there.
+    BadRecord { number: u64 },
+    /// The journal was written under another key.
+    WrongKey,
 }

@@ -1,6 +1,6 @@
 //! The script of the client's programs: its lines as they are read, and every line that is printed. `LineReader`
 //! cuts what a source hands out into lines, `read_line` takes one apart into a `Line`, which borrows its words, and
-//! `print` writes one `Shown` as text into a sink; sources and sinks are those of `sse_outside`. Callers use that
+//! `print` writes one `Shown` as text into a sink, and `print_stop` why a run stopped, without memory; sources and sinks are those of `sse_outside`. Callers use that
 //! the lines are those of the source's bytes, that each reads as the grammar of specs/Lines.antt says, and that a
 //! sink took exactly the text of specs/Texts.antt, or a front of it after a fault. Whether a field is a word of a
 //! document, and what a command does, is decided above.
@@ -20,6 +20,7 @@ mod read_stop;
 mod reading;
 mod refusal;
 mod shown;
+mod stop_line;
 mod text;
 
 pub use bad_line::BadLine;
@@ -34,6 +35,7 @@ pub use reading::read_line;
 pub use refusal::Refusal;
 pub use shown::Shown;
 pub use std::alloc::AllocError as NoMemory;
+pub use stop_line::print_stop;
 
 #[cfg(test)]
 mod tests;

@@ -13,25 +13,8 @@ pub fn one(alloc: Global, front: &str, n: u64, back: &str) -> Result<String, All
     format!(in alloc; "{front}{n}{back}")
 }
 
-/// Two things of a kind that are equal, by their numbers; the line's end behind it.
-pub fn equal(alloc: Global, things: &str, first: u32, second: u32) -> Result<String, AllocError>
-    ensures { IfOk result (λ text. string_bytes text
-        ≡ concat (codes "stopped: " ∷ things.now ∷ decimal first ∷ codes " and " ∷ decimal second ∷ codes " are equal" ∷ (10 ∷ []) ∷ [])) }
-{
-    format!(in alloc; "stopped: {things}{first} and {second} are equal\n")
-}
-
-/// The first 16 bytes of a reply, fewer where it is shorter, in hexadecimal digits; the line's end behind it.
-pub fn bad_reply(alloc: Global, reply: &[u8]) -> Result<String, AllocError>
-    ensures { IfOk result (λ text. string_bytes text
-        ≡ concat (codes "stopped: " ∷ codes "reply " ∷ encode_lower (take 16 reply.now) ∷ (10 ∷ []) ∷ [])) }
-{
-    let digits = hex::encode(alloc, at_most_16(reply))?;
-    format!(in alloc; "stopped: reply {digits}\n")
-}
-
 /// The first 16 bytes, or all where there are fewer.
-fn at_most_16(bytes: &[u8]) -> &[u8]
+pub fn at_most_16(bytes: &[u8]) -> &[u8]
     ensures { result.now ≡ take 16 bytes.now }
 {
     if bytes.len() > 16 {

@@ -1,4 +1,4 @@
-use crate::{BadLine, Cause, Fields, Line, Refusal, Shown, print, read_line};
+use crate::{BadLine, Cause, Fields, Line, Refusal, Shown, print, print_stop, read_line};
 use sse_outside::{DeviceFault, MemSink, SteadySink};
 use std::alloc::{AllocError, Global};
 use std::test::Fail;
@@ -119,7 +119,7 @@ fn a_line_has_at_most_2_to_19_bytes(rt: HostRuntime) -> Result<(), Fail> {
 }
 
 /// Lines to be printed, and their texts, which are those of an independent program.
-const PRINTED: [(Shown<'static>, &str); 35] = [
+const PRINTED: [(Shown<'static>, &str); 40] = [
     (
         Shown::SetUp {
             words: 2,
@@ -256,6 +256,20 @@ const PRINTED: [(Shown<'static>, &str); 35] = [
         }),
         "stopped: reply 0000000c8501000100000000000000ff\n",
     ),
+    (
+        Shown::Resumed { frames: u32::MAX },
+        "resumed 4294967295 frames\n",
+    ),
+    (Shown::Stopped(Cause::NoJournal), "stopped: no journal\n"),
+    (
+        Shown::Stopped(Cause::HasRecords),
+        "stopped: journal has records\n",
+    ),
+    (
+        Shown::Stopped(Cause::BadRecord { number: 0 }),
+        "stopped: record 0\n",
+    ),
+    (Shown::Stopped(Cause::WrongKey), "stopped: key\n"),
 ];
 
 #[test]
@@ -264,6 +278,11 @@ fn printed_lines(rt: HostRuntime) -> Result<(), Fail> {
         let mut sink = SteadySink::new(rt.alloc());
         print(rt.alloc(), &mut sink, &shown)?;
         assert_eq!(rt; sink.bytes(), text.as_bytes());
+        if let Shown::Stopped(cause) = shown {
+            let mut other = SteadySink::new(rt.alloc());
+            print_stop(&mut other, &cause)?;
+            assert_eq!(rt; other.bytes(), text.as_bytes());
+        }
     }
     Ok(())
 }
