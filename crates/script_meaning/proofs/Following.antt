@@ -9,12 +9,12 @@ use Rattle.client_registry.specs.Histories.{begun_by, IsKept, IsFirstOf, found_i
 use Rattle.client_registry.specs.Run.{at_first}
 use Rattle.client_registry.specs.Setup.{setup_of}
 use Rattle.keyed_fn.specs.KeyedFn.{KeyedFn}
+use Rattle.sse_frames.specs.Exchange.{searches}
 use Rattle.sse_agreement.proofs.NoCollision.{collision_of_first-none, collision_behind-none}
 use Rattle.sse_model.proofs.Exchanging.{searches-setup, searches_behind-update}
 use Rattle.sse_model.proofs.HistoryLaws.{frames_sent-before, frames_sent-begun, frames_sent-longer, frames_behind-search, collision_behind-search}
-use Rattle.sse_model.specs.Exchange.{searches}
 use Rattle.sse_model.specs.Histories.{frames_sent, frames_of_first, HasNoCollision}
-use Rattle.sse_script.specs.Shown.{Shown, SetUp, Added, Deleted, Found, Refused, Stopped}
+use Rattle.sse_script.specs.Shown.{Shown, SetUp, Added, Deleted, Found, Resumed, Refused, Stopped}
 use Rattle.line_documents.specs.LineDocument.{document}
 use Rattle.script_meaning.specs.Carries.{keys_at, frames_by, collision_cause, clash_in_hand}
 use Rattle.script_meaning.specs.Lines.{Line, Empty, Key, Command, Request}
@@ -34,6 +34,7 @@ finds-append (SetUp words blocks ∷ xs) ys = finds-append xs ys
 finds-append (Added id ∷ xs) ys = finds-append xs ys
 finds-append (Deleted id ∷ xs) ys = finds-append xs ys
 finds-append (Found ids ∷ xs) ys = ap (λ rest. ids ∷ rest) (finds-append xs ys)
+finds-append (Resumed frames ∷ xs) ys = finds-append xs ys
 finds-append (Refused refusal ∷ xs) ys = finds-append xs ys
 finds-append (Stopped cause ∷ xs) ys = finds-append xs ys
 

@@ -8,13 +8,13 @@ use Rattle.std.proofs.lemmas.List.Concat.{flat_map-append}
 use Rattle.std.proofs.lemmas.List.Elements.{All-nil, All-append}
 use Rattle.client_registry.specs.Live.{in_order}
 use Rattle.keyed_fn.specs.KeyedFn.{KeyedFn}
+use Rattle.sse_frames.specs.Exchange.{Asked, exchange}
 use Rattle.sse_frames.specs.Frames.{FrameText}
 use Rattle.sse_frames.specs.Replies.{IsIdentifier}
-use Rattle.sse_link.specs.Events.{Event}
+use Rattle.link_events.specs.Events.{Event}
 use Rattle.sse_model.proofs.Exchanging.{exchange-append, searches-append}
-use Rattle.sse_model.specs.Exchange.{Asked, exchange}
-use Rattle.sse_script.specs.Shown.{Cause, BadWords, BadLine, SourceFault, LinkFault, DiskFault, NoMemory, LabelClash, PlaceClash, NumberClash, Clash, PeerElsewhere, BadReply}
-use Rattle.sse_script.specs.Shown.{Shown, SetUp, Added, Deleted, Found, Refused, Stopped}
+use Rattle.sse_script.specs.Shown.{Cause, BadWords, BadLine, SourceFault, LinkFault, DiskFault, NoMemory, LabelClash, PlaceClash, NumberClash, Clash, PeerElsewhere, BadReply, NoJournal, HasRecords, BadRecord, WrongKey}
+use Rattle.sse_script.specs.Shown.{Shown, SetUp, Added, Deleted, Found, Resumed, Refused, Stopped}
 use Rattle.sse_script.specs.Stops.{cause_status}
 use Rattle.sse_script.specs.Texts.{text_of}
 use Rattle.script_meaning.specs.Carries.{with_answers, text_with}
@@ -64,6 +64,7 @@ with_answers-append xs ys (Added id ∷ s) t count = ap (λ rest. Added id ∷ r
 with_answers-append xs ys (Deleted id ∷ s) t count = ap (λ rest. Deleted id ∷ rest) (with_answers-append xs ys s t count)
 with_answers-append [] ys (Found found ∷ s) t count = absurd (omega (arith, count))
 with_answers-append (ids ∷ xs) ys (Found found ∷ s) t count = ap (λ rest. Found ids ∷ rest) (with_answers-append xs ys s t (omega (arith, count)))
+with_answers-append xs ys (Resumed frames ∷ s) t count = ap (λ rest. Resumed frames ∷ rest) (with_answers-append xs ys s t count)
 with_answers-append xs ys (Refused refusal ∷ s) t count = ap (λ rest. Refused refusal ∷ rest) (with_answers-append xs ys s t count)
 with_answers-append xs ys (Stopped cause ∷ s) t count = ap (λ rest. Stopped cause ∷ rest) (with_answers-append xs ys s t count)
 
@@ -129,3 +130,7 @@ shows_status asks replies (NumberClash first second) shows = omega arith
 shows_status asks replies (Clash what place) shows = omega arith
 shows_status asks replies (PeerElsewhere low high got) shows = omega arith
 shows_status asks replies (BadReply start) shows = omega arith
+shows_status asks replies NoJournal shows = absurd shows
+shows_status asks replies HasRecords shows = absurd shows
+shows_status asks replies (BadRecord number) shows = absurd shows
+shows_status asks replies WrongKey shows = absurd shows

@@ -17,16 +17,16 @@ use Rattle.server_core.specs.State as server
 use Rattle.server_core.specs.State.{ServerState}
 use Rattle.server_core.specs.Step.{steps}
 use Rattle.sse_agreement.proofs.Histories.{replies_agree, shown_are_answers, in_order-shown_in_turn}
+use Rattle.sse_frames.specs.Exchange.{exchange, searches}
 use Rattle.sse_frames.specs.Frames.{FrameText}
 use Rattle.sse_frames.specs.Replies.{IsIdentifier}
-use Rattle.sse_link.specs.Events.{Event}
-use Rattle.sse_link.specs.Served.{IsServed, at_start, idle}
+use Rattle.link_events.specs.Events.{Event}
+use Rattle.link_events.specs.Served.{IsServed, at_start, idle}
 use Rattle.sse_model.proofs.Exchanging.{session-exchange, searches-sent}
 use Rattle.sse_model.proofs.HistoryLaws.{frames_sent-in_grammar, HasNoCollision-first}
-use Rattle.sse_model.specs.Exchange.{exchange, searches}
 use Rattle.sse_model.specs.Histories.{frames_sent, HasNoCollision}
 use Rattle.sse_script.specs.Shown.{Cause}
-use Rattle.sse_script.specs.Shown.{Shown, SetUp, Added, Deleted, Found, Refused, Stopped}
+use Rattle.sse_script.specs.Shown.{Shown, SetUp, Added, Deleted, Found, Resumed, Refused, Stopped}
 use Rattle.sse_script.specs.Stops.{cause_status}
 use Rattle.sse_script.specs.Texts.{text_of}
 use Rattle.script_meaning.specs.Carries.{Outside, with_answers, text_with}
@@ -37,7 +37,8 @@ use Rattle.script_meaning.specs.Lines.{Line, Empty, Key, Command, script_lines}
 use Rattle.script_meaning.specs.Meaning.{Meaning, meant_from, meaning}
 use Rattle.script_meaning.specs.Outcome.{opened}
 use Rattle.script_meaning.specs.Runs.{Ended, Opens, Ends}
-use Rattle.script_meaning.specs.Session.{session_with, frames_with, frames_of, IsFree}
+use Rattle.sse_leakage.proofs.Sessions.{session_is_simulated}
+use Rattle.script_meaning.specs.Session.{session_with, session_of, simulated_with, frames_with, frames_of, IsFree}
 use Rattle.script_meaning.specs.Stops.{status_of, stop_text}
 use Rattle.script_meaning.proofs.Following.{finds, follow-key, finds-meant}
 use Rattle.script_meaning.proofs.Honest.{IsServed-bare, behind, cut_outside}
@@ -100,6 +101,7 @@ with_answers-finds (SetUp words blocks ∷ shown) = ap (λ rest. SetUp words blo
 with_answers-finds (Added id ∷ shown) = ap (λ rest. Added id ∷ rest) (with_answers-finds shown)
 with_answers-finds (Deleted id ∷ shown) = ap (λ rest. Deleted id ∷ rest) (with_answers-finds shown)
 with_answers-finds (Found ids ∷ shown) = ap (λ rest. Found ids ∷ rest) (with_answers-finds shown)
+with_answers-finds (Resumed frames ∷ shown) = ap (λ rest. Resumed frames ∷ rest) (with_answers-finds shown)
 with_answers-finds (Refused refusal ∷ shown) = ap (λ rest. Refused refusal ∷ rest) (with_answers-finds shown)
 with_answers-finds (Stopped cause ∷ shown) = ap (λ rest. Stopped cause ∷ rest) (with_answers-finds shown)
 
@@ -124,6 +126,11 @@ keyless number (Some (Command line) ∷ lines) none = refl
 session_with-exchange : (f : KeyedFn) (key : Option (List ℕ)) (h : History) → session_with f key h ≡ exchange (shown_in_turn h) (frames_with f key h)
 session_with-exchange f None h = refl
 session_with-exchange f (Some key) h = session-exchange f (λ epoch. key) h
+
+-- all that passes under a key is what the simulator makes
+pub session_with-simulated : (f : KeyedFn) (key : Option (List ℕ)) (h : History) → IsKept h → simulated_with f key h ≡ Some (session_with f key h)
+session_with-simulated f None h kept = refl
+session_with-simulated f (Some key) h kept = session_is_simulated f (λ epoch. key) h kept
 
 few : (status : ℕ) → status ≤ 7 → IsCalm status → status ≤ 2
 few status outside calm =
@@ -208,6 +215,13 @@ module _ (f : KeyedFn) (laws : IsKeyedFn f) (bytes : List ℕ) (now : Outside) (
           (ap (map in_order) answered.0 ∙ in_order-shown_in_turn m.history kept ∙ finds-meant 1 (script_lines bytes))
           ∙ ap (flat_map text_of) (with_answers-finds m.shown)
 
+      -- all that passed is the session of the meaning's history
+      passed : map bare g.passes.events ≡ map as_event (session_of f m)
+      passed =
+          all.each
+          ∙ ap (λ answers. map as_event (exchange answers (frames_of f m))) answered.0
+          ∙ ap (map as_event) (sym (session_with-exchange f m.key m.history))
+
     -- the headline
     pub headline : (last : Outside) → Ends end last → IsFree f m.key m.history → IsCalm (status_of end.stop) → Headline f m now last (status_of end.stop) state
     headline last ends free calm =
@@ -222,9 +236,7 @@ module _ (f : KeyedFn) (laws : IsKeyedFn f) (bytes : List ℕ) (now : Outside) (
               ∙ ap (λ text. append_known now.written (text ++ take ends.q (stop_text m.end))) (own_text free low);
           events = g.passes.events;
           adds = subst (λ told. Adds now.told told g.passes.events) (sym ends.told) g.passes.adds;
-          session =
-              (all free low).each
-              ∙ ap (λ answers. map as_event (exchange answers (frames_of f m))) (answered free low).0
-              ∙ ap (map as_event) (sym (session_with-exchange f m.key m.history));
+          session = passed free low;
+          simulated = record { passed = session_of f m; made = session_with-simulated f m.key m.history kept; same = passed free low };
           stored = (answered free low).1;
         }

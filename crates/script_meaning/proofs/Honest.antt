@@ -10,19 +10,19 @@ use Rattle.list_packing.specs.Parts.{parts}
 use Rattle.sse_agreement.proofs.Histories.{IsAnswer}
 use Rattle.sse_frames.proofs.AnswerPages.{pages_back}
 use Rattle.sse_frames.proofs.ReplySpelling.{one_reply}
+use Rattle.sse_frames.specs.Exchange as texts
+use Rattle.sse_frames.specs.Exchange.{Asked, ForNext, ForTook, ForAnswer, asked, expected, first_answer, answers_behind, replied, exchange, answers_to, searches}
 use Rattle.sse_frames.specs.Frames.{FrameText, InGrammar, frame_bytes}
 use Rattle.sse_frames.specs.Replies as reply
 use Rattle.sse_frames.specs.Replies.{ReplyText, Next, IsIdentifier, reply_bytes}
 use Rattle.sse_frames.specs.Sending.{page_each, pages_of}
 use Rattle.server_core.specs.Step.{step, steps}
-use Rattle.sse_link.proofs.Honest.{IsServed-exchange, Answers-either}
-use Rattle.sse_link.specs.declared.mark.Mark.TheVariants.{Unknown}
-use Rattle.sse_link.specs.Events.{Event, Sent, Received}
-use Rattle.sse_link.specs.Served.{Served, IsServed, IsStep}
+use Rattle.link_events.proofs.Honest.{IsServed-exchange, Answers-either}
+use Rattle.link_events.specs.declared.mark.Mark.TheVariants.{Unknown}
+use Rattle.link_events.specs.Events.{Event, Sent, Received}
+use Rattle.link_events.specs.Served.{Served, IsServed, IsStep}
 use Rattle.sse_model.proofs.Exchanging.{length-answers_behind}
-use Rattle.sse_model.specs.Exchange.{Asked, ForNext, ForTook, ForAnswer, asked, expected, first_answer, answers_behind, replied, exchange, answers_to, searches}
-use Rattle.sse_model.specs.Transcript as model
-use Rattle.sse_script.specs.Shown.{Cause, BadWords, BadLine, SourceFault, LinkFault, DiskFault, NoMemory, LabelClash, PlaceClash, NumberClash, Clash, PeerElsewhere, BadReply}
+use Rattle.sse_script.specs.Shown.{Cause, BadWords, BadLine, SourceFault, LinkFault, DiskFault, NoMemory, LabelClash, PlaceClash, NumberClash, Clash, PeerElsewhere, BadReply, NoJournal, HasRecords, BadRecord, WrongKey}
 use Rattle.sse_script.specs.Stops.{cause_status}
 use Rattle.script_meaning.specs.Exchange.{as_event, bare, EndsWith, IsNotice, IsBadReply, IsElsewhere, ShowsInReplies, IsCut}
 
@@ -38,7 +38,7 @@ pub bare_received : (replies : List (List ℕ)) → map bare (map Received repli
 bare_received [] = refl
 bare_received (reply ∷ replies) = ap (λ rest. Received reply ∷ rest) (bare_received replies)
 
-pub events_received : (rs : List ReplyText) → map as_event (map model.Received rs) ≡ map Received (map reply_bytes rs)
+pub events_received : (rs : List ReplyText) → map as_event (map texts.Received rs) ≡ map Received (map reply_bytes rs)
 events_received [] = refl
 events_received (r ∷ rs) = ap (λ more. Received (reply_bytes r) ∷ more) (events_received rs)
 
@@ -107,7 +107,7 @@ events-exchange : (answers : List (List ℕ)) (frame : FrameText) (frames : List
 events-exchange answers frame frames later =
     let rs = expected (first_answer answers) (asked frame) in
     let more = map as_event (exchange (answers_behind (asked frame) answers) frames) in
-    ap (λ events. Sent (frame_bytes frame) Unknown ∷ (events ++ later)) (map-append as_event (map model.Received rs) (exchange (answers_behind (asked frame) answers) frames) ∙ ap (λ es. es ++ more) (events_received rs))
+    ap (λ events. Sent (frame_bytes frame) Unknown ∷ (events ++ later)) (map-append as_event (map texts.Received rs) (exchange (answers_behind (asked frame) answers) frames) ∙ ap (λ es. es ++ more) (events_received rs))
     ∙ ap (λ events. Sent (frame_bytes frame) Unknown ∷ events) (append_assoc (map Received (map reply_bytes rs)) more later)
 
 -- the server made its step, and its replies begin with those that were received
@@ -304,6 +304,10 @@ shows_outside ids answer ForNext replies due (PeerElsewhere low high got) front 
 shows_outside ids answer (ForTook q) replies due (PeerElsewhere low high got) front shows = absurd shows
 shows_outside ids answer ForAnswer replies due (PeerElsewhere low high got) front shows = absurd shows
 shows_outside ids answer asks replies due (BadReply start) front shows = absurd (no_bad ids answer asks replies due start shows front)
+shows_outside ids answer asks replies due NoJournal front shows = absurd shows
+shows_outside ids answer asks replies due HasRecords front shows = absurd shows
+shows_outside ids answer asks replies due (BadRecord number) front shows = absurd shows
+shows_outside ids answer asks replies due WrongKey front shows = absurd shows
 
 -- the first of the answers that are left is one
 first_given : (asks : Asked) (left : List (List ℕ)) → AllByRecursion IsAnswer left → IsAnswer (first_answer left)

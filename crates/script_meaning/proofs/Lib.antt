@@ -12,3 +12,4 @@ mod RunRows
 mod UpdateRows
 pub mod Sent
 mod ClashRows
+pub mod Simulated

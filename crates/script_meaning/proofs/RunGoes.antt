@@ -10,10 +10,10 @@ use Rattle.client_registry.specs.Histories.{empty, IsKept, IsFirstOf}
 use Rattle.client_registry.specs.Run.{History}
 use Rattle.sse_outside.proofs.Known.{append_known-twice}
 use Rattle.keyed_fn.specs.KeyedFn.{KeyedFn}
+use Rattle.sse_frames.specs.Exchange.{asked}
 use Rattle.sse_frames.specs.Frames.{FrameText, Hello}
-use Rattle.sse_link.specs.Events.{Event, Sent, Received}
+use Rattle.link_events.specs.Events.{Event, Sent, Received}
 use Rattle.sse_model.specs.Compared.{Collision, Labels, Places, Numbers}
-use Rattle.sse_model.specs.Exchange.{asked}
 use Rattle.sse_model.specs.Histories.{frames_sent, HasNoCollision}
 use Rattle.sse_script.specs.Shown.{Cause, NoMemory}
 use Rattle.sse_script.specs.Stops.{cause_status}
@@ -153,7 +153,7 @@ module _ (f : KeyedFn) where
           let frames = frames_by f place result in
           let status : (4 ≤ status_of end.stop) × (status_of end.stop ≤ 7) = by end.stop u.stops in
           let text = text_with u.answers (shown_by result) in
-          let front = front_more u.p text (text_with [] m.shown) in
+          let front = front_more u.printed.n text (text_with [] m.shown) in
           let all : text_with u.answers whole.shown ≡ text ++ text_with [] m.shown =
           ap (λ answers. text_with answers whole.shown) (sym (append-nil u.answers)) ∙ text_with-append u.answers [] (shown_by result) m.shown (u.sent.exchanged.count ∙ searches-next place line f) in record {
             same_key = s.key;
@@ -163,7 +163,7 @@ module _ (f : KeyedFn) where
             answers = u.answers;
             passes = subst (λ fs. Passes f fs u.answers now.told end) (append-nil frames) (subst (λ answers. Passes f (frames ++ []) answers now.told end) (append-nil u.answers)
                 (Passes-behind f frames [] u.answers [] now.told end.outside.told end u.sent.events u.sent.adds u.sent.exchanged (Passes-none f end.outside.told end refl status.1)));
-            prints = record { p = front.0; written = u.printed ∙ ap (append_known now.written) (sym (ap (take front.0) all ∙ front.1)) };
+            prints = record { p = front.0; written = u.printed.taken ∙ ap (append_known now.written) (sym (ap (take front.0) all ∙ front.1)) };
             ended_well = λ few. absurd (omega (arith, few, status.0));
           }
         where

@@ -17,19 +17,19 @@ use Rattle.client_registry.specs.Setup.{Setup, setup_of}
 use Rattle.keyed_fn.specs.KeyedFn.{KeyedFn, keyed_fn, IsKeyedFn}
 use Rattle.keyed_fn.specs.Toy.{toy_prf, toy_pad}
 use Rattle.keyed_fn.specs.ToyLaws.{length-toy_prf, All-toy_prf, length-toy_pad, All-toy_pad, take-toy_pad}
+use Rattle.sse_frames.specs.Exchange.{ForNext, ForTook, ForAnswer, exchange, searches}
 use Rattle.sse_frames.specs.Frames.{FrameText, Hello, InGrammar, frame_bytes}
 use Rattle.sse_frames.specs.Replies.{ReplyText, Next, Took, Page, IsIdentifier, reply_bytes}
 use Rattle.server_core.specs.State as server
 use Rattle.server_core.specs.State.{ServerState}
 use Rattle.server_core.specs.Step.{step, steps}
-use Rattle.sse_link.proofs.Honest.{Serves-step}
-use Rattle.sse_link.specs.Events.{Event, Sent, Received}
-use Rattle.sse_link.specs.Served.{Served, IsServed, IsHonest, idle}
-use Rattle.sse_link.specs.declared.mark.Mark.TheVariants.{Stepped}
+use Rattle.link_events.proofs.Honest.{Serves-step}
+use Rattle.link_events.specs.Events.{Event, Sent, Received}
+use Rattle.link_events.specs.Served.{Served, IsServed, IsHonest, idle}
+use Rattle.link_events.specs.declared.mark.Mark.TheVariants.{Stepped}
 use Rattle.sse_model.proofs.CollisionTest.{IsCollisionFree-from_test}
 use Rattle.sse_model.proofs.HistoryLaws.{frames_sent-in_grammar}
 use Rattle.sse_model.specs.Drawn.{IsCollisionFree}
-use Rattle.sse_model.specs.Exchange.{ForNext, ForTook, ForAnswer, exchange, searches}
 use Rattle.sse_model.specs.Histories.{table_of}
 use Rattle.sse_script.specs.Shown.{LinkFault}
 use Rattle.sse_script.specs.Shown.{Found}

@@ -6,12 +6,12 @@ use Rattle.std.proofs.lemmas.List.{map-append}
 use Rattle.client_registry.specs.Histories.{IsFirstOf}
 use Rattle.client_registry.specs.Run.{History}
 use Rattle.keyed_fn.specs.KeyedFn.{KeyedFn}
+use Rattle.sse_frames.specs.Exchange as texts
+use Rattle.sse_frames.specs.Exchange.{asked, expected, first_answer, answers_behind, exchange}
 use Rattle.sse_frames.specs.Frames.{FrameText, frame_bytes}
 use Rattle.sse_frames.specs.Replies.{ReplyText}
-use Rattle.sse_link.specs.Events.{Event, Sent, Received}
+use Rattle.link_events.specs.Events.{Event, Sent, Received}
 use Rattle.sse_model.proofs.HistoryLaws.{frames_sent-first}
-use Rattle.sse_model.specs.Exchange.{asked, expected, first_answer, answers_behind, exchange}
-use Rattle.sse_model.specs.Transcript as model
 use Rattle.sse_script.specs.Shown.{Cause}
 use Rattle.script_meaning.specs.Carries.{Outside}
 use Rattle.script_meaning.specs.Exchange.{IsCut, as_event, bare, sent_in}
@@ -35,7 +35,7 @@ sent_in-received : (replies : List (List ℕ)) → sent_in (map Received replies
 sent_in-received [] = refl
 sent_in-received (reply ∷ replies) = sent_in-received replies
 
-sent_in-replies : (rs : List ReplyText) (later : List model.Passed) → sent_in (map as_event (map model.Received rs ++ later)) ≡ sent_in (map as_event later)
+sent_in-replies : (rs : List ReplyText) (later : List texts.Passed) → sent_in (map as_event (map texts.Received rs ++ later)) ≡ sent_in (map as_event later)
 sent_in-replies [] later = refl
 sent_in-replies (r ∷ rs) later = sent_in-replies rs later
 

@@ -12,17 +12,17 @@ use Rattle.client_registry.specs.Command.{Command, Add, Delete, Search}
 use Rattle.client_registry.specs.Histories.{IsKept}
 use Rattle.client_registry.specs.Run.{Run, at_first}
 use Rattle.sse_agreement.proofs.Histories.{replies_agree}
+use Rattle.sse_frames.specs.Exchange.{ForTook, asked}
 use Rattle.sse_frames.specs.Frames.{FrameText}
 use Rattle.sse_frames.specs.Frames as sending
 use Rattle.sse_frames.specs.Replies.{Page, IsIdentifier}
 use Rattle.server_core.specs.State as server
 use Rattle.server_core.specs.Step.{steps}
-use Rattle.sse_link.specs.Events.{Event}
-use Rattle.sse_link.specs.Served.{IsHonest}
+use Rattle.link_events.specs.Events.{Event}
+use Rattle.link_events.specs.Served.{IsHonest}
 use Rattle.sse_model.proofs.CollisionTest.{IsCollisionFree-from_test}
 use Rattle.sse_model.proofs.HistoryLaws.{frames_sent-in_grammar}
 use Rattle.sse_model.specs.Drawn.{IsCollisionFree}
-use Rattle.sse_model.specs.Exchange.{ForTook, asked}
 use Rattle.sse_model.specs.Histories.{table_of}
 use Rattle.sse_script.specs.Shown.{LinkFault, LabelClash}
 use Rattle.sse_script.specs.Shown.{Added, Deleted, Found}

@@ -1,15 +1,16 @@
 -- What one line of a script does: what passes for it, what it prints, and how a run stops within it.
-use Rattle.std.specs.Prelude.{◌≡◌, ◌≢◌, ◌⊎◌, ℕ, List, [], ◌∷◌, drop, flat_map, map, take, Option, Some, None, option_map}
+use Rattle.std.specs.Prelude.{◌≡◌, ◌≢◌, ◌⊎◌, ℕ, List, [], ◌∷◌, drop, flat_map, map, Option, Some, None, option_map}
 use Rattle.std.specs.Io.KnownBytes.{append_known}
 use Rattle.client_registry.specs.Live.{in_order}
 use Rattle.keyed_fn.specs.KeyedFn.{KeyedFn}
+use Rattle.sse_frames.specs.Exchange.{first_answer}
 use Rattle.sse_frames.specs.Frames.{FrameText}
-use Rattle.sse_link.specs.Events.{Event}
+use Rattle.link_events.specs.Events.{Event}
 use Rattle.sse_model.specs.Compared.{Collision, Labels, Places, Numbers}
-use Rattle.sse_model.specs.Exchange.{first_answer}
 use Rattle.sse_model.specs.Histories.{frames_of_first, frames_behind, collision_of_first, collision_behind}
 use Rattle.sse_script.specs.Shown.{Cause, LabelClash, PlaceClash, NumberClash, NoMemory}
 use Rattle.sse_script.specs.Shown.{Shown, Found}
+use Rattle.sse_outside.specs.Fronts.{TookFront}
 use Rattle.sse_script.specs.Texts.{text_of}
 use Rattle.script_meaning.specs.Exchange.{Told, Adds, AreExchanged, AreCut}
 use Rattle.script_meaning.specs.Outcome.{Place, Outcome, Collects, Refuses, SetsUp, Does, shown_by}
@@ -87,14 +88,12 @@ pub record IsCutShort (f : KeyedFn) (place : Place) (result : Outcome) (now end 
   pub no_clash : events ≢ [] → clash_in_hand f place result ≡ None
   pub unprinted : end.written ≡ now.written
 
--- it stops a run behind its frames: all of them were exchanged, and a front of its lines is printed
+-- it stops a run behind its frames: all of them were exchanged, and a proper front of its lines is printed
 pub record IsUnprinted (f : KeyedFn) (place : Place) (result : Outcome) (now end : Outside) (stop : Stop) : Type 0 where
   pub stops : (stop ≡ SinkFault) ⊎ (stop ≡ At NoMemory)
   pub answers : List (List ℕ)
   pub sent : IsSent f place result now.told end.told answers
-  pub some : shown_by result ≢ []
-  pub p : ℕ
-  pub printed : end.written ≡ append_known now.written (take p (text_with answers (shown_by result)))
+  pub printed : TookFront now.written end.written (text_with answers (shown_by result))
 
 abbrev pub StopsIn : KeyedFn → Place → Outcome → Outside → Outside → Stop → Type 0
 StopsIn f place result now end stop =

@@ -1,18 +1,18 @@
 -- What passes over a link where frames have the replies that they are to have, and what where they don't.
 use Rattle.std.specs.Prelude.{◌≡◌, ◌≢◌, ◌⊎◌, ◌≤◌, ◌<◌, ◌^◌, ℕ, List, [], ◌∷◌, ◌++◌, length, map, take, drop, All, Option, option_map}
+use Rattle.sse_frames.specs.Exchange as texts
+use Rattle.sse_frames.specs.Exchange.{Asked, ForNext, asked, expected, exchange, searches}
 use Rattle.sse_frames.specs.Frames.{FrameText, frame_bytes}
 use Rattle.sse_frames.specs.Replies as reply
 use Rattle.sse_frames.specs.Replies.{ReplyText, Next, InReplies, IsIdentifier, reply_bytes}
-use Rattle.sse_model.specs.Exchange.{Asked, ForNext, asked, expected, exchange, searches}
-use Rattle.sse_model.specs.Transcript as model
-use Rattle.sse_link.specs.declared.mark.Mark.TheVariants.{Unknown}
-use Rattle.sse_link.specs.Events.{Event, Sent, Received}
+use Rattle.link_events.specs.declared.mark.Mark.TheVariants.{Unknown}
+use Rattle.link_events.specs.Events.{Event, Sent, Received}
 use Rattle.sse_script.specs.Shown.{Cause, LinkFault, NoMemory, Clash, PeerElsewhere, BadReply}
 
 -- a frame or a reply as the event that it is, with no mark
-abbrev pub as_event : model.Passed → Event
-as_event (model.Sent frame) = Sent (frame_bytes frame) Unknown
-as_event (model.Received reply) = Received (reply_bytes reply)
+abbrev pub as_event : texts.Passed → Event
+as_event (texts.Sent frame) = Sent (frame_bytes frame) Unknown
+as_event (texts.Received reply) = Received (reply_bytes reply)
 
 -- an event without its mark
 abbrev pub bare : Event → Event

@@ -5,7 +5,7 @@ use Rattle.std.specs.Io.KnownBytes.{append_known}
 use Rattle.client_registry.specs.Histories.{IsFirstOf}
 use Rattle.keyed_fn.specs.KeyedFn.{KeyedFn}
 use Rattle.sse_frames.specs.Frames.{FrameText}
-use Rattle.sse_link.specs.Events.{Event}
+use Rattle.link_events.specs.Events.{Event}
 use Rattle.sse_script.specs.Shown.{Cause}
 use Rattle.script_meaning.specs.Carries.{Outside, text_with}
 use Rattle.script_meaning.specs.Exchange.{Told, Adds, AreExchanged, IsCut}

@@ -5,7 +5,7 @@ use Rattle.client_registry.specs.Histories.{empty}
 use Rattle.client_registry.specs.Run.{History}
 use Rattle.keyed_fn.specs.KeyedFn.{KeyedFn}
 use Rattle.sse_frames.specs.Frames.{Hello}
-use Rattle.sse_link.specs.Events.{Event}
+use Rattle.link_events.specs.Events.{Event}
 use Rattle.sse_script.specs.Shown.{Cause, BadLine, SourceFault, NoMemory}
 use Rattle.script_meaning.specs.Carries.{Outside, Carries, StopsIn}
 use Rattle.script_meaning.specs.Exchange.{Adds, AreExchanged, AreCut}

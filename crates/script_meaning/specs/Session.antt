@@ -2,15 +2,23 @@
 use Rattle.std.specs.Prelude.{List, ℕ, [], Option, None, Some}
 use Rattle.client_registry.specs.Run.{History}
 use Rattle.keyed_fn.specs.KeyedFn.{KeyedFn}
+use Rattle.sse_frames.specs.Exchange.{Passed}
 use Rattle.sse_frames.specs.Frames.{FrameText}
 use Rattle.sse_model.specs.Histories.{frames_sent, HasNoCollision}
-use Rattle.sse_model.specs.Transcript.{Passed, session}
+use Rattle.sse_leakage.specs.Histories.{leak_in, draws_in}
+use Rattle.sse_model.specs.Transcript.{session}
+use Rattle.sse_simulator.specs.Simulator.{simulated}
 use Rattle.script_meaning.specs.Meaning.{Meaning}
 
 -- all that passes for a history under this key: nothing without a key
 abbrev pub session_with : KeyedFn → Option (List ℕ) → History → List Passed
 session_with f None h = []
 session_with f (Some key) h = session f (λ epoch. key) h
+
+-- what the simulator makes of a history's leakage and of what is drawn under this key; nothing without a key
+abbrev pub simulated_with : KeyedFn → Option (List ℕ) → History → Option (List Passed)
+simulated_with f None h = Some []
+simulated_with f (Some key) h = simulated (leak_in h) (draws_in f (λ epoch. key) h)
 
 -- for a script of this meaning
 abbrev pub session_of : KeyedFn → Meaning → List Passed
