@@ -1,14 +1,18 @@
 -- A run over a server in this process that had taken nothing.
-use Rattle.std.proofs.Common.{◌≡◌, ℕ, List, [], Option, None, Some, refl, ap, subst, ◌∙◌}
+use Rattle.std.proofs.Common.{◌≡◌, ℕ, List, [], ◌++◌, Option, None, Some, refl, sym, ap, subst, ◌∙◌}
 use Rattle.std.specs.Prelude.{IfSome}
 use Rattle.keyed_fn.specs.KeyedFn.{KeyedFn}
 use Rattle.server_core.specs.State.{ServerState, at_first}
-use Rattle.script_meaning.specs.Headline.{IsOverHonest, IsCalm}
-use Rattle.sse_link.proofs.Honest.{IsServed-dropped}
-use Rattle.sse_link.specs.Events.{Remote}
-use Rattle.sse_link.specs.Served.{IsServed, idle}
+use Rattle.script_meaning.specs.Headline.{IsOverHonest, IsCalm, Headline}
+use Rattle.script_meaning.specs.Meaning.{meaning}
+use Rattle.script_meaning.specs.Session.{IsFree}
+use Rattle.link_events.proofs.Honest.{IsServed-dropped}
+use Rattle.link_events.specs.Events.{Event, Remote}
+use Rattle.link_events.specs.Served as links
+use Rattle.link_events.specs.Served.{IsServed, idle}
 use Rattle.sse_link.specs.Told.{Told, told_first, served}
-use Rattle.sse_client.specs.Stands.{seen, IsHonest, HasHeadline, HasRunInMemory, IsMeant}
+use Rattle.sse_client.specs.Stands.{seen, IsHonest, HasHeadline}
+use Rattle.sse_client.specs.OverServer.{HasRunOverServer, PrintsAsRun, PrintsAsMeant}
 use Rattle.sse_client.proofs.Opening.{IfSome-then}
 
 abbrev remote : ServerState → Option Remote
@@ -18,39 +22,49 @@ abbrev state_in : ServerState → Option Remote → ServerState
 state_in other None = other
 state_in other (Some r) = r.state
 
-module _ (f : KeyedFn) (old new : Told) (first : ServerState) (fresh : old ≡ told_first first) (nothing : first ≡ at_first) (kept : remote new.began ≡ remote old.began)
-    (honest : IsServed f (idle new.began) new.events (served new)) (remaining : Option (List ℕ)) (before after : Option (List ℕ)) (status : ℕ) where
-  began_first : new.began ≡ at_first
-  began_first = ap (state_in at_first) kept ∙ ap (λ (t : Told). t.began) fresh ∙ nothing
+-- what an honest transcript is, where nothing had passed before it
+over_honest : (f : KeyedFn) (past events : List Event) (state : ServerState) → past ≡ [] → links.IsHonest f at_first events state → IsOverHonest f (Some past) (Some events) state
+over_honest f past events state none honest = record { past = past; told = refl; events = events; adds = ap (λ xs. Some (xs ++ events)) (sym none); honest = honest }
 
-  over : IsOverHonest f (Some []) (Some new.events) new.state
-  over = record {
-    past = [];
-    told = refl;
-    events = new.events;
-    adds = refl;
-    honest = subst (λ s. IsServed f (idle s) new.events (idle new.state)) began_first (IsServed-dropped f (idle new.began) (served new) new.events honest);
-  }
+-- A link that is lent.
 
-  pub in_memory-runs : IfSome remaining (λ bytes. IsHonest f bytes (seen (Some old.events) before) (seen (Some new.events) after) status)
-      → IfSome remaining (λ bytes. HasRunInMemory f bytes before after status)
-  in_memory-runs runs =
-      IfSome-then remaining (λ bytes. IsHonest f bytes (seen (Some old.events) before) (seen (Some new.events) after) status) (λ bytes. HasRunInMemory f bytes before after status)
+module _ (f : KeyedFn) (old new : Told) (fresh : old ≡ told_first at_first) (kept : remote new.began ≡ remote old.began) (honest : IsServed f (idle new.began) new.events (served new)) where
+  pub over_server-honest : links.IsHonest f at_first new.events new.state
+  over_server-honest =
+      subst (λ s. IsServed f (idle s) new.events (idle new.state)) (ap (state_in at_first) kept ∙ ap (λ (t : Told). t.began) fresh) (IsServed-dropped f (idle new.began) (served new) new.events honest)
+
+  over : IsOverHonest f (Some old.events) (Some new.events) new.state
+  over = over_honest f old.events new.events new.state (ap (λ (t : Told). t.events) fresh) over_server-honest
+
+  module _ (remaining before after : Option (List ℕ)) (status : ℕ) where
+    pub over_server-runs : IfSome remaining (λ bytes. IsHonest f bytes (seen (Some old.events) before) (seen (Some new.events) after) status)
+        → IfSome remaining (λ bytes. HasRunOverServer f bytes (seen (Some old.events) before) (seen (Some new.events) after) status)
+    over_server-runs = IfSome-then remaining (λ bytes. IsHonest f bytes (seen (Some old.events) before) (seen (Some new.events) after) status)
+        (λ bytes. HasRunOverServer f bytes (seen (Some old.events) before) (seen (Some new.events) after) status)
+        (λ bytes run. record { run = run.run; stopped = run.stopped new.state over })
+
+    pub over_server-headline : IsCalm status → IfSome remaining (λ bytes. HasHeadline f bytes (seen (Some old.events) before) (seen (Some new.events) after) status)
+        → IfSome remaining (λ bytes. IsFree f (meaning bytes).key (meaning bytes).history → Headline f (meaning bytes) (seen (Some old.events) before) (seen (Some new.events) after) status new.state)
+    over_server-headline calm = IfSome-then remaining (λ bytes. HasHeadline f bytes (seen (Some old.events) before) (seen (Some new.events) after) status)
+        (λ bytes. IsFree f (meaning bytes).key (meaning bytes).history → Headline f (meaning bytes) (seen (Some old.events) before) (seen (Some new.events) after) status new.state)
+        (λ bytes headline free. headline new.state over free calm)
+
+-- A link that is made and dropped: what is printed.
+
+module _ (f : KeyedFn) (old new : Told) (first : ServerState) (fresh : old ≡ told_first first) (honest : links.IsHonest f at_first new.events new.state) (remaining before after : Option (List ℕ)) (status : ℕ) where
+  pub in_memory-runs : IfSome remaining (λ bytes. HasRunOverServer f bytes (seen (Some old.events) before) (seen (Some new.events) after) status)
+      → IfSome remaining (λ bytes. PrintsAsRun f bytes before after status)
+  in_memory-runs = IfSome-then remaining (λ bytes. HasRunOverServer f bytes (seen (Some old.events) before) (seen (Some new.events) after) status) (λ bytes. PrintsAsRun f bytes before after status)
       (λ bytes run. record {
         told = Some new.events;
         state = new.state;
-        over = over;
-        honest = subst (λ (t : Told). IsHonest f bytes (seen (Some t.events) before) (seen (Some new.events) after) status) fresh run;
+        over = over_honest f [] new.events new.state refl honest;
+        runs = subst (λ (t : Told). HasRunOverServer f bytes (seen (Some t.events) before) (seen (Some new.events) after) status) fresh run;
       })
-      runs
 
-  pub in_memory-headline : IsCalm status → IfSome remaining (λ bytes. HasHeadline f bytes (seen (Some old.events) before) (seen (Some new.events) after) status)
-      → IfSome remaining (λ bytes. IsMeant f bytes before after status)
-  in_memory-headline calm runs =
-      IfSome-then remaining (λ bytes. HasHeadline f bytes (seen (Some old.events) before) (seen (Some new.events) after) status) (λ bytes. IsMeant f bytes before after status)
-      (λ bytes h free. (
-        Some new.events,
-        new.state,
-        subst (λ (t : Told). HasHeadline f bytes (seen (Some t.events) before) (seen (Some new.events) after) status) fresh h new.state over free calm,
-      ))
-      runs
+  pub in_memory-headline : IfSome remaining (λ bytes. IsFree f (meaning bytes).key (meaning bytes).history → Headline f (meaning bytes) (seen (Some old.events) before) (seen (Some new.events) after) status new.state)
+      → IfSome remaining (λ bytes. PrintsAsMeant f bytes before after status)
+  in_memory-headline =
+      IfSome-then remaining (λ bytes. IsFree f (meaning bytes).key (meaning bytes).history → Headline f (meaning bytes) (seen (Some old.events) before) (seen (Some new.events) after) status new.state)
+      (λ bytes. PrintsAsMeant f bytes before after status)
+      (λ bytes headline free. record { status_is = (headline free).status_is; q = (headline free).q; printed = (headline free).printed })

@@ -7,6 +7,7 @@ pub mod Sending
 pub mod PagesRead
 pub mod Reading
 pub mod PagesPassed
+pub mod OwnMemory
 pub mod Replying
 pub mod Parts
 pub mod Plans
@@ -15,4 +16,5 @@ pub mod Taking
 pub mod Updated
 pub mod Running
 pub mod Opening
+pub mod LastLine
 pub mod InMemory

@@ -7,7 +7,10 @@ use Rattle.client_registry.specs.Histories.{empty}
 use Rattle.keyed_fn.specs.KeyedFn.{KeyedFn, IsKeyedFn}
 use Rattle.server_core.specs.State.{ServerState}
 use Rattle.script_meaning.proofs.Headline.{honest_status, headline}
-use Rattle.script_meaning.specs.Headline.{IsOverHonest, IsCalm, Headline}
+use Rattle.script_meaning.proofs.Simulated.{sends_simulated}
+use Rattle.script_meaning.proofs.RunGoes.{goes}
+use Rattle.script_meaning.proofs.Within.{meaning_is_kept}
+use Rattle.script_meaning.specs.Headline.{IsOverHonest, IsCalm, Headline, SendsSimulated}
 use Rattle.script_meaning.specs.Meaning.{meaning}
 use Rattle.script_meaning.specs.Session.{IsFree}
 use Rattle.sse_frames.specs.Frames.{Hello}
@@ -21,7 +24,7 @@ use Rattle.script_meaning.specs.Runs.{Ended, ended, moment, OpensFrom, OpensAtKe
 use Rattle.script_meaning.specs.Stops as ends
 use Rattle.script_meaning.specs.Stops.{status_of, stop_text}
 use Rattle.sse_client.specs.Exchanges.{HasExchanged, HasCut}
-use Rattle.sse_client.specs.Stands.{seen, EndsFrom, OpensTo, HasRun, HasRunTo}
+use Rattle.sse_client.specs.Stands.{seen, EndsFrom, OpensTo, HasRun, HasSimulatedRun}
 
 -- what follows from what holds of a result holds of it
 pub IfOk-then : {T E : Type 0} (r : Result T E) (P Q : T → Type 0) → ((x : T) → P x → Q x) → IfOk r P → IfOk r Q
@@ -71,7 +74,7 @@ module _ (f : KeyedFn) (n : ℕ) (reader : List ℕ) (remaining : Option (List �
         )
 
 -- a run with its last line
-pub has_run : (f : KeyedFn) (remaining : Option (List ℕ)) (now : Outside) (told told' : Told) (written written' : Option (List ℕ)) (stop : ends.Stop) (status q : ℕ)
+unfoldable pub has_run : (f : KeyedFn) (remaining : Option (List ℕ)) (now : Outside) (told told' : Told) (written written' : Option (List ℕ)) (stop : ends.Stop) (status q : ℕ)
     → OpensTo f (lines_left [] remaining) now (seen told written) stop → told' ≡ told → written' ≡ append_known written (take q (stop_text stop)) → status ≡ status_of stop
     → IfSome remaining (λ bytes. HasRun f bytes now (seen told' written') status)
 has_run f None now told told' written written' stop status q o same printed is = tt
@@ -80,17 +83,6 @@ has_run f (Some bytes) now told told' written written' stop status q o same prin
   opens = o.2;
   ends = record { told = same; q = q; printed = printed };
   status_is = is;
-}
-
--- what it had printed when it stopped
-pub has_run_to : (f : KeyedFn) (remaining : Option (List ℕ)) (now : Outside) (told told' : Told) (written written' : Option (List ℕ)) (stop : ends.Stop) (status q : ℕ)
-    → OpensTo f (lines_left [] remaining) now (seen told written) stop → told' ≡ told → written' ≡ append_known written (take q (stop_text stop)) → status ≡ status_of stop
-    → IfSome remaining (λ bytes. HasRunTo f bytes now (seen told' written') written status)
-unfolding has_run
-has_run_to f None now told told' written written' stop status q o same printed is = tt
-has_run_to f (Some bytes) now told told' written written' stop status q o same printed is = record {
-  run = has_run f (Some bytes) now told told' written written' stop status q o same printed is;
-  lines = refl;
 }
 
 pub nothing_more : (written : Option (List ℕ)) → written ≡ append_known written []
@@ -112,6 +104,15 @@ module _ (f : KeyedFn) (laws : IsKeyedFn f) (bytes : List ℕ) (now last : Outsi
   run-headline run honest free calm =
       subst (λ n. Headline f (meaning bytes) now last n state) (sym run.status_is)
       (headline f laws bytes now run.end run.opens state (over_link run honest) last run.ends free (subst IsCalm run.status_is calm))
+
+-- over every link, what it sent is what the simulator makes first
+pub run-simulated : (f : KeyedFn) (bytes : List ℕ) (now last : Outside) (status : ℕ) → HasRun f bytes now last status → HasSimulatedRun f bytes now last status
+run-simulated f bytes now last status run = record {
+  run = run;
+  sends =
+      subst (SendsSimulated f run.end.key run.end.history now.told) (sym run.ends.told)
+      (sends_simulated f (meaning bytes) now run.end (goes f bytes now run.end run.opens) (meaning_is_kept bytes).0);
+}
 
 -- what follows from each of a known list of bytes
 pub IfSome-then : {T : Type 0} (o : Option T) (P Q : T → Type 0) → ((x : T) → P x → Q x) → IfSome o P → IfSome o Q

@@ -8,16 +8,16 @@ use Rattle.client_replies.specs.Pages.{IsNextPage, IsNoPage, IsRefused}
 use Rattle.client_replies.specs.declared.reply_fault.ReplyFault.{ReplyFault}
 use Rattle.client_replies.specs.declared.reply_fault.ReplyFault.TheVariants as faults
 use Rattle.client_registry.specs.Live.{in_order}
+use Rattle.sse_frames.specs.Exchange as texts
+use Rattle.sse_frames.specs.Exchange.{ForAnswer}
 use Rattle.sse_frames.specs.Frames.{SearchFrame, frame_bytes}
 use Rattle.sse_frames.specs.Replies.{ReplyText, Page, IsPage, IsIdentifier, InReplies, reply_bytes}
 use Rattle.sse_frames.specs.Sending.{pages}
 use Rattle.sse_frames.proofs.AnswerPages.{replies_back}
 use Rattle.sse_frames.proofs.Replied.{InReplies-pages}
-use Rattle.sse_link.specs.Events.{Sent, Received}
-use Rattle.sse_link.specs.declared.mark.Mark.TheVariants.{Unknown}
+use Rattle.link_events.specs.Events.{Sent, Received}
+use Rattle.link_events.specs.declared.mark.Mark.TheVariants.{Unknown}
 use Rattle.sse_model.proofs.Counts.{AllByRecursion-append}
-use Rattle.sse_model.specs.Exchange.{ForAnswer}
-use Rattle.sse_model.specs.Transcript as model
 use Rattle.sse_script.specs.Shown as cause
 use Rattle.sse_script.specs.Shown.{Cause}
 use Rattle.script_meaning.specs.Exchange.{Told, Adds, IsAllowed, IsAwaiting, ShowsInReplies, as_event}
@@ -47,7 +47,7 @@ HasSearched-last old now new token items items' found count reply ids reading on
               (All-nil _);
           count = refl;
           each =
-              ap (λ x. Sent (frame_bytes (SearchFrame token)) Unknown ∷ x) (bare_received replies ∙ ap (map Received) (all_received reading.took reply ids reading.each page.reply some) ∙ sym (events_received (pages answer)) ∙ ap (map as_event) (sym (append-nil (map model.Received (pages answer)))));
+              ap (λ x. Sent (frame_bytes (SearchFrame token)) Unknown ∷ x) (bare_received replies ∙ ap (map Received) (all_received reading.took reply ids reading.each page.reply some) ∙ sym (events_received (pages answer)) ∙ ap (map as_event) (sym (append-nil (map texts.Received (pages answer)))));
         };
       };
       rising = rising ∙ ap in_order (more ∙ ap (λ x. x ++ ids) reading.items_are);

@@ -4,13 +4,13 @@ use Rattle.std.proofs.lemmas.List.Elements.{All-nil}
 use Rattle.client_replies.specs.Faults.{fault_told, IsFaultOf}
 use Rattle.client_replies.specs.declared.reply_fault.ReplyFault.{ReplyFault}
 use Rattle.client_replies.specs.declared.reply_fault.ReplyFault.TheVariants as faults
+use Rattle.sse_frames.specs.Exchange as texts
+use Rattle.sse_frames.specs.Exchange.{Asked, ForNext, ForTook, ForAnswer, asked, expected, answers_to}
 use Rattle.sse_frames.specs.Frames.{FrameText, Hello, SetupBegin, SetupDict, SetupArray, SetupEnd, AddFrame, DeleteFrame, SearchFrame, frame_bytes, update_number}
 use Rattle.sse_frames.specs.Replies.{ReplyText, Next, Took, Number, Clash, Page, BadList, NoMemory, StoreFault, BadFrame, OutOfPlace, InReplies, IsIdentifier, reply_bytes}
-use Rattle.sse_link.specs.Events.{Event, Sent, Received}
-use Rattle.sse_link.specs.declared.mark.Mark.{Mark}
-use Rattle.sse_link.specs.declared.mark.Mark.TheVariants.{Unknown}
-use Rattle.sse_model.specs.Exchange.{Asked, ForNext, ForTook, ForAnswer, asked, expected, answers_to}
-use Rattle.sse_model.specs.Transcript as model
+use Rattle.link_events.specs.Events.{Event, Sent, Received}
+use Rattle.link_events.specs.declared.mark.Mark.{Mark}
+use Rattle.link_events.specs.declared.mark.Mark.TheVariants.{Unknown}
 use Rattle.sse_script.specs.Shown as cause
 use Rattle.sse_script.specs.Shown.{Cause}
 use Rattle.script_meaning.proofs.Going.{Adds-nothing, AreExchanged-none}
@@ -105,7 +105,7 @@ HasExchanged-answered old new bytes reply frame asks r is none expects spelled r
     each =
         ap (λ b. Sent b Unknown ∷ Received reply ∷ []) spelled
         ∙ ap (λ b. Sent (frame_bytes frame) Unknown ∷ Received b ∷ []) replied
-        ∙ ap (λ rs. Sent (frame_bytes frame) Unknown ∷ map as_event (map model.Received rs ++ [])) (sym (ap (expected []) is ∙ expects));
+        ∙ ap (λ rs. Sent (frame_bytes frame) Unknown ∷ map as_event (map texts.Received rs ++ [])) (sym (ap (expected []) is ∙ expects));
   };
 }
 

@@ -4,8 +4,8 @@ use Rattle.std.specs.Prelude.{option_map, IfErr, IsErrAnd, OnErr}
 use Rattle.std.proofs.lemmas.List.{append-nil}
 use Rattle.sse_link.specs.declared.link_fault.LinkFault.{LinkFault}
 use Rattle.sse_link.specs.declared.link_fault.LinkFault.TheVariants as faults
-use Rattle.sse_link.specs.Events.{Event, Sent, Received}
-use Rattle.sse_link.specs.declared.mark.Mark.{Mark}
+use Rattle.link_events.specs.Events.{Event, Sent, Received}
+use Rattle.link_events.specs.declared.mark.Mark.{Mark}
 use Rattle.sse_script.specs.Shown as cause
 use Rattle.script_meaning.specs.Exchange.{Told, Adds}
 use Rattle.sse_client.specs.Progress.{IsAnswered, IsUnanswered}

@@ -7,8 +7,8 @@ use Rattle.client_replies.specs.Pages.{IsNextPage}
 use Rattle.sse_frames.specs.Frames.{SearchFrame, frame_bytes}
 use Rattle.sse_frames.specs.Replies.{Page, IsPage, IsIdentifier, InReplies, reply_bytes}
 use Rattle.sse_frames.specs.Sending.{pages}
-use Rattle.sse_link.specs.Events.{Sent, Received}
-use Rattle.sse_link.specs.declared.mark.Mark.{Mark}
+use Rattle.link_events.specs.Events.{Sent, Received}
+use Rattle.link_events.specs.declared.mark.Mark.{Mark}
 use Rattle.sse_model.proofs.Counts.{AllByRecursion-append}
 use Rattle.script_meaning.specs.Exchange.{Told, Adds}
 use Rattle.sse_client.proofs.PagesRead.{joined, joined-push, full_pages, pages-full}

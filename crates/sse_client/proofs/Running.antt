@@ -1,6 +1,6 @@
 -- A run over the lines of a script: one command, each way out of the loop over the lines, and each turn of it.
-use Rattle.std.proofs.Common.{◌≡◌, ◌≢◌, ◌⊎◌, inl, inr, ℕ, ◌+◌, ◌<◌, Bool, true, false, ◌||◌, List, [], length, nat_lt, refl, sym, ap, subst, ◌∙◌}
-use Rattle.std.specs.Prelude.{Option, None, Some, Result, Ok, Err, IfErr, IsErrAnd, IfSome, option_map, flat_map, take, map, ◌^◌, if◌then◌else◌}
+use Rattle.std.proofs.Common.{◌≡◌, ◌⊎◌, inl, inr, ℕ, ◌+◌, ◌<◌, Bool, true, false, ◌||◌, List, [], length, nat_lt, refl, sym, ap, subst, ◌∙◌}
+use Rattle.std.specs.Prelude.{Option, None, Some, Result, Ok, Err, IfErr, IsErrAnd, IfSome, option_map, flat_map, map, ◌^◌, if◌then◌else◌}
 use Rattle.std.specs.Io.KnownBytes.{append_known}
 use Rattle.std.proofs.lemmas.Bool.{lt-ltb}
 use Rattle.client_registry.specs.Histories.{empty}
@@ -9,6 +9,7 @@ use Rattle.client_registry.specs.Run.{History}
 use Rattle.keyed_fn.specs.KeyedFn.{KeyedFn}
 use Rattle.sse_outside.specs.declared.device_fault.DeviceFault.{DeviceFault}
 use Rattle.sse_outside.specs.declared.device_fault.DeviceFault.TheVariants as devices
+use Rattle.sse_outside.specs.Fronts.{TookFront}
 use Rattle.sse_script.specs.Lines as read
 use Rattle.sse_script.specs.Lines.{line_of}
 use Rattle.sse_script.specs.Shown.{BadLine, NoMemory}
@@ -55,17 +56,14 @@ module _ (f : KeyedFn) (stage next : Stage) (came : Came) (request : Request) (o
   sink_stop devices.NoMemory = inr refl
 
   -- or a front of them, and the run stops
-  pub stops-unprinted : (fault : DeviceFault) (n : ℕ) → outcome_view came ≢ [] → after_it ≡ append_known before (take n (flat_map text_of (outcome_view came)))
-      → StopsRun f stage request (seen old before) (seen new after_it) (stop_seen (stop_of_sink fault))
-  stops-unprinted fault n some printed = λ place at.
+  pub stops-unprinted : (fault : DeviceFault) → TookFront before after_it (flat_map text_of (outcome_view came)) → StopsRun f stage request (seen old before) (seen new after_it) (stop_seen (stop_of_sink fault))
+  stops-unprinted fault front = λ place at.
       let g = takes place at in
       inr (inr (record {
         stops = sink_stop fault;
         answers = g.answers;
         sent = g.sent;
-        some = λ none. some (g.shown ∙ ap (with_answers (map in_order g.answers)) none);
-        p = n;
-        printed = printed ∙ ap (λ text. append_known before (take n text)) (text_of_came g.answers came (outcome place request) g.shown);
+        printed = subst (TookFront before after_it) (text_of_came g.answers came (outcome place request) g.shown) front;
       }))
 
 -- Lines.

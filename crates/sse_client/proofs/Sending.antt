@@ -5,9 +5,9 @@ use Rattle.client_core.specs.Sending.{first_number, to_send}
 use Rattle.client_core.specs.declared.behind.Behind.{Behind}
 use Rattle.client_replies.specs.Faults.{IsFaultOf}
 use Rattle.client_replies.specs.declared.reply_fault.ReplyFault.{ReplyFault}
+use Rattle.sse_frames.specs.Exchange.{ForTook}
 use Rattle.sse_frames.specs.Frames.{FrameText, frame_bytes, update_number}
 use Rattle.sse_frames.specs.Replies.{Took, reply_bytes}
-use Rattle.sse_model.specs.Exchange.{ForTook}
 use Rattle.sse_script.specs.Shown.{Cause}
 use Rattle.script_meaning.proofs.Going.{Adds-joined, Adds-nothing, AreExchanged-both, AreExchanged-none}
 use Rattle.script_meaning.specs.Exchange.{Told, AreExchanged, IsCut}

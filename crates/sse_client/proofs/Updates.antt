@@ -10,7 +10,6 @@ use Rattle.std.proofs.lemmas.Bool.{true≢false, ne_eqb, eqb-true, eqb-false, le
 use Rattle.std.proofs.lemmas.Iterator.Adapters.{position_from-zero}
 use Rattle.std.proofs.lemmas.List.{append-nil}
 use Rattle.std.proofs.lemmas.List.Folds.{list_any-append}
-use Rattle.std.proofs.lemmas.Option.{none-some}
 use Rattle.client_registry.proofs.FactsLaws.{is_some-words_with_id}
 use Rattle.client_registry.proofs.HistoryLaws.{IsKept-longer, counter_in-below}
 use Rattle.client_registry.proofs.LiveLaws.{added_list-push, live-push}
@@ -45,8 +44,6 @@ use Rattle.client_core.specs.declared.command_fault.CommandFault.TheVariants as 
 use Rattle.client_core.specs.declared.ready.Ready.{Ready}
 use Rattle.sse_client.specs.UpdateFaults.{refusal_in, update_of_command}
 use Rattle.sse_client.specs.UpdatePlans.{IsUpdateFault}
-use Rattle.sse_client.specs.declared.update_fault.UpdateFault.{UpdateFault}
-use Rattle.sse_client.specs.declared.update_fault.UpdateFault.TheVariants as updates
 
 -- Refusals.
 

@@ -9,3 +9,5 @@ pub mod Progress
 pub mod Causes
 pub mod Exchanges
 pub mod Stands
+pub mod OverServer
+pub mod LastLine

@@ -2,8 +2,8 @@
 use Rattle.std.specs.Prelude.{◌≡◌, ◌⊎◌, ℕ, ◌+◌, List, [], ◌∷◌, Option, Some, None}
 use Rattle.sse_frames.specs.Frames.{FrameText, update_number}
 use Rattle.sse_frames.specs.Replies.{ReplyText, Next}
-use Rattle.sse_link.specs.Events.{Event, Sent, Received}
-use Rattle.sse_link.specs.declared.mark.Mark.{Mark}
+use Rattle.link_events.specs.Events.{Event, Sent, Received}
+use Rattle.link_events.specs.declared.mark.Mark.{Mark}
 use Rattle.sse_script.specs.Shown.{Cause, LinkFault, NoMemory}
 use Rattle.script_meaning.specs.Exchange.{Told, Adds}
 

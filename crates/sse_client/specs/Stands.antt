@@ -7,7 +7,7 @@ use Rattle.client_registry.specs.Live.{in_order}
 use Rattle.client_registry.specs.Run.{History, Run}
 use Rattle.keyed_fn.specs.KeyedFn.{KeyedFn}
 use Rattle.server_core.specs.State.{ServerState}
-use Rattle.script_meaning.specs.Headline.{IsOverHonest, IsCalm, Headline}
+use Rattle.script_meaning.specs.Headline.{IsOverHonest, IsCalm, Headline, SendsSimulated}
 use Rattle.script_meaning.specs.Meaning.{meaning}
 use Rattle.script_meaning.specs.Session.{IsFree}
 use Rattle.sse_script.specs.Shown.{Cause, BadWords, BadLine, SourceFault, NoMemory}
@@ -122,32 +122,20 @@ pub record HasRun (f : KeyedFn) (bytes : List ℕ) (now last : Outside) (status 
   pub ends : Ends end last
   pub status_is : status ≡ status_of end.stop
 
--- the same, which had printed so much when it stopped, before its last line
-pub record HasRunTo (f : KeyedFn) (bytes : List ℕ) (now last : Outside) (written : Option (List ℕ)) (status : ℕ) : Type 0 where
-  pub run : HasRun f bytes now last status
-  pub lines : run.end.outside.written ≡ written
-
 -- a whole run that, over an honest link from a server that had taken nothing, no collision and no reply stopped, where its
 -- history up to its stop has no collision
 pub record IsHonest (f : KeyedFn) (bytes : List ℕ) (now last : Outside) (status : ℕ) : Type 0 where
   pub run : HasRun f bytes now last status
   pub stopped : (state : ServerState) → IsOverHonest f now.told last.told state → IsFree f run.end.key run.end.history → status ≤ 7
 
+-- a whole run in which the frames that were sent are the first that the simulator makes of the history up to its stop, the
+-- command in hand included, whatever the link replied
+pub record HasSimulatedRun (f : KeyedFn) (bytes : List ℕ) (now last : Outside) (status : ℕ) : Type 0 where
+  pub run : HasRun f bytes now last status
+  pub sends : SendsSimulated f run.end.key run.end.history now.told last.told
+
 -- where nothing disturbed a run, it did what its script means
 abbrev pub HasHeadline : KeyedFn → List ℕ → Outside → Outside → ℕ → Type 0
 HasHeadline f bytes now last status =
     (state : ServerState) → IsOverHonest f now.told last.told state → IsFree f (meaning bytes).key (meaning bytes).history → IsCalm status
     → Headline f (meaning bytes) now last status state
-
--- a whole run over a server that had taken nothing, with what passed and the server behind it
-pub record HasRunInMemory (f : KeyedFn) (bytes : List ℕ) (old new : Option (List ℕ)) (status : ℕ) : Type 0 where
-  pub told : Told
-  pub state : ServerState
-  pub over : IsOverHonest f (Some []) told state
-  pub honest : IsHonest f bytes (seen (Some []) old) (seen told new) status
-
--- where its history has no collision, the script did what it means, over a server that had taken nothing
-abbrev pub IsMeant : KeyedFn → List ℕ → Option (List ℕ) → Option (List ℕ) → ℕ → Type 0
-IsMeant f bytes old new status =
-    IsFree f (meaning bytes).key (meaning bytes).history
-    → (told : Told) × (state : ServerState) × Headline f (meaning bytes) (seen (Some []) old) (seen told new) status state

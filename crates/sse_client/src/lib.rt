@@ -1,8 +1,8 @@
 //! The client program: it reads a script, keeps its words and documents to itself, sends frames over a
 //! link, and prints what came back. It stands on `client_core` for what is sent and what a reply means,
 //! on `sse_script` for the lines, on `line_documents` for what their fields make, and on the traits of the outside for
-//! everything else. `sse_run` is all that a client program does; `run_in_memory` is the same over a server in this
-//! process, and `run_on_bytes` over a script in memory too.
+//! everything else. `sse_run` is all that a client program does; `run_over_server` is the same over a
+//! server in this process, `run_in_memory` makes that server too, and `run_on_bytes` has the script in memory.
 #![tactic(auto)]
 
 mod exchange;
@@ -18,4 +18,4 @@ mod update_fault;
 mod updating;
 mod words;
 
-pub use run::{run_in_memory, run_on_bytes, sse_run};
+pub use run::{run_in_memory, run_on_bytes, run_over_server, sse_run};

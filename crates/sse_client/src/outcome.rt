@@ -1,6 +1,6 @@
-ghost use Rattle.std.specs.Prelude.{◌≡◌, ◌≢◌, ℕ, ◌≤◌, [], take, flat_map, IfErr, OnOk, IsErrOf};
+ghost use Rattle.std.specs.Prelude.{◌≡◌, ◌≤◌, flat_map, IfErr, OnOk, OnErr};
 ghost use Rattle.std.specs.Io.KnownBytes.{append_known};
-ghost use Rattle.sse_outside.specs.Causes.{Rose};
+ghost use Rattle.sse_outside.specs.Fronts.{TookFront};
 ghost use Rattle.sse_script.specs.Texts.{text_of};
 ghost use Rattle.sse_client.specs.Causes.{PrintCause};
 ghost use Rattle.sse_client.specs.OutcomeViews.{outcome_view, refuses};
@@ -37,10 +37,10 @@ impl Outcome {
     /// Prints the line of the outcome, where it has one.
     pub(crate) fn print<W: Sink>(&self, alloc: Global, sink: &mut W) -> Result<(), DeviceFault>
         ensures all { OnOk result (W.written sink.new ≡ append_known (W.written sink.old) (flat_map text_of (outcome_view self.now))) }
-        ensures front { (n : ℕ) × (W.written sink.new ≡ append_known (W.written sink.old) (take n (flat_map text_of (outcome_view self.now)))) }
-        ensures silent { IfErr result (λ fault. outcome_view self.now ≢ []) }
+        ensures front { OnErr result (TookFront (W.written sink.old) (W.written sink.new) (flat_map text_of (outcome_view self.now))) }
         ensures steady { OnOk result (W.faults sink.new ≡ W.faults sink.old) }
         ensures cause { IfErr result (PrintCause (W.faults sink.old) (W.faults sink.new)) }
+        ensures no_fewer { W.shortages sink.old ≤ W.shortages sink.new }
     {
         match self {
             Outcome::Nothing => Ok(()),

@@ -1,23 +1,32 @@
-ghost use Rattle.std.specs.Prelude.{◌≡◌, ◌≢◌, ◌≤◌, ◌+◌, ◌^◌, ◌||◌, ℕ, List, [], Bool, false, None, Err, length, map, take, string_bytes, IsErrOf, IfErr, IfOk, OnOk, IfSome};
+ghost use Rattle.std.specs.Prelude.{◌≡◌, ◌≢◌, ◌≤◌, ◌+◌, ◌^◌, ◌||◌, ℕ, List, [], Bool, false, None, Some, Err, length, map, take, string_bytes, IsErrOf, IfErr, IfOk, OnOk, IfSome};
 ghost use Rattle.std.specs.Io.KnownBytes.{append_known, IsAtEnd};
 ghost use Rattle.client_registry.specs.Histories.{empty};
 ghost use Rattle.keyed_fn.specs.KeyedFn.{KeyedFn, keyed_fn};
+ghost use Rattle.server_core.specs.State.{at_first};
+ghost use Rattle.link_events.specs.Served as links;
+ghost use Rattle.sse_link.specs.Told.{told_first};
 ghost use Rattle.sse_outside.specs.Causes.{Rose};
+ghost use Rattle.sse_outside.specs.Fronts.{TookOrRose};
 ghost use Rattle.sse_script.specs.Shown.{Stopped, BadWords};
 ghost use Rattle.sse_script.specs.TextLines.{bytes_to_come, lines_left};
 ghost use Rattle.sse_script.specs.Texts.{text_of};
 ghost use Rattle.sse_script.specs.Views.{line_view};
 ghost use Rattle.script_meaning.specs.Carries.{Outside};
+ghost use Rattle.script_meaning.specs.Headline.{Headline};
 ghost use Rattle.script_meaning.specs.Lines as requests;
 ghost use Rattle.script_meaning.specs.Lines.{Request, line_read};
+ghost use Rattle.script_meaning.specs.Meaning.{meaning};
 ghost use Rattle.script_meaning.specs.Outcome.{Place};
 ghost use Rattle.script_meaning.specs.Runs.{Ended, ended, moment, OpensFrom, OpensAtKey};
+ghost use Rattle.script_meaning.specs.Session.{IsFree};
 ghost use Rattle.script_meaning.specs.Stops as ends;
 ghost use Rattle.script_meaning.specs.Stops.{status_of, stop_text};
-ghost use Rattle.sse_client.specs.Words.{IsRun};
+ghost use Rattle.sse_client.specs.Words as asks;
 ghost use Rattle.sse_client.specs.Causes.{LinkCause, SourceCause, SinkCause};
 ghost use Rattle.sse_client.specs.Stages.{key_of, words_in};
-ghost use Rattle.sse_client.specs.Stands.{IsAt, seen, stop_seen, has_refused, CarriesOut, StopsRun, EndsFrom, OpensTo, HasRun, HasRunTo, IsHonest, HasHeadline, HasRunInMemory, IsMeant};
+ghost use Rattle.sse_client.specs.Stands.{IsAt, seen, stop_seen, has_refused, CarriesOut, StopsRun, EndsFrom, OpensTo, HasRun, IsHonest, HasSimulatedRun, HasHeadline};
+ghost use Rattle.sse_client.specs.LastLine.{HasLastLine, HasShortLine, IsWholeOrRose};
+ghost use Rattle.sse_client.specs.OverServer.{HasRunOverServer, PrintsAsRun, PrintsAsMeant};
 ghost use Rattle.sse_client.specs.Stops.{IsInputStop};
 
 use crate::exchange::greet;
@@ -29,12 +38,13 @@ use crate::words::{Mode, mode_of};
 use client_core::Client;
 use client_registry::Docs;
 use keyed_fn::Keyed;
+use memory_disk::SteadyDisk;
 use server_core::Server;
-use server_tables::BucketTables;
+use server_tables::{BucketTables, Tables};
 use sse_frames::REPLY_ROOM;
 use sse_link::{Link, SteadyLoopback};
-use sse_outside::{Disk, Sink, Source, SteadyDisk, SteadySink, SteadySource};
-use sse_script::{Line, print};
+use sse_outside::{Disk, Sink, Source, SteadySink, SteadySource};
+use sse_script::{Line, print_stop};
 use std::alloc::Global;
 use word_keys::{MasterKey, PreparedMaster};
 
@@ -66,24 +76,28 @@ pub fn sse_run<K: Keyed, L: Link, D: Disk, S: Source, W: Sink>(
     source: &mut S,
     sink: &mut W,
 ) -> u8
-    ensures words_source { (IsRun (map (λ word. string_bytes word) words.now) → ⊥) → source.new ≡ source.old }
-    ensures words_link { (IsRun (map (λ word. string_bytes word) words.now) → ⊥) → link.new ≡ link.old }
-    ensures words_status { (IsRun (map (λ word. string_bytes word) words.now) → ⊥) → result ≡ 2 }
-    ensures words_line { (IsRun (map (λ word. string_bytes word) words.now) → ⊥) →
-        (n : ℕ) × (W.written sink.new ≡ append_known (W.written sink.old) (take n (text_of (Stopped BadWords)))) }
-    ensures runs { IsRun (map (λ word. string_bytes word) words.now) → IfSome (S.remaining source.old) (λ bytes.
+    ensures words_source { asks.mode_of (map (λ word. string_bytes word) words.now) ≡ None → source.new ≡ source.old }
+    ensures words_link { asks.mode_of (map (λ word. string_bytes word) words.now) ≡ None → link.new ≡ link.old }
+    ensures words_status { asks.mode_of (map (λ word. string_bytes word) words.now) ≡ None → result ≡ 2 }
+    ensures words_line { (asks.mode_of (map (λ word. string_bytes word) words.now) ≡ Some asks.Run → ⊥) →
+        TookOrRose (W.written sink.old) (W.written sink.new) (text_of (Stopped BadWords)) (W.faults sink.old) (W.faults sink.new) (W.shortages sink.old) (W.shortages sink.new) }
+    ensures runs { asks.mode_of (map (λ word. string_bytes word) words.now) ≡ Some asks.Run → IfSome (S.remaining source.old) (λ bytes.
         HasRun (keyed_fn K.prf K.pad) bytes (seen (L.transcript link.old) (W.written sink.old)) (seen (L.transcript link.new) (W.written sink.new)) result) }
-    ensures honest { IsRun (map (λ word. string_bytes word) words.now) → IfSome (S.remaining source.old) (λ bytes.
+    ensures simulated { asks.mode_of (map (λ word. string_bytes word) words.now) ≡ Some asks.Run → IfSome (S.remaining source.old) (λ bytes.
+        HasSimulatedRun (keyed_fn K.prf K.pad) bytes (seen (L.transcript link.old) (W.written sink.old)) (seen (L.transcript link.new) (W.written sink.new)) result) }
+    ensures honest { asks.mode_of (map (λ word. string_bytes word) words.now) ≡ Some asks.Run → IfSome (S.remaining source.old) (λ bytes.
         IsHonest (keyed_fn K.prf K.pad) bytes (seen (L.transcript link.old) (W.written sink.old)) (seen (L.transcript link.new) (W.written sink.new)) result) }
-    ensures headline { IsRun (map (λ word. string_bytes word) words.now) → IfSome (S.remaining source.old) (λ bytes.
+    ensures headline { asks.mode_of (map (λ word. string_bytes word) words.now) ≡ Some asks.Run → IfSome (S.remaining source.old) (λ bytes.
         HasHeadline (keyed_fn K.prf K.pad) bytes (seen (L.transcript link.old) (W.written sink.old)) (seen (L.transcript link.new) (W.written sink.new)) result) }
     ensures at_end { result ≤ 1 → IsAtEnd (S.remaining source.new) }
     ensures source_failed { result ≡ 3 → Rose (S.faults source.old) (S.faults source.new) }
     ensures source_steady { result ≢ 3 → S.faults source.new ≡ S.faults source.old }
     ensures sink_failed { result ≡ 4 → Rose (W.faults sink.old) (W.faults sink.new) }
     ensures sink_steady { result ≤ 1 → W.faults sink.new ≡ W.faults sink.old }
-    ensures sink_before { IsRun (map (λ word. string_bytes word) words.now) → result ≢ 4 → (then : W) × (W.faults then ≡ W.faults sink.old) × IfSome (S.remaining source.old) (λ bytes.
-        HasRunTo (keyed_fn K.prf K.pad) bytes (seen (L.transcript link.old) (W.written sink.old)) (seen (L.transcript link.new) (W.written sink.new)) (W.written then) result) }
+    ensures last_line { asks.mode_of (map (λ word. string_bytes word) words.now) ≡ Some asks.Run → IsWholeOrRose
+        (IfSome (S.remaining source.old) (λ bytes. HasLastLine (keyed_fn K.prf K.pad) bytes (seen (L.transcript link.old) (W.written sink.old)) (seen (L.transcript link.new) (W.written sink.new)) result))
+        (IfSome (S.remaining source.old) (λ bytes. HasShortLine (keyed_fn K.prf K.pad) bytes (seen (L.transcript link.old) (W.written sink.old)) (seen (L.transcript link.new) (W.written sink.new)) result))
+        result (W.faults sink.old) (W.faults sink.new) (W.shortages sink.old) (W.shortages sink.new) }
     ensures link_failed { result ≡ 5 → Rose (L.faults link.old) (L.faults link.new) }
     ensures link_steady { result ≢ 5 → L.faults link.new ≡ L.faults link.old }
     ensures began { L.began link.new ≡ L.began link.old }
@@ -92,7 +106,7 @@ pub fn sse_run<K: Keyed, L: Link, D: Disk, S: Source, W: Sink>(
 {
     match mode_of(words) {
         Some(Mode::Run) => whole_run(alloc, keyed, link, source, sink),
-        None => finish(alloc, sink, Stop::Words),
+        None => finish(sink, Stop::Words),
     }
 }
 
@@ -106,8 +120,10 @@ fn whole_run<K: Keyed, L: Link, S: Source, W: Sink>(
 ) -> u8
     ensures runs { IfSome (S.remaining source.old) (λ bytes.
         HasRun (keyed_fn K.prf K.pad) bytes (seen (L.transcript link.old) (W.written sink.old)) (seen (L.transcript link.new) (W.written sink.new)) result) }
-    ensures sink_before { result ≢ 4 → (then : W) × (W.faults then ≡ W.faults sink.old) × IfSome (S.remaining source.old) (λ bytes.
-        HasRunTo (keyed_fn K.prf K.pad) bytes (seen (L.transcript link.old) (W.written sink.old)) (seen (L.transcript link.new) (W.written sink.new)) (W.written then) result) }
+    ensures last_line { IsWholeOrRose
+        (IfSome (S.remaining source.old) (λ bytes. HasLastLine (keyed_fn K.prf K.pad) bytes (seen (L.transcript link.old) (W.written sink.old)) (seen (L.transcript link.new) (W.written sink.new)) result))
+        (IfSome (S.remaining source.old) (λ bytes. HasShortLine (keyed_fn K.prf K.pad) bytes (seen (L.transcript link.old) (W.written sink.old)) (seen (L.transcript link.new) (W.written sink.new)) result))
+        result (W.faults sink.old) (W.faults sink.new) (W.shortages sink.old) (W.shortages sink.new) }
     ensures at_end { result ≤ 1 → IsAtEnd (S.remaining source.new) }
     ensures source_failed { result ≡ 3 → Rose (S.faults source.old) (S.faults source.new) }
     ensures source_steady { result ≢ 3 → S.faults source.new ≡ S.faults source.old }
@@ -121,22 +137,23 @@ fn whole_run<K: Keyed, L: Link, S: Source, W: Sink>(
     match run_script(alloc, keyed, link, source, sink) {
         Ok(Refusals::None) => 0,
         Ok(Refusals::Some) => 1,
-        Err(stop) => finish(alloc, sink, stop),
+        Err(stop) => finish(sink, stop),
     }
 }
 
 /// Prints the last line of a run that stopped, as far as the sink takes it, and answers the run's status.
-fn finish<W: Sink>(alloc: Global, sink: &mut W, stop: Stop) -> u8
+fn finish<W: Sink>(sink: &mut W, stop: Stop) -> u8
     ensures status { result ≡ status_of (stop_seen stop) }
-    ensures line { (n : ℕ) × (W.written sink.new ≡ append_known (W.written sink.old) (take n (stop_text (stop_seen stop)))) }
+    ensures line { TookOrRose (W.written sink.old) (W.written sink.new) (stop_text (stop_seen stop))
+        (W.faults sink.old) (W.faults sink.new) (W.shortages sink.old) (W.shortages sink.new) }
     ensures later { W.faults sink.old ≤ W.faults sink.new }
     ensures source { result ≡ 3 → stop ≡ Stop.Source }
     ensures sink { result ≡ 4 → stop ≡ Stop.Sink }
     ensures link { result ≡ 5 → stop ≡ Stop.Peer PeerStop.Link }
     ensures known { (2 ≤ result) × (result ≤ 9) × (result ≢ 6) }
 {
-    if let Some(shown) = stop.shown() {
-        let _ = print(alloc, sink, &shown);
+    if let Some(cause) = stop.cause() {
+        let _ = print_stop(sink, &cause);
     }
     stop.status()
 }
@@ -158,6 +175,7 @@ fn run_script<K: Keyed, L: Link, S: Source, W: Sink>(
     ensures source_cause { IfErr result (SourceCause (S.faults source.old) (S.faults source.new)) }
     ensures sink_steady { OnOk result (W.faults sink.new ≡ W.faults sink.old) }
     ensures sink_cause { IfErr result (SinkCause (W.faults sink.old) (W.faults sink.new)) }
+    ensures no_fewer { W.shortages sink.old ≤ W.shortages sink.new }
     ensures began { L.began link.new ≡ L.began link.old }
     ensures link_steady { OnOk result (L.faults link.new ≡ L.faults link.old) }
     ensures link_cause { IfErr result (LinkCause (L.faults link.old) (L.faults link.new)) }
@@ -225,6 +243,7 @@ fn run_lines<K: Keyed, L: Link, S: Source, W: Sink>(
     ensures source_cause { IfErr result (SourceCause (S.faults source.old) (S.faults source.new)) }
     ensures sink_steady { OnOk result (W.faults sink.new ≡ W.faults sink.old) }
     ensures sink_cause { IfErr result (SinkCause (W.faults sink.old) (W.faults sink.new)) }
+    ensures no_fewer { W.shortages sink.old ≤ W.shortages sink.new }
     ensures began { L.began link.new ≡ L.began link.old }
     ensures link_steady { OnOk result (L.faults link.new ≡ L.faults link.old) }
     ensures link_cause { IfErr result (LinkCause (L.faults link.old) (L.faults link.new)) }
@@ -270,6 +289,7 @@ fn carry_out<K: Keyed, L: Link, W: Sink>(
     ensures no_source { result ≢ Err Stop.Source }
     ensures sink_steady { OnOk result (W.faults sink.new ≡ W.faults sink.old) }
     ensures sink_cause { IfErr result (SinkCause (W.faults sink.old) (W.faults sink.new)) }
+    ensures no_fewer { W.shortages sink.old ≤ W.shortages sink.new }
     ensures began { L.began link.new ≡ L.began link.old }
     ensures link_steady { OnOk result (L.faults link.new ≡ L.faults link.old) }
     ensures link_cause { IfErr result (LinkCause (L.faults link.old) (L.faults link.new)) }
@@ -279,10 +299,55 @@ fn carry_out<K: Keyed, L: Link, W: Sink>(
     Ok((next, outcome.is_refusal()))
 }
 
-/// The same over a server in this process that begins with nothing, and a disk in memory: neither ever fails.
+/// The same over a server in this process that has taken nothing, by a link over which nothing has passed: the link
+/// never fails, and all that passes over it is honest.
 ///
-/// Where source and sink didn't fail and memory wasn't wanting, the run did what its script means, unless values collide
-/// that have to differ.
+/// Where no device failed and memory wasn't wanting, the run did what its script means, unless values collide that
+/// have to differ: it printed its lines, what passed is what the simulator makes of its history's leakage, and the server
+/// holds what that leaves.
+pub fn run_over_server<K: Keyed, T: Tables, D: Disk, S: Source, W: Sink>(
+    alloc: Global,
+    words: &[String],
+    keyed: &K,
+    link: &mut SteadyLoopback<K, T>,
+    disk: &mut D,
+    source: &mut S,
+    sink: &mut W,
+) -> u8
+    requires fresh { link.old ≡ told_first at_first }
+    ensures words_source { asks.mode_of (map (λ word. string_bytes word) words.now) ≡ None → source.new ≡ source.old }
+    ensures words_link { asks.mode_of (map (λ word. string_bytes word) words.now) ≡ None → link.new ≡ link.old }
+    ensures words_status { asks.mode_of (map (λ word. string_bytes word) words.now) ≡ None → result ≡ 2 }
+    ensures words_line { (asks.mode_of (map (λ word. string_bytes word) words.now) ≡ Some asks.Run → ⊥) →
+        TookOrRose (W.written sink.old) (W.written sink.new) (text_of (Stopped BadWords)) (W.faults sink.old) (W.faults sink.new) (W.shortages sink.old) (W.shortages sink.new) }
+    ensures runs { asks.mode_of (map (λ word. string_bytes word) words.now) ≡ Some asks.Run → IfSome (S.remaining source.old) (λ bytes.
+        HasRunOverServer (keyed_fn K.prf K.pad) bytes (seen (Some link.old.events) (W.written sink.old)) (seen (Some link.new.events) (W.written sink.new)) result) }
+    ensures simulated { asks.mode_of (map (λ word. string_bytes word) words.now) ≡ Some asks.Run → IfSome (S.remaining source.old) (λ bytes.
+        HasSimulatedRun (keyed_fn K.prf K.pad) bytes (seen (Some link.old.events) (W.written sink.old)) (seen (Some link.new.events) (W.written sink.new)) result) }
+    ensures honest { links.IsHonest (keyed_fn K.prf K.pad) at_first link.new.events link.new.state }
+    ensures last_line { asks.mode_of (map (λ word. string_bytes word) words.now) ≡ Some asks.Run → IsWholeOrRose
+        (IfSome (S.remaining source.old) (λ bytes. HasLastLine (keyed_fn K.prf K.pad) bytes (seen (Some link.old.events) (W.written sink.old)) (seen (Some link.new.events) (W.written sink.new)) result))
+        (IfSome (S.remaining source.old) (λ bytes. HasShortLine (keyed_fn K.prf K.pad) bytes (seen (Some link.old.events) (W.written sink.old)) (seen (Some link.new.events) (W.written sink.new)) result))
+        result (W.faults sink.old) (W.faults sink.new) (W.shortages sink.old) (W.shortages sink.new) }
+    ensures headline { asks.mode_of (map (λ word. string_bytes word) words.now) ≡ Some asks.Run → result ≢ 3 → result ≢ 4 → result ≢ 7 → IfSome (S.remaining source.old) (λ bytes.
+        IsFree (keyed_fn K.prf K.pad) (meaning bytes).key (meaning bytes).history →
+        Headline (keyed_fn K.prf K.pad) (meaning bytes) (seen (Some link.old.events) (W.written sink.old)) (seen (Some link.new.events) (W.written sink.new)) result link.new.state) }
+    ensures at_end { result ≤ 1 → IsAtEnd (S.remaining source.new) }
+    ensures source_failed { result ≡ 3 → Rose (S.faults source.old) (S.faults source.new) }
+    ensures source_steady { result ≢ 3 → S.faults source.new ≡ S.faults source.old }
+    ensures sink_failed { result ≡ 4 → Rose (W.faults sink.old) (W.faults sink.new) }
+    ensures sink_steady { result ≤ 1 → W.faults sink.new ≡ W.faults sink.old }
+    ensures no_link_fault { result ≢ 5 }
+    ensures disk { disk.new ≡ disk.old }
+    ensures known { (result ≤ 9) × (result ≢ 6) }
+{
+    let status = sse_run(alloc, words, keyed, link, disk, source, sink);
+    // Its contract says that all that passed is honest.
+    let _passed = link.transcript();
+    status
+}
+
+/// The same over a link and a disk that are made here and dropped: what is printed, and the status.
 pub fn run_in_memory<K: Keyed + Copy, S: Source, W: Sink>(
     alloc: Global,
     words: &[String],
@@ -290,14 +355,14 @@ pub fn run_in_memory<K: Keyed + Copy, S: Source, W: Sink>(
     source: &mut S,
     sink: &mut W,
 ) -> u8
-    ensures words_source { (IsRun (map (λ word. string_bytes word) words.now) → ⊥) → source.new ≡ source.old }
-    ensures words_status { (IsRun (map (λ word. string_bytes word) words.now) → ⊥) → result ≡ 2 }
-    ensures words_line { (IsRun (map (λ word. string_bytes word) words.now) → ⊥) →
-        (n : ℕ) × (W.written sink.new ≡ append_known (W.written sink.old) (take n (text_of (Stopped BadWords)))) }
-    ensures runs { IsRun (map (λ word. string_bytes word) words.now) → IfSome (S.remaining source.old) (λ bytes.
-        HasRunInMemory (keyed_fn K.prf K.pad) bytes (W.written sink.old) (W.written sink.new) result) }
-    ensures headline { IsRun (map (λ word. string_bytes word) words.now) → result ≢ 3 → result ≢ 4 → result ≢ 7 → IfSome (S.remaining source.old) (λ bytes.
-        IsMeant (keyed_fn K.prf K.pad) bytes (W.written sink.old) (W.written sink.new) result) }
+    ensures words_source { asks.mode_of (map (λ word. string_bytes word) words.now) ≡ None → source.new ≡ source.old }
+    ensures words_status { asks.mode_of (map (λ word. string_bytes word) words.now) ≡ None → result ≡ 2 }
+    ensures words_line { (asks.mode_of (map (λ word. string_bytes word) words.now) ≡ Some asks.Run → ⊥) →
+        TookOrRose (W.written sink.old) (W.written sink.new) (text_of (Stopped BadWords)) (W.faults sink.old) (W.faults sink.new) (W.shortages sink.old) (W.shortages sink.new) }
+    ensures runs { asks.mode_of (map (λ word. string_bytes word) words.now) ≡ Some asks.Run → IfSome (S.remaining source.old) (λ bytes.
+        PrintsAsRun (keyed_fn K.prf K.pad) bytes (W.written sink.old) (W.written sink.new) result) }
+    ensures headline { asks.mode_of (map (λ word. string_bytes word) words.now) ≡ Some asks.Run → result ≢ 3 → result ≢ 4 → result ≢ 7 → IfSome (S.remaining source.old) (λ bytes.
+        PrintsAsMeant (keyed_fn K.prf K.pad) bytes (W.written sink.old) (W.written sink.new) result) }
     ensures at_end { result ≤ 1 → IsAtEnd (S.remaining source.new) }
     ensures source_failed { result ≡ 3 → Rose (S.faults source.old) (S.faults source.new) }
     ensures source_steady { result ≢ 3 → S.faults source.new ≡ S.faults source.old }
@@ -309,10 +374,7 @@ pub fn run_in_memory<K: Keyed + Copy, S: Source, W: Sink>(
     let server = Server::new(BucketTables::new(alloc));
     let mut link = SteadyLoopback::new(alloc, *keyed, server);
     let mut disk = SteadyDisk::new(alloc);
-    let status = sse_run(alloc, words, keyed, &mut link, &mut disk, source, sink);
-    // Its contract says that all that passed is honest.
-    let _passed = link.transcript();
-    status
+    run_over_server(alloc, words, keyed, &mut link, &mut disk, source, sink)
 }
 
 /// The same over a script in memory and a sink that keeps what is printed: no device fails, so that the run did what
@@ -324,13 +386,14 @@ pub fn run_on_bytes<K: Keyed + Copy>(
     source: &mut SteadySource,
     sink: &mut SteadySink,
 ) -> u8
-    ensures words_status { (IsRun (map (λ word. string_bytes word) words.now) → ⊥) → result ≡ 2 }
-    ensures words_line { (IsRun (map (λ word. string_bytes word) words.now) → ⊥) →
-        (n : ℕ) × (⟦<SteadySink as Sink>⟧.written sink.new ≡ append_known (⟦<SteadySink as Sink>⟧.written sink.old) (take n (text_of (Stopped BadWords)))) }
-    ensures runs { IsRun (map (λ word. string_bytes word) words.now) → IfSome (⟦<SteadySource as Source>⟧.remaining source.old) (λ bytes.
-        HasRunInMemory (keyed_fn K.prf K.pad) bytes (⟦<SteadySink as Sink>⟧.written sink.old) (⟦<SteadySink as Sink>⟧.written sink.new) result) }
-    ensures headline { IsRun (map (λ word. string_bytes word) words.now) → result ≢ 7 → IfSome (⟦<SteadySource as Source>⟧.remaining source.old) (λ bytes.
-        IsMeant (keyed_fn K.prf K.pad) bytes (⟦<SteadySink as Sink>⟧.written sink.old) (⟦<SteadySink as Sink>⟧.written sink.new) result) }
+    ensures words_status { asks.mode_of (map (λ word. string_bytes word) words.now) ≡ None → result ≡ 2 }
+    ensures words_line { (asks.mode_of (map (λ word. string_bytes word) words.now) ≡ Some asks.Run → ⊥) →
+        TookOrRose (⟦<SteadySink as Sink>⟧.written sink.old) (⟦<SteadySink as Sink>⟧.written sink.new) (text_of (Stopped BadWords))
+        (⟦<SteadySink as Sink>⟧.faults sink.old) (⟦<SteadySink as Sink>⟧.faults sink.new) (⟦<SteadySink as Sink>⟧.shortages sink.old) (⟦<SteadySink as Sink>⟧.shortages sink.new) }
+    ensures runs { asks.mode_of (map (λ word. string_bytes word) words.now) ≡ Some asks.Run → IfSome (⟦<SteadySource as Source>⟧.remaining source.old) (λ bytes.
+        PrintsAsRun (keyed_fn K.prf K.pad) bytes (⟦<SteadySink as Sink>⟧.written sink.old) (⟦<SteadySink as Sink>⟧.written sink.new) result) }
+    ensures headline { asks.mode_of (map (λ word. string_bytes word) words.now) ≡ Some asks.Run → result ≢ 7 → IfSome (⟦<SteadySource as Source>⟧.remaining source.old) (λ bytes.
+        PrintsAsMeant (keyed_fn K.prf K.pad) bytes (⟦<SteadySink as Sink>⟧.written sink.old) (⟦<SteadySink as Sink>⟧.written sink.new) result) }
     ensures no_fault { (result ≢ 3) × (result ≢ 4) × (result ≢ 5) }
     ensures known { (result ≤ 9) × (result ≢ 6) }
 {

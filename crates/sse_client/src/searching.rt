@@ -4,7 +4,7 @@ ghost use Rattle.keyed_fn.specs.KeyFormulas.{token_of};
 ghost use Rattle.keyed_fn.specs.KeyedFn.{keyed_fn};
 ghost use Rattle.sse_frames.specs.Frames.{SearchFrame};
 ghost use Rattle.sse_outside.specs.Causes.{Rose};
-ghost use Rattle.sse_client.specs.Exchanges.{HasSearched, HasCut};
+ghost use Rattle.sse_client.specs.Exchanges.{HasSearched, HasCut, HasOwnMemory};
 ghost use Rattle.sse_client.specs.Causes.{PeerCause};
 ghost use Rattle.sse_client.specs.Stops.{peer_cause};
 
@@ -17,7 +17,8 @@ use sse_link::Link;
 use std::alloc::Global;
 use word_keys::PreparedMaster;
 
-/// Searches the store for a word, and answers the identifiers that came back, rising.
+/// Searches the store for a word, and answers the identifiers that came back, rising. Where memory was wanting it was the
+/// client's, over an honest link: a server takes none for a search.
 pub(crate) fn search<K: Keyed, L: Link>(
     alloc: Global,
     keyed: &K,
@@ -33,6 +34,7 @@ pub(crate) fn search<K: Keyed, L: Link>(
         (SearchFrame (token_of (keyed_fn K.prf K.pad) client.now.key (word_bytes word.now))) found.items) }
     ensures stopped { IfErr result (λ stop. HasCut (L.transcript link.old) (L.transcript link.new)
         (SearchFrame (token_of (keyed_fn K.prf K.pad) client.now.key (word_bytes word.now)) ∷ []) (peer_cause stop)) }
+    ensures own_memory { result ≡ Err PeerStop.Memory → HasOwnMemory (keyed_fn K.prf K.pad) (L.transcript link.old) (L.transcript link.new) }
     ensures began { L.began link.new ≡ L.began link.old }
     ensures steady { OnOk result (L.faults link.new ≡ L.faults link.old) }
     ensures cause { IfErr result (PeerCause (L.faults link.old) (L.faults link.new)) }

@@ -1,5 +1,6 @@
 ghost use Rattle.std.specs.Prelude.{◌≡◌, ◌≢◌, ◌≤◌, option_map};
-ghost use Rattle.sse_script.specs.ShownViews.{cause_view, shown_view};
+ghost use Rattle.sse_script.specs.Shown.{Stopped};
+ghost use Rattle.sse_script.specs.ShownViews.{cause_view};
 ghost use Rattle.sse_script.specs.Stops.{cause_status};
 ghost use Rattle.script_meaning.specs.Stops.{status_of, stop_line};
 ghost use Rattle.sse_client.specs.Stands.{stop_seen};
@@ -7,7 +8,7 @@ ghost use Rattle.sse_client.specs.Stops.{peer_cause};
 
 use crate::peer_stop::PeerStop;
 use sse_outside::DeviceFault;
-use sse_script::{Cause, ReadStop, Shown};
+use sse_script::{Cause, ReadStop};
 use std::alloc::AllocError;
 
 /// What ends a run before the end of its input.
@@ -46,17 +47,17 @@ impl Stop {
         }
     }
 
-    /// The last line of the run; none where the sink is what failed.
-    pub(crate) fn shown(&self) -> Option<Shown<'_>>
-        ensures { option_map shown_view result ≡ stop_line (stop_seen self.now) }
+    /// The cause that the last line of the run tells; none where the sink is what failed.
+    pub(crate) fn cause(&self) -> Option<Cause<'_>>
+        ensures { option_map (λ cause. Stopped (cause_view cause)) result ≡ stop_line (stop_seen self.now) }
     {
         match self {
-            Stop::Words => Some(Shown::Stopped(Cause::BadWords)),
-            Stop::Line(number) => Some(Shown::Stopped(Cause::BadLine { number: *number })),
-            Stop::Source => Some(Shown::Stopped(Cause::SourceFault)),
+            Stop::Words => Some(Cause::BadWords),
+            Stop::Line(number) => Some(Cause::BadLine { number: *number }),
+            Stop::Source => Some(Cause::SourceFault),
             Stop::Sink => None,
-            Stop::Memory => Some(Shown::Stopped(Cause::NoMemory)),
-            Stop::Peer(stop) => Some(Shown::Stopped(cause_of(stop))),
+            Stop::Memory => Some(Cause::NoMemory),
+            Stop::Peer(stop) => Some(cause_of(stop)),
         }
     }
 }

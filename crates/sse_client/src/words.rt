@@ -1,5 +1,6 @@
-ghost use Rattle.std.specs.Prelude.{◌≡◌, map, Some, string_bytes};
-ghost use Rattle.sse_client.specs.Words.{IsRun};
+ghost use Rattle.std.specs.Prelude.{◌≡◌, map, option_map, string_bytes};
+ghost use Rattle.sse_client.specs.Words as asks;
+ghost use Rattle.sse_client.specs.Words.{mode_view};
 
 /// What the words of the command line ask for.
 #[derive(Debug, Clone, Copy, PartialEq, Eq)]
@@ -10,8 +11,7 @@ pub(crate) enum Mode {
 
 /// The mode that the words name; none where they name none.
 pub(crate) fn mode_of(words: &[String]) -> Option<Mode>
-    ensures run { IsRun (map (λ word. string_bytes word) words.now) → result ≡ Some Mode.Run }
-    ensures others { result ≡ Some Mode.Run → IsRun (map (λ word. string_bytes word) words.now) }
+    ensures mode { option_map mode_view result ≡ asks.mode_of (map (λ word. string_bytes word) words.now) }
 {
     match words {
         [word] if word.as_str() == "run" => Some(Mode::Run),

@@ -1,5 +1,5 @@
 use Rattle.std.proofs.Common.{[], ◌∷◌, Err, refl, ap}
-use Rattle.sse_link.specs.Events.{Sent}
+use Rattle.link_events.specs.Events.{Sent}
 use Rattle.sse_client.specs.Progress.{IsUnanswered}
 use Rattle.sse_client.specs.Stops.{stop_of_link, peer_cause}
 use Rattle.sse_client.proofs.Passing.{Adds-joined, IsUnanswered-send, IsUnanswered-recv, IfErr-from}

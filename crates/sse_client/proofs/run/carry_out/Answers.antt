@@ -26,5 +26,4 @@ returns-in_err-print-clause-stops g c =
     let after = g.W.Sink.written c.print.new.sink in
     let fault = c.in_err-print.field-0.0 in
     IfErr-from c.from_residual-in_err-print.result (stop_of_sink fault) _ c.from_residual-in_err-print.ensures.1
-    (λ request e. stops-unprinted f c.args.stage c.in_ok-next.next c.in_ok-next.outcome request old new before after (c.in_ok-next.ensures.takes request e) fault c.in_err-print.ensures.front.0
-    c.in_err-print.ensures.silent c.in_err-print.ensures.front.1)
+    (λ request e. stops-unprinted f c.args.stage c.in_ok-next.next c.in_ok-next.outcome request old new before after (c.in_ok-next.ensures.takes request e) fault c.in_err-print.ensures.front)

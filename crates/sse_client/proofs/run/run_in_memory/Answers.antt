@@ -1,16 +1,13 @@
-use Rattle.std.proofs.Common.{arith}
 use Rattle.keyed_fn.specs.KeyedFn.{keyed_fn}
 use Rattle.sse_client.proofs.InMemory.{in_memory-runs, in_memory-headline}
 use Rattle.sse_client.proofs.run.run_in_memory.Goals as goal
 
 pub returns-clause-runs : goal.returns-clause-runs
 returns-clause-runs g c = λ asked.
-    in_memory-runs (keyed_fn g.K.Keyed.prf g.K.Keyed.pad) c.new-link.result c.sse_run-status.new.link c.new-server.result.state c.new-link.ensures c.new-server.ensures c.sse_run-status.ensures.began c.transcript-passed.ensures.honest
-    (g.S.Source.remaining c.args.source.now) (g.W.Sink.written c.args.sink.now) (g.W.Sink.written c.sse_run-status.new.sink) c.sse_run-status.result (c.sse_run-status.ensures.honest asked)
+    in_memory-runs (keyed_fn g.K.Keyed.prf g.K.Keyed.pad) c.new-link.result c.run_over_server.new.link c.new-server.result.state c.new-link.ensures c.run_over_server.ensures.honest
+    (g.S.Source.remaining c.args.source.now) (g.W.Sink.written c.args.sink.now) (g.W.Sink.written c.run_over_server.new.sink) c.run_over_server.result (c.run_over_server.ensures.runs asked)
 
 pub returns-clause-headline : goal.returns-clause-headline
 returns-clause-headline g c = λ asked source sink memory.
-    in_memory-headline (keyed_fn g.K.Keyed.prf g.K.Keyed.pad) c.new-link.result c.sse_run-status.new.link c.new-server.result.state c.new-link.ensures c.new-server.ensures c.sse_run-status.ensures.began c.transcript-passed.ensures.honest
-    (g.S.Source.remaining c.args.source.now) (g.W.Sink.written c.args.sink.now) (g.W.Sink.written c.sse_run-status.new.sink) c.sse_run-status.result
-    (record { source = source; sink = sink; link = λ e. omega (arith, c.sse_run-status.ensures.link_failed e); disk = c.sse_run-status.ensures.known.1; memory = memory })
-    (c.sse_run-status.ensures.headline asked)
+    in_memory-headline (keyed_fn g.K.Keyed.prf g.K.Keyed.pad) c.new-link.result c.run_over_server.new.link c.new-server.result.state c.new-link.ensures c.run_over_server.ensures.honest
+    (g.S.Source.remaining c.args.source.now) (g.W.Sink.written c.args.sink.now) (g.W.Sink.written c.run_over_server.new.sink) c.run_over_server.result (c.run_over_server.ensures.headline asked source sink memory)

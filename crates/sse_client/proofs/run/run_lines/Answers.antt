@@ -59,6 +59,7 @@ lines-preserved g c =
       few = omega (arith, c.lines.invariant.few, c.in_ok-advance.ensures.counted, c.in_ok-advance.ensures.less (search rules));
       source = c.in_ok-advance.ensures.steady ∙ c.lines.invariant.source;
       sink = c.in_ok-next-in_default.ensures.sink_steady ∙ c.lines.invariant.sink;
+      shortages = omega (arith, c.lines.invariant.shortages, c.carry_out.ensures.no_fewer);
       began = c.carry_out.ensures.began ∙ c.lines.invariant.began;
       link = c.in_ok-next-in_default.ensures.link_steady ∙ c.lines.invariant.link;
       there = λ place at.

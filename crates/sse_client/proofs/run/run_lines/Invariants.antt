@@ -15,6 +15,7 @@ invariant-lines g l = record {
   few : l.input.number + bytes_to_come l.input.reader (g.S.Source.handed_out l.source) ≤ 2 ^ 63;
   source : g.S.Source.faults l.source ≡ g.S.Source.faults l.fn.source;
   sink : g.W.Sink.faults l.sink ≡ g.W.Sink.faults l.fn.sink;
+  shortages : g.W.Sink.shortages l.fn.sink ≤ g.W.Sink.shortages l.sink;
   began : g.L.Link.began l.link ≡ g.L.Link.began l.fn.link;
   link : g.L.Link.faults l.link ≡ g.L.Link.faults l.fn.link;
   there : (place : Place) → IsAt (keyed_fn g.K.Keyed.prf g.K.Keyed.pad) l.fn.stage place

@@ -1,6 +1,6 @@
 use Rattle.keyed_fn.specs.KeyedFn.{IsKeyedFn, keyed_fn}
-use Rattle.sse_client.specs.Stands.{seen, HasRun, IsHonest, HasHeadline}
-use Rattle.sse_client.proofs.Opening.{IfSome-then, run-honest, run-headline}
+use Rattle.sse_client.specs.Stands.{seen, HasRun, IsHonest, HasSimulatedRun, HasHeadline}
+use Rattle.sse_client.proofs.Opening.{IfSome-then, run-honest, run-simulated, run-headline}
 use Rattle.sse_client.proofs.run.sse_run.Goals as goal
 
 pub returns-in-Some-Run-clause-honest : goal.returns-in-Some-Run-clause-honest
@@ -33,4 +33,13 @@ returns-in-Some-Run-clause-headline g c = λ asked.
     let last = seen (g.L.Link.transcript c.whole_run.new.link) (g.W.Sink.written c.whole_run.new.sink) in
     IfSome-then (g.S.Source.remaining c.args.source.now) (λ bytes. HasRun f bytes now last c.whole_run.result) (λ bytes. HasHeadline f bytes now last c.whole_run.result)
     (λ bytes run state honest free calm. run-headline f laws bytes now last c.whole_run.result state run honest free calm)
+    c.whole_run.ensures.runs
+
+pub returns-in-Some-Run-clause-simulated : goal.returns-in-Some-Run-clause-simulated
+returns-in-Some-Run-clause-simulated g c = λ asked.
+    let f = keyed_fn g.K.Keyed.prf g.K.Keyed.pad in
+    let now = seen (g.L.Link.transcript c.args.link.now) (g.W.Sink.written c.args.sink.now) in
+    let last = seen (g.L.Link.transcript c.whole_run.new.link) (g.W.Sink.written c.whole_run.new.sink) in
+    IfSome-then (g.S.Source.remaining c.args.source.now) (λ bytes. HasRun f bytes now last c.whole_run.result) (λ bytes. HasSimulatedRun f bytes now last c.whole_run.result)
+    (λ bytes run. run-simulated f bytes now last c.whole_run.result run)
     c.whole_run.ensures.runs

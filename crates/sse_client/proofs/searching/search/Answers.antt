@@ -6,7 +6,7 @@ use Rattle.keyed_fn.specs.KeyedFn.{IsKeyedFn, keyed_fn}
 use Rattle.sse_frames.specs.Frames.{SearchFrame}
 use Rattle.sse_frames.specs.Reading.{IsReply}
 use Rattle.sse_frames.specs.Replies.{Page}
-use Rattle.sse_link.specs.Events.{Received}
+use Rattle.link_events.specs.Events.{Received}
 use Rattle.sse_model.proofs.KeyValues.{IsValue-table}
 use Rattle.sse_model.specs.Names.{name, Token}
 use Rattle.script_meaning.specs.Exchange.{Adds}
@@ -15,6 +15,8 @@ use Rattle.sse_client.proofs.Passing.{IfErr-from, Adds-same, IsUnanswered-send, 
 use Rattle.sse_client.proofs.Reading.{IsReading-next}
 use Rattle.sse_client.specs.Exchanges.{HasCut}
 use Rattle.sse_client.proofs.Parts.{IsBegun-unanswered, HasCut-begun}
+use Rattle.sse_client.specs.declared.peer_stop.PeerStop.TheVariants.{Memory}
+use Rattle.sse_client.proofs.OwnMemory.{own_cut, at_error, token_size}
 use Rattle.sse_client.proofs.PagesPassed.{HasSearched-last, HasCut-reading, HasCut-refused}
 use Rattle.sse_client.specs.Causes.{PeerCause}
 use Rattle.sse_client.proofs.Causes.{PeerCause-fault, page_no_store, store_refused}
@@ -114,3 +116,54 @@ returns-in-Err-clause-cause g c =
     (PeerCause-fault (g.L.Link.faults c.pages.link) new reply c.in-Err.fault (λ e. c.in-Err.ensures.store (ap Err e)) (store_refused c.pages.found.pages reply c.in-Err.fault c.in-Err.ensures.after.0)
     (λ e. c.in_ok-size.ensures.store_fault (sym c.split_at.ensures.front ∙ e)) (λ other. c.in_ok-size.ensures.steady (λ e. other (c.split_at.ensures.front ∙ e)))
     c.of_fault.result c.of_fault.ensures.link c.of_fault.ensures.store)
+
+pub returns-in_err-send-clause-own_memory : goal.returns-in_err-send-clause-own_memory
+returns-in_err-send-clause-own_memory g c is =
+    let f = keyed_fn g.K.Keyed.prf g.K.Keyed.pad in
+    let laws : IsKeyedFn f = record {
+      prf_length = g.met.K.Keyed.prf_length;
+      prf_bytes = g.met.K.Keyed.prf_bytes;
+      pad_length = g.met.K.Keyed.pad_length;
+      pad_bytes = g.met.K.Keyed.pad_bytes;
+      pad_prefix = g.met.K.Keyed.pad_prefix;
+    } in
+    let key = c.args.client.now.key in
+    let word = word_bytes c.args.word.now in
+    let old = g.L.Link.transcript c.args.link.now in
+    let new = g.L.Link.transcript c.send.new.self in
+    let token = token_of f key word in
+    own_cut f old new token (peer_cause Memory) (token_size f laws key word) (at_error _ Memory (λ stop. HasCut old new (SearchFrame token ∷ []) (peer_cause stop)) (returns-in_err-send-clause-stopped g c) is)
+
+pub returns-in_err-size-clause-own_memory : goal.returns-in_err-size-clause-own_memory
+returns-in_err-size-clause-own_memory g c is =
+    let f = keyed_fn g.K.Keyed.prf g.K.Keyed.pad in
+    let laws : IsKeyedFn f = record {
+      prf_length = g.met.K.Keyed.prf_length;
+      prf_bytes = g.met.K.Keyed.prf_bytes;
+      pad_length = g.met.K.Keyed.pad_length;
+      pad_bytes = g.met.K.Keyed.pad_bytes;
+      pad_prefix = g.met.K.Keyed.pad_prefix;
+    } in
+    let key = c.args.client.now.key in
+    let word = word_bytes c.args.word.now in
+    let old = g.L.Link.transcript c.args.link.now in
+    let new = g.L.Link.transcript c.recv.new.self in
+    let token = token_of f key word in
+    own_cut f old new token (peer_cause Memory) (token_size f laws key word) (at_error _ Memory (λ stop. HasCut old new (SearchFrame token ∷ []) (peer_cause stop)) (returns-in_err-size-clause-stopped g c) is)
+
+pub returns-in-Err-clause-own_memory : goal.returns-in-Err-clause-own_memory
+returns-in-Err-clause-own_memory g c is =
+    let f = keyed_fn g.K.Keyed.prf g.K.Keyed.pad in
+    let laws : IsKeyedFn f = record {
+      prf_length = g.met.K.Keyed.prf_length;
+      prf_bytes = g.met.K.Keyed.prf_bytes;
+      pad_length = g.met.K.Keyed.pad_length;
+      pad_bytes = g.met.K.Keyed.pad_bytes;
+      pad_prefix = g.met.K.Keyed.pad_prefix;
+    } in
+    let key = c.args.client.now.key in
+    let word = word_bytes c.args.word.now in
+    let old = g.L.Link.transcript c.args.link.now in
+    let new = g.L.Link.transcript c.recv.new.self in
+    let token = token_of f key word in
+    own_cut f old new token (peer_cause c.of_fault.result) (token_size f laws key word) (returns-in-Err-clause-stopped g c)

@@ -1,5 +1,6 @@
 use Rattle.std.proofs.Common.{◌≡◌, ℕ, List, [], ◌∷◌, flat_map, sym, ap, subst, ◌∙◌}
-use Rattle.std.specs.Prelude.{Option, OnOk, take}
+use Rattle.std.specs.Prelude.{OnOk, OnErr}
+use Rattle.sse_outside.specs.Fronts.{TookFront}
 use Rattle.std.specs.Io.KnownBytes.{append_known}
 use Rattle.std.proofs.lemmas.List.{append-nil}
 use Rattle.sse_script.specs.Shown as says
@@ -7,9 +8,6 @@ use Rattle.sse_script.specs.Texts.{text_of}
 use Rattle.sse_client.specs.OutcomeViews.{outcome_view}
 use Rattle.sse_client.specs.declared.outcome.Outcome.{Outcome}
 use Rattle.sse_client.proofs.outcome.Outcome.print.Goals as goal
-
-front_same : (known new : Option (List ℕ)) (a b : List ℕ) → a ≡ b → ((n : ℕ) × (new ≡ append_known known (take n a))) → (n : ℕ) × (new ≡ append_known known (take n b))
-front_same known new a b e h = subst (λ (text : List ℕ). (n : ℕ) × (new ≡ append_known known (take n text))) e h
 
 -- the text of an outcome that is one line of found identifiers
 found_text : (shown found : List ℕ) (came : Outcome) → shown ≡ found
@@ -27,6 +25,6 @@ returns-in-Found-clause-all g c =
 
 pub returns-in-Found-clause-front : goal.returns-in-Found-clause-front
 returns-in-Found-clause-front g c =
-    front_same _ _ _ _
+    subst (λ (text : List ℕ). OnErr c.print-in-Found.result (TookFront (g.W.Sink.written c.args.sink.now) (g.W.Sink.written c.print-in-Found.new.sink) text))
     (found_text _ _ _ c.as_slice.ensures.value (ap (λ (came : Outcome). flat_map text_of (outcome_view came)) c.in-Found.is))
     c.print-in-Found.ensures.front

@@ -1,0 +1,35 @@
+-- What a run over a server in this process that had taken nothing does.
+use Rattle.std.specs.Prelude.{◌≡◌, ◌≤◌, ℕ, List, [], ◌++◌, flat_map, take, Option, Some}
+use Rattle.std.specs.Io.KnownBytes.{append_known}
+use Rattle.keyed_fn.specs.KeyedFn.{KeyedFn}
+use Rattle.server_core.specs.State.{ServerState}
+use Rattle.script_meaning.specs.Carries.{Outside}
+use Rattle.script_meaning.specs.Exchange.{Told}
+use Rattle.script_meaning.specs.Headline.{IsOverHonest}
+use Rattle.script_meaning.specs.Meaning.{Meaning, meaning}
+use Rattle.script_meaning.specs.Session.{IsFree}
+use Rattle.script_meaning.specs.Stops.{status_of, stop_text}
+use Rattle.sse_script.specs.Texts.{text_of}
+use Rattle.sse_client.specs.Stands.{seen, HasRun}
+
+-- a whole run: where its history up to its stop has no collision, no collision and no reply stopped it
+pub record HasRunOverServer (f : KeyedFn) (bytes : List ℕ) (now last : Outside) (status : ℕ) : Type 0 where
+  pub run : HasRun f bytes now last status
+  pub stopped : IsFree f run.end.key run.end.history → status ≤ 7
+
+-- the lines and the status of such a run: they are those of one over some honest link
+pub record PrintsAsRun (f : KeyedFn) (bytes : List ℕ) (old new : Option (List ℕ)) (status : ℕ) : Type 0 where
+  pub told : Told
+  pub state : ServerState
+  pub over : IsOverHonest f (Some []) told state
+  pub runs : HasRunOverServer f bytes (seen (Some []) old) (seen told new) status
+
+-- a script of this meaning has this status and printed its lines, and a front of the line that says why it stopped
+pub record PrintsMeaning (m : Meaning) (old new : Option (List ℕ)) (status : ℕ) : Type 0 where
+  pub status_is : status ≡ status_of m.end
+  pub q : ℕ
+  pub printed : new ≡ append_known old (flat_map text_of m.shown ++ take q (stop_text m.end))
+
+-- where its history has no collision, the script has the lines and the status of its meaning
+abbrev pub PrintsAsMeant : KeyedFn → List ℕ → Option (List ℕ) → Option (List ℕ) → ℕ → Type 0
+PrintsAsMeant f bytes old new status = IsFree f (meaning bytes).key (meaning bytes).history → PrintsMeaning (meaning bytes) old new status
