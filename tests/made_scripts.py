@@ -178,6 +178,22 @@ def only_additions(documents):
     yield b"find a"
 
 
+def paged(documents, b, B, listed):
+    """One word in so many documents, of which so many are in the setup and the others added; then those at the borders of
+    pages of 8,192 identifiers are deleted, with a search before and behind."""
+    yield b"key " + b"0" * 64
+    for identifier in range(1, listed + 1):
+        yield b"doc %d a" % identifier
+    yield b"setup %d %d" % (b, B)
+    for identifier in range(listed + 1, documents + 1):
+        yield b"add %d a" % identifier
+    yield b"find a"
+    for identifier in range(1, documents + 1):
+        if (identifier + 1) % 8192 < 4:
+            yield b"del %d" % identifier
+    yield b"find a"
+
+
 def mixed(documents, commands, seed=0):
     """A setup, then commands of every kind in any order, one in ten of the updates refused; words as they are in texts, some
     in many documents and most in few."""

@@ -6,7 +6,7 @@ use index_setup::BuildFault;
 use line_documents::LineFault;
 use list_packing::HoleInBlock;
 use revocation_ids::NumbersFault;
-use server_core::{Refuse, SearchFault};
+use server_core::{Refuse, WalkFault};
 use server_tables::TableFault;
 use sse_frames::FrameFault;
 use sse_link::LinkFault;
@@ -44,7 +44,7 @@ fn faults_of_the_server_and_the_outside(rt: HostRuntime) -> Result<(), Fail> {
             "the next update frame has number 4",
         ),
         (
-            SearchFault::BadList.to_string(alloc)?,
+            WalkFault::BadList.to_string(alloc)?,
             "what the token finds is no list",
         ),
         (

@@ -46,8 +46,53 @@ const UPDATE_ROWS: [(&str, &[u8], u8, &[u8]); 5] = [
     ("no reply", b"", 5, b"stopped: link\n"),
 ];
 
+/// Next(0) alone.
+const GREETED: &[u8] = b"\x00\x00\x00\x05\x81\x00\x00\x00\x00";
+
 /// A row's name, the replies, the status that a run over them ends with, and the lines that it prints.
-const ROWS: [(&str, &[u8], &[u8], u8, &[u8]); 5] = [
+const ROWS: [(&str, &[u8], &[u8], u8, &[u8]); 11] = [
+    (
+        "the acknowledgement of another frame",
+        GREETED,
+        b"\x00\x00\x00\x05\x82\x00\x00\x00\x05",
+        9,
+        b"stopped: reply 000000058200000005\n",
+    ),
+    (
+        "a reply without a body",
+        GREETED,
+        b"\x00\x00\x00\x00",
+        9,
+        b"stopped: reply 00000000\n",
+    ),
+    (
+        "no memory at the server for a frame of the setup",
+        GREETED,
+        b"\x00\x00\x00\x01\x87",
+        7,
+        b"stopped: memory\n",
+    ),
+    (
+        "a fault of the server's disk",
+        GREETED,
+        b"\x00\x00\x00\x01\x88",
+        5,
+        b"stopped: link\n",
+    ),
+    (
+        "a page that isn't full and isn't the last",
+        SET_UP,
+        b"\x00\x00\x00\x0c\x85\x00\x00\x01\x00\x00\x00\x00\x00\x00\x00\x01",
+        9,
+        b"set up 2 words 0 blocks\nstopped: reply 0000000c850000010000000000000001\n",
+    ),
+    (
+        "no list",
+        SET_UP,
+        b"\x00\x00\x00\x01\x86",
+        9,
+        b"set up 2 words 0 blocks\nstopped: reply 0000000186\n",
+    ),
     // what came back is printed
     (
         "a page of an identifier that no document has",
@@ -79,10 +124,10 @@ const ROWS: [(&str, &[u8], &[u8], u8, &[u8]); 5] = [
     ),
     (
         "a collision at the first frame",
-        b"\x00\x00\x00\x05\x81\x00\x00\x00\x00",
-        b"\x00\x00\x00\x06\x84\x01\x00\x00\x00\x07",
+        GREETED,
+        b"\x00\x00\x00\x06\x84\x01\x00\x00\x00\x00",
         8,
-        b"stopped: clash 1 at 7\n",
+        b"stopped: clash 1 at 0\n",
     ),
 ];
 

@@ -1,7 +1,8 @@
 use keyed_fn::Keyed;
+use memory_disk::SteadyDisk;
 use sse_client::sse_run;
 use sse_link::Link;
-use sse_outside::{MemSink, MemSource, SteadyDisk};
+use sse_outside::{MemSink, MemSource};
 use std::alloc::{AllocError, Global};
 
 /// Two documents, their setup, and a search: examples/first.sse.
