@@ -1,6 +1,7 @@
 # make        proves the crates, then builds the programs into bin/
 # make demo   the same, then runs examples/first.sse, and searches a folder of letters
 # make check  the whole gate: every proof, test, must-fail edit and end-to-end check
+# make quick  what can be told without a proof: layers, documents, and what has to compile and what mustn't
 # make bench  times bin/sse_local on made-up scripts, and the rows of bin/sse_bench
 # make clean  forgets what was proved and built in this checkout
 
@@ -10,7 +11,7 @@ words_sse_local = run
 words_sse_bench = prepared 1
 LAST = bin/.seconds
 
-.PHONY: all demo check bench clean
+.PHONY: all demo check quick bench clean
 
 all: $(PROGRAMS:%=bin/%)
 
@@ -36,6 +37,14 @@ bench: all bin/sse_bench
 
 check:
 	bash .ci/run
+
+quick:
+	.ci/layers
+	.ci/documents
+	.ci/documents --self-test
+	.ci/edits --self-test
+	.ci/edits
+	.ci/must_not_compile
 
 clean:
 	rm -rf bin crates/*/out
