@@ -1,3 +1,4 @@
+-- The entry of an addition, under the two keys of its word.
 use Rattle.std.specs.Prelude.{ℕ}
 use Rattle.keyed_fn.specs.KeyedFn.{KeyedFn}
 use Rattle.keyed_fn.specs.KeyFormulas.{plus_label, plus_pad}

@@ -60,7 +60,7 @@ four_more f m =
     let e4 = map-range_with_len_more f 0 (m + 3) (m + 3) (zero-add (m + 3)) in
     grind (arith, e1, e2, e3, e4, append_assoc {A = ℕ})
 
--- word k behind the pad of the words before it
+-- word k after the pad of the words before it
 word_more : (key : List ℕ) (n k : ℕ) → n < 2 ^ 64 → k < 2 ^ 36
     → chacha_pad key n (4 * k) ++ to_le_bytes w32 (kit_block_word 10 (key_of key) (k / 16) n (k % 16)) ≡ chacha_pad key n (4 * suc k)
 word_more key n k fits small =
@@ -105,7 +105,7 @@ filled key n len out rest g fits small start gave =
     ∙ ap (λ (p : List ℕ × ChaCha). take len p.0) (bytes_after key n ((len + 3) / 4) fits (omega arith))
     ∙ take-map-range_with_len _ 0 (4 * ((len + 3) / 4)) len (omega arith)
 
--- between byte i of the key stream and the next one: the word that byte i is in, and the generator behind it
+-- between byte i of the key stream and the next one: the word that byte i is in, and the generator after it
 pub record InHand (key : List ℕ) (n i word : ℕ) (stream : ChaCha) : Type 0 where
   pub word_is : word ≡ stream_word key (pad_nonce n) (i / 4)
   pub stream_is : stream ≡ record { key = key_of key; stream = n; word_pos = (i + 1 + 3) / 4 }

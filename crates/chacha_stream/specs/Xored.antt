@@ -1,3 +1,4 @@
+-- Bytes XORed with a pad.
 use Rattle.std.specs.Prelude.{ℕ, List, map, length, bit_xor, slice_index}
 use Rattle.std.specs.List.{range_with_len}
 

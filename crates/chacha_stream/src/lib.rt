@@ -9,8 +9,6 @@
 
 mod masking;
 mod pad;
-#[cfg(test)]
-mod tests;
 
 pub use masking::xor;
 pub use pad::{pad_into, xor_in_place};

@@ -8,7 +8,7 @@ use Rattle.sha2.specs.Sha256.{sha256}
 abbrev pub short_key : List ℕ → List ℕ
 short_key key = if nat_lt 64 (length key) then sha256 key else key
 
--- K0: the short key with zeros behind it, B bytes in all (section 4, steps 1 to 3)
+-- K0: the short key with zeros after it, B bytes in all (section 4, steps 1 to 3)
 abbrev pub key_block_of : List ℕ → List ℕ
 key_block_of key = short_key key ++ replicate (64 - length (short_key key)) 0
 

@@ -4,7 +4,7 @@ use crate::key_block::{INNER_MASK, OUTER_MASK, key_block, mask_in_place};
 use crate::state::Hmac;
 use sha2::{Digest, Sha256};
 
-/// A key of HMAC-SHA-256 that is prepared for many texts: both hash states behind the key's block. A code
+/// A key of HMAC-SHA-256 that is prepared for many texts: both hash states after the key's block. A code
 /// under it hashes the text and one more block alone, where a bare key has two blocks of its own hashed
 /// first. Nothing gives the key back, and no call changes it.
 #[derive(Drop)]

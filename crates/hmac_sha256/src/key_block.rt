@@ -12,7 +12,7 @@ pub const INNER_MASK: u8 = 0x36;
 /// The byte repeated in opad of FIPS 198-1, section 3.
 pub const OUTER_MASK: u8 = 0x5c;
 
-/// K0 of FIPS 198-1, section 4, steps 1 to 3: the key in one block, behind it zeros. A key longer
+/// K0 of FIPS 198-1, section 4, steps 1 to 3: the key in one block, after it zeros. A key longer
 /// than a block is hashed first.
 pub fn key_block(key: &[u8]) -> [u8; 64]
     ensures { result ≡ key_block_of key.now }

@@ -1,33 +1,24 @@
 ghost use Rattle.std.specs.Prelude.{◌≡◌, ◌<◌, ◌≤◌, ◌^◌, ℕ, List, length, take, All};
 ghost use Rattle.keyed_fn.specs.KeyedFn.{keyed_fn, IsKeyedFn};
 
+use crate::kept_key::KeptKey;
+
 /// A pseudorandom function and a pad, both under a key of 32 bytes.
 ///
 /// The ghost members `prf` and `pad` don't depend on the value: each type that implements this is one
 /// pair of functions. They are defined for lists of any length.
 pub trait Keyed {
-    /// A key with all that is computed of it alone, for many values of the function under it. Nothing
-    /// gives the key's bytes back.
-    type Prepared: Drop;
-
     ghost prf: { List ℕ → List ℕ → List ℕ };
 
     ghost pad: { List ℕ → ℕ → ℕ → List ℕ };
-
-    // Whose key it is: the prepared key is that of these bytes.
-    ghost is_prepared: { Self.Prepared → List ℕ → Type 0 };
 
     /// The 32 bytes of the function under `key` at `input`, which may have any length.
     fn prf(&self, key: &[u8; 32], input: &[u8]) -> [u8; 32]
         ensures { result ≡ prf key.now input.now };
 
-    /// Prepares a key, for one under which more than one value is asked.
-    fn prepare(&self, key: &[u8; 32]) -> Self::Prepared
-        ensures { is_prepared result key.now };
-
-    /// The same 32 bytes as `prf` gives under the key that was prepared.
-    fn prf_prepared(&self, prepared: &Self::Prepared, input: &[u8]) -> [u8; 32]
-        ensures { (key : List ℕ) → is_prepared prepared.now key → result ≡ prf key input.now };
+    /// The same 32 bytes under a key that is kept prepared.
+    fn prf_kept(&self, key: &KeptKey, input: &[u8]) -> [u8; 32]
+        ensures { result ≡ prf key.now input.now };
 
     /// Fills `out` with the front of pad number `n` under `key`. At most 2^38 bytes, which is as far
     /// as the keystream of RFC 8439 goes.

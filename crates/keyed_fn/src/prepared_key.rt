@@ -2,14 +2,15 @@ ghost use Rattle.std.specs.Prelude.{◌≡◌, take};
 ghost use Rattle.std.specs.Int.{w64, to_be_bytes};
 
 use crate::front::front_of;
+use crate::kept_key::KeptKey;
 use crate::keyed::Keyed;
-use std::marker::Model;
+use std::marker::{Model, PhantomData};
 
-/// A key of 32 bytes, prepared for more than one value of the function under it. A contract sees the
+/// A key of 32 bytes, prepared for more than one value of this function under it. A contract sees the
 /// bytes; nothing gives them back.
 pub struct PreparedKey<K: Keyed> {
-    bytes: [u8; 32],
-    prepared: K::Prepared,
+    key: KeptKey,
+    of: PhantomData<K>,
 }
 
 impl<K: Keyed> Model for PreparedKey<K> {
@@ -17,28 +18,23 @@ impl<K: Keyed> Model for PreparedKey<K> {
 
     ghost Value = { List ℕ };
 
-    ghost view = { λ key. key.bytes };
-
-    ghost invariant = { λ key. K.is_prepared key.prepared key.bytes };
+    ghost view = { λ key. key.key };
 }
 
 impl<K: Keyed> Drop for PreparedKey<K> {
     fn drop(self) {
-        let PreparedKey {
-            bytes: _,
-            prepared: _,
-        } = self;
+        let PreparedKey { key: _, of: _ } = self;
     }
 }
 
 impl<K: Keyed> PreparedKey<K> {
     /// Prepares the key of these bytes.
-    pub fn new(keyed: &K, bytes: &[u8; 32]) -> PreparedKey<K>
+    pub fn new(_keyed: &K, bytes: &[u8; 32]) -> PreparedKey<K>
         ensures { result ≡ bytes.now }
     {
         PreparedKey {
-            bytes: *bytes,
-            prepared: keyed.prepare(bytes),
+            key: KeptKey::new(bytes),
+            of: PhantomData,
         }
     }
 
@@ -46,13 +42,13 @@ impl<K: Keyed> PreparedKey<K> {
     pub fn prf(&self, keyed: &K, input: &[u8]) -> [u8; 32]
         ensures { result ≡ K.prf self.now input.now }
     {
-        keyed.prf_prepared(&self.prepared, input)
+        keyed.prf_kept(&self.key, input)
     }
 
     /// The first 16 bytes of the function under the key at a number, which is written high byte first.
     pub fn front_at(&self, keyed: &K, number: u64) -> [u8; 16]
         ensures { result ≡ take 16 (K.prf self.now (to_be_bytes w64 number)) }
     {
-        front_of(&self.prf(keyed, &number.to_be_bytes()))
+        self.key.front_at(keyed, number)
     }
 }

@@ -1,27 +1,21 @@
+use crate::kept_key::KeptKey;
 use crate::keyed::Keyed;
-use hmac_sha256::{HmacKey, hmac};
+use hmac_sha256::hmac;
 
 /// The keyed function of the store: HMAC-SHA-256 (FIPS 198-1), and pads of the ChaCha20 key stream
 /// (RFC 8439).
-#[derive(Clone, Copy, Debug)]
+#[derive(Clone, Copy)]
 pub struct Real;
 
 impl Keyed for Real {
     ghost use Rattle.hmac_sha256.specs.Fips198.{hmac_of};
-    ghost use Rattle.hmac_sha256.specs.IsMac.{IsHmacKey};
     ghost use Rattle.hmac_sha256.proofs.Codes.{length-hmac_of, All-hmac_of};
     ghost use Rattle.chacha_stream.specs.Pad.{chacha_pad};
     ghost use Rattle.chacha_stream.proofs.Laws.{length-chacha_pad, All-chacha_pad, take-chacha_pad};
 
-    /// Both states of the hash behind the key's block: a value of a short input costs two compressions
-    /// of SHA-256 and not four.
-    type Prepared = HmacKey;
-
     ghost prf = { hmac_of };
 
     ghost pad = { chacha_pad };
-
-    ghost is_prepared = { λ prepared key. IsHmacKey prepared key };
 
     ghost prf_length = { length-hmac_of };
 
@@ -37,12 +31,8 @@ impl Keyed for Real {
         hmac(key, input)
     }
 
-    fn prepare(&self, key: &[u8; 32]) -> HmacKey {
-        HmacKey::new(key)
-    }
-
-    fn prf_prepared(&self, prepared: &HmacKey, input: &[u8]) -> [u8; 32] {
-        prepared.code(input)
+    fn prf_kept(&self, key: &KeptKey, input: &[u8]) -> [u8; 32] {
+        key.hmac(input)
     }
 
     fn pad_into(&self, key: &[u8; 32], n: u64, out: &mut [u8]) {

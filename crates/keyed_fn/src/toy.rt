@@ -1,30 +1,21 @@
 ghost use Rattle.std.specs.Prelude.{◌≡◌, ◌≤◌, ◌^◌, length};
 ghost use Rattle.keyed_fn.specs.Toy.{toy_code, toy_pad, toy_prf, weighed_sum};
 
+use crate::kept_key::KeptKey;
 use crate::keyed::Keyed;
 
 /// A keyed function that a person can compute, for vectors that are checked by hand. It keeps nothing
 /// secret, and no program uses it.
-#[derive(Clone, Copy, Debug)]
+#[derive(Clone, Copy)]
 pub struct Toy;
-
-/// A key of the toy function: of it alone there is nothing to compute.
-#[derive(Drop)]
-pub struct ToyKey {
-    bytes: [u8; 32],
-}
 
 impl Keyed for Toy {
     ghost use Rattle.std.specs.Prelude.{◌≡◌};
     ghost use Rattle.keyed_fn.specs.ToyLaws.{length-toy_prf, All-toy_prf, length-toy_pad, All-toy_pad, take-toy_pad};
 
-    type Prepared = ToyKey;
-
     ghost prf = { toy_prf };
 
     ghost pad = { toy_pad };
-
-    ghost is_prepared = { λ prepared key. prepared.bytes ≡ key };
 
     ghost prf_length = { length-toy_prf };
 
@@ -42,12 +33,8 @@ impl Keyed for Toy {
         code
     }
 
-    fn prepare(&self, key: &[u8; 32]) -> ToyKey {
-        ToyKey { bytes: *key }
-    }
-
-    fn prf_prepared(&self, prepared: &ToyKey, input: &[u8]) -> [u8; 32] {
-        self.prf(&prepared.bytes, input)
+    fn prf_kept(&self, key: &KeptKey, input: &[u8]) -> [u8; 32] {
+        self.prf(key.bytes(), input)
     }
 
     fn pad_into(&self, key: &[u8; 32], n: u64, out: &mut [u8]) {

@@ -20,7 +20,7 @@ token_bytes-keys_of_bytes bytes long =
     let whole : take 160 bytes ≡ bytes = take_all 160 bytes (omega arith) in
     cc
 
--- the key that stands behind n bytes
+-- the key that stands after n bytes
 key_behind : (before key after : List ℕ) (n : ℕ) → length before ≡ n → length key ≡ 32 →
     take 32 (drop n (before ++ (key ++ after))) ≡ key
 key_behind before key after n place size =

@@ -158,7 +158,7 @@ fn key_at(bytes: &[u8; 160], at: usize) -> [u8; 32]
     key
 }
 
-/// Writes a key behind what stands before the place.
+/// Writes a key after what stands before the place.
 fn put_key(bytes: &mut [u8; 160], at: usize, key: &[u8; 32])
     requires { at ≤ 128 }
     ensures { take (at + 32) bytes.new ≡ take at bytes.old ++ key.now }

@@ -4,11 +4,11 @@ use Rattle.keyed_fn.specs.KeyedFn.{KeyedFn}
 use Rattle.keyed_fn.specs.KeyFormulas.{cell_pad, block_pad, plus_pad}
 use Rattle.word_keys.specs.PadName.{cell_name, block_name, plus_name, name_after, named_pad}
 
--- behind the cell comes block 0
+-- after the cell comes block 0
 pub name_after-cell_name : (key : List ℕ) → name_after (cell_name key) ≡ block_name key 0
 name_after-cell_name key = refl
 
--- behind a block comes the next one
+-- after a block comes the next one
 pub name_after-block_name : (key : List ℕ) (i : ℕ) → name_after (block_name key i) ≡ block_name key (i + 1)
 name_after-block_name key i = refl
 

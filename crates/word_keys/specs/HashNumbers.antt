@@ -1,3 +1,4 @@
+-- The two numbers of a hasher, out of a key.
 use Rattle.std.specs.Prelude.{ℕ, List, take, drop}
 use Rattle.std.specs.Int.{w64, from_be_bytes}
 

@@ -19,7 +19,7 @@ block_name key i = record { key = key; number = i + 1 }
 abbrev pub plus_name : List ℕ → ℕ → PadName
 plus_name key c = record { key = key; number = c }
 
--- the pad behind the one named, under the same key
+-- the pad after the one named, under the same key
 abbrev pub name_after : PadName → PadName
 name_after name = record { key = name.key; number = name.number + 1 }
 

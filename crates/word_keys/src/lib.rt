@@ -1,5 +1,5 @@
 //! What only a client has: the master key, the keys that it gives for a word, and pads that are spent once.
-//! It stands on `search_token` and on the words of `client_registry`; no crate of the server stands on it.
+//! It depends on `search_token` and on the words of `client_registry`; no crate of the server depends on it.
 //! A command asks for the keys that it needs: two for an addition (`PlusKeys`), one for a deletion
 //! (`RevocationKey`), all five of a server's for a search; of a list it asks for the label and for the pads
 //! (`ListPads`). Keys can be kept, and nothing prints them or gives their bytes back. The theorem that callers use: each
@@ -26,6 +26,3 @@ pub use place_tags::PlaceTags;
 pub use plus_keys::PlusKeys;
 pub use prepared_master::PreparedMaster;
 pub use revocation_key::RevocationKey;
-
-#[cfg(test)]
-mod tests;

@@ -4,15 +4,15 @@ ghost use Rattle.keyed_fn.specs.KeyFormulas.{plus_label};
 ghost use Rattle.word_keys.specs.PadName.{plus_name};
 
 use crate::pad_slot::PadSlot;
-use keyed_fn::{Keyed, front_at};
+use keyed_fn::{KeptKey, Keyed};
 use std::marker::Model;
 
-/// The keys of a word's additions, 32 bytes each: for their labels and for their pads, parts 3 and 4. A
-/// contract sees both; nothing gives their bytes back. They serve each addition of the word, so a client
-/// that keeps them derives them once.
+/// The keys of a word's additions, 32 bytes each: for their labels and for their pads, parts 3 and 4, the
+/// first of them prepared. A contract sees both; nothing gives their bytes back. They serve each addition of the
+/// word, so a client that keeps them derives and prepares them once.
 #[derive(Drop)]
 pub struct PlusKeys {
-    label_key: [u8; 32],
+    label_key: KeptKey,
     pad_key: [u8; 32],
 }
 
@@ -26,17 +26,20 @@ impl Model for PlusKeys {
 
 impl PlusKeys {
     /// Takes both keys.
-    pub(crate) fn new(label_key: [u8; 32], pad_key: [u8; 32]) -> PlusKeys
-        ensures { result ≡ record { label_key = label_key; pad_key = pad_key } }
+    pub(crate) fn new(label_key: &[u8; 32], pad_key: [u8; 32]) -> PlusKeys
+        ensures { result ≡ record { label_key = label_key.now; pad_key = pad_key } }
     {
-        PlusKeys { label_key, pad_key }
+        PlusKeys {
+            label_key: KeptKey::new(label_key),
+            pad_key,
+        }
     }
 
     /// The 16-byte label of addition `c`, from 0.
     pub fn label<K: Keyed>(&self, keyed: &K, c: u32) -> [u8; 16]
         ensures { result ≡ plus_label (keyed_fn K.prf K.pad) self.now.label_key c }
     {
-        front_at(keyed, &self.label_key, u64::from(c))
+        self.label_key.front_at(keyed, u64::from(c))
     }
 
     /// The pad of addition `c`, from 0. It encrypts 8 bytes.

@@ -107,14 +107,14 @@ impl<K: Keyed> PreparedMaster<K> {
     {
         let label_key = self.key_of_part(keyed, PLUS_LABELS, word.bytes());
         let pad_key = self.key_of_part(keyed, PLUS_PADS, word.bytes());
-        PlusKeys::new(label_key, pad_key)
+        PlusKeys::new(&label_key, pad_key)
     }
 
     /// The key of a word's revocation numbers: its key of part 5.
     pub fn revocation_key(&self, keyed: &K, word: &Word) -> RevocationKey
         ensures { result ≡ part_key (keyed_fn K.prf K.pad) self.now 5 (word_bytes word.now) }
     {
-        RevocationKey::new(self.key_of_part(keyed, REVOCATIONS, word.bytes()))
+        RevocationKey::new(&self.key_of_part(keyed, REVOCATIONS, word.bytes()))
     }
 
     /// The place key of a word: its key of part 6, which never leaves the client.

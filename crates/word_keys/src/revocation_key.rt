@@ -2,14 +2,14 @@ ghost use Rattle.std.specs.Prelude.{◌≡◌};
 ghost use Rattle.keyed_fn.specs.KeyedFn.{keyed_fn};
 ghost use Rattle.keyed_fn.specs.KeyFormulas.{revocation};
 
-use keyed_fn::{Keyed, front_at};
+use keyed_fn::{KeptKey, Keyed};
 use std::marker::Model;
 
-/// A word's key of part 5, 32 bytes, which gives its revocation numbers. Nothing gives its bytes back. It
-/// serves each deletion of a document with the word, so a client that keeps it derives it once.
+/// A word's key of part 5, 32 bytes, prepared, which gives its revocation numbers. Nothing gives its bytes back. It
+/// serves each deletion of a document with the word, so a client that keeps it derives and prepares it once.
 #[derive(Drop)]
 pub struct RevocationKey {
-    bytes: [u8; 32],
+    key: KeptKey,
 }
 
 impl Model for RevocationKey {
@@ -17,21 +17,23 @@ impl Model for RevocationKey {
 
     ghost Value = { List ℕ };
 
-    ghost view = { λ k. k.bytes };
+    ghost view = { λ k. k.key };
 }
 
 impl RevocationKey {
     /// Takes the 32 bytes of the key.
-    pub(crate) fn new(bytes: [u8; 32]) -> RevocationKey
-        ensures { result ≡ bytes }
+    pub(crate) fn new(bytes: &[u8; 32]) -> RevocationKey
+        ensures { result ≡ bytes.now }
     {
-        RevocationKey { bytes }
+        RevocationKey {
+            key: KeptKey::new(bytes),
+        }
     }
 
     /// The 16-byte revocation number of an identifier for the word.
     pub fn number<K: Keyed>(&self, keyed: &K, id: u64) -> [u8; 16]
         ensures { result ≡ revocation (keyed_fn K.prf K.pad) self.now id }
     {
-        front_at(keyed, &self.bytes, id)
+        self.key.front_at(keyed, id)
     }
 }
