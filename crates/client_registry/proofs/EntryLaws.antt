@@ -9,7 +9,7 @@ use Rattle.std.specs.Option.{option_map_or, option_or}
 use Rattle.std.proofs.lemmas.Bool.{true≢false, eqb-true, eq-eqb}
 use Rattle.std.proofs.lemmas.List.Elements.{All-cons, All-head, All-nil, All-push, All-tail}
 use Rattle.std.proofs.lemmas.List.Sorted.{list_any-IsPermutation, All-permutation}
-use Rattle.indexmap.specs.IndexMap.{insert_entry, set_value_at, IndexMap}
+use Rattle.indexmap.specs.IndexMap.{hasher_of, insert_entry, set_value_at, IndexMap}
 use Rattle.client_registry.specs.Command.{Delete}
 use Rattle.client_registry.specs.Facts.{facts_after}
 use Rattle.client_registry.specs.IdNumber.{id_number}
@@ -124,7 +124,7 @@ IsKept-retired words id old new had gone permuted rising = record {
   valid = λ n live. absurd (cc (live, gone));
 }
 
--- the facts behind a deletion
+-- the facts after a deletion
 pub facts-retired : (r : Inside) (documents : IndexMap DocId Listed HashKeys) (id p : ℕ) (old new : Listed)
     → position (λ k. nat_eq id (id_number k)) (keys_of r.documents.entries) ≡ Some p → documents.entries ≡ set_value_at r.documents.entries p new
     → Some old ≡ lookup (λ k. nat_eq id (id_number k)) r.documents.entries → new.live ≡ None → IsPermutation old.numbers.items new.numbers.items
@@ -166,7 +166,7 @@ module _ (id : DocId) (empty : Listed) where
       by true h rest = absurd (cc)
       by false h rest = ap (λ r. e ∷ r) (rest h)
 
-  -- and it is looked up behind the others
+  -- and it is looked up after the others
   lookup-made : (es : List (DocId × Listed)) (q : ℕ) → lookup (λ k. nat_eq q (id_number k)) (es ++ (id, empty) ∷ []) ≡ option_or (lookup (λ k. nat_eq q (id_number k)) es) (if nat_eq q (id_number id) then Some empty else None)
   lookup-made [] q = refl
   lookup-made (e ∷ es) q = by (nat_eq q (id_number e.0)) (lookup-made es q)
@@ -212,8 +212,8 @@ module _ (id : DocId) (empty : Listed) where
         among word q None false = refl
 
     -- and is sound
-    pub sound-made : IsSound r → IsSound made
-    sound-made had = record {
+    pub sound-made : hasher_of made.documents ≡ hasher_of r.documents → IsSound r → IsSound made
+    sound-made same had = record {
       words_differ = had.words_differ;
       kept = subst (All (λ e. IsKept (table_words r.words.entries) (kept_entry e))) (sym entries)
           (All-push (λ e. IsKept (table_words r.words.entries) (kept_entry e)) r.documents.entries (id, empty) had.kept (record {
@@ -225,6 +225,7 @@ module _ (id : DocId) (empty : Listed) where
       few = had.few;
       next = had.next;
       again = had.again;
+      hashers = same ∙ had.hashers;
     }
 
     -- the identifier has the new entry, where it had none

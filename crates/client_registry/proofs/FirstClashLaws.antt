@@ -9,7 +9,7 @@ use Rattle.client_registry.proofs.Positions.{is_some-position}
 use Rattle.client_registry.specs.DocumentRule.{first_repeat}
 use Rattle.client_registry.specs.FirstClash.{clash_at, first_clash}
 
--- one more number behind the others
+-- one more number after the others
 range_with_len-suc : (a n : ℕ) → range_with_len a (suc n) ≡ range_with_len a n ++ (a + n) ∷ []
 range_with_len-suc a zero = ap (λ k. k ∷ []) (sym (add-zero a))
 range_with_len-suc a (suc n) =
@@ -24,7 +24,7 @@ filter_map-range_with_len f g a (suc n) same =
     let rest = filter_map-range_with_len f g (a + 1) n (λ k lt. same k (omega arith)) in
     λ i. cons_option (here i) (rest i)
 
--- the first of a list with one more behind it
+-- the first of a list with one more after it
 first_push : {Y : Type 0} (ys : List Y) (o : Option Y) → slice_get (ys ++ cons_option o []) 0 ≡ option_or (slice_get ys 0) o
 first_push [] None = refl
 first_push [] (Some y) = refl
@@ -54,7 +54,7 @@ first_clash-push xs x =
     ∙ ap (λ o. slice_get (filter_map (clash_at xs) (range_with_len 0 n) ++ cons_option o []) 0) last
     ∙ first_push (filter_map (clash_at xs) (range_with_len 0 n)) (option_map (λ i. (i, n)) (position (bytes_eq x) xs))
 
--- what stands behind a clash changes nothing
+-- what stands after a clash changes nothing
 pub first_clash-append : (xs ys : List (List ℕ)) (c : ℕ × ℕ) → first_clash xs ≡ Some c → first_clash (xs ++ ys) ≡ Some c
 first_clash-append xs [] c found = ap first_clash (append-nil xs) ∙ found
 first_clash-append xs (y ∷ ys) c found =

@@ -8,7 +8,7 @@ use Rattle.std.specs.Str.{bytes_eq}
 use Rattle.std.proofs.Math.Seq.{take-append_seam}
 use Rattle.std.proofs.lemmas.List.{length-append}
 use Rattle.std.proofs.lemmas.List.Elements.{All-take, All-weaker}
-use Rattle.indexmap.specs.IndexMap.{IndexMap}
+use Rattle.indexmap.specs.IndexMap.{IndexMap, hasher_of}
 use Rattle.client_registry.specs.DocumentRule.{IsDocument}
 use Rattle.client_registry.specs.IdNumber.{id_number}
 use Rattle.client_registry.specs.Numbered.{words_by_number}
@@ -99,11 +99,12 @@ module _ (r : Inside) (sound : IsSound r) (words : IndexMap Word ℕ HashKeys) (
   }
 
   -- and it is sound
-  pub sound-grown : IsDistinct bytes_eq (table_words words.entries) → length words.entries < 2 ^ 32 → IsSound grown
-  sound-grown differ few = record {
+  pub sound-grown : IsDistinct bytes_eq (table_words words.entries) → length words.entries < 2 ^ 32 → hasher_of words ≡ hasher_of r.words → IsSound grown
+  sound-grown differ few same = record {
     words_differ = differ;
     kept = All-weaker (λ e. IsKept (table_words r.words.entries) (kept_entry e)) (λ e. IsKept (table_words words.entries) (kept_entry e)) (λ e. IsKept-grown (kept_entry e)) r.documents.entries sound.kept;
     few = few;
     next = sound.next;
     again = sound.again;
+    hashers = sound.hashers ∙ sym same;
   }

@@ -14,7 +14,7 @@ use Rattle.client_registry.specs.Command.{Command, Add, Delete, Search, is_updat
 use Rattle.client_registry.specs.Document.{Document}
 use Rattle.client_registry.specs.Documents.{IsCollected}
 use Rattle.client_registry.specs.Histories.{is_set_up, begun_by, longer, is_live_in, is_listed_in, counter_in, frames_in, accepts, IsKept, IsFirstOf, found_by, found_in_turn}
-use Rattle.client_registry.specs.Live.{found_in}
+use Rattle.client_registry.specs.Live.{matching_in}
 use Rattle.client_registry.specs.Over.{over}
 use Rattle.client_registry.specs.Run.{Run, History, commands_of}
 use Rattle.client_registry.specs.Setup.{Setup}
@@ -38,7 +38,7 @@ pub IsFirstOf-before : (h other : History) → is_set_up h ≡ false → IsFirst
 IsFirstOf-before None other e = tt
 IsFirstOf-before (Some run) other e = absurd (true≢false e)
 
--- commands stand behind it
+-- commands stand after it
 pub IsFirstOf-longer : (h : History) (commands : List Command) → IsFirstOf h (longer commands h)
 IsFirstOf-longer None commands = tt
 IsFirstOf-longer (Some run) commands = (refl, (commands, refl))
@@ -124,6 +124,6 @@ found_in_turn-update (Some run) (Delete id) e = found_in_turn-push run (Delete i
 found_in_turn-update (Some run) (Search word) e = absurd (true≢false (sym e))
 
 -- a search finds one answer more
-pub found_in_turn-search : (h : History) (word : List ℕ) → is_set_up h ≡ true → found_in_turn (longer (Search word ∷ []) h) ≡ found_in_turn h ++ found_in h word ∷ []
+pub found_in_turn-search : (h : History) (word : List ℕ) → is_set_up h ≡ true → found_in_turn (longer (Search word ∷ []) h) ≡ found_in_turn h ++ matching_in h word ∷ []
 found_in_turn-search None word up = absurd (true≢false (sym up))
 found_in_turn-search (Some run) word up = found_in_turn-push run (Search word)

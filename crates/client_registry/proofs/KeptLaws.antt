@@ -7,7 +7,7 @@ use Rattle.std.proofs.Math.Seq.{take-append_seam}
 use Rattle.std.proofs.lemmas.Bool.{true≢false}
 use Rattle.std.proofs.lemmas.List.{length-map, length-append, map-append}
 use Rattle.std.proofs.lemmas.List.Elements.{All-head, All-nil, All-push, All-tail, All-weaker}
-use Rattle.indexmap.specs.IndexMap.{insert_entry}
+use Rattle.indexmap.specs.IndexMap.{hasher_of, insert_entry}
 use Rattle.client_registry.specs.Document.{Document}
 use Rattle.client_registry.specs.DocumentRule.{IsDocument}
 use Rattle.client_registry.specs.Documents.{all_words, first_seen, is_live, pairs_of, IsCollected}
@@ -44,7 +44,7 @@ is_some-kept ws id (e ∷ es) = by (nat_eq id (id_number e.0)) (is_some-kept ws 
     by false h = h
 
 module _ (es fs : List (Word × ℕ)) (ws : List (List ℕ)) (counted : counts_of fs ≡ fold counted_up (counts_of es) ws) where
-  -- words counted more stand behind those that were there
+  -- words counted more stand after those that were there
   pub words_behind : (vs : List (List ℕ)) × (table_words fs ≡ table_words es ++ vs)
   words_behind = (
     new_to (keys_of (counts_of es)) (first_seen ws),
@@ -59,9 +59,9 @@ module _ (es fs : List (Word × ℕ)) (ws : List (List ℕ)) (counted : counts_o
       omega (arith, length-map {B = List ℕ} es (λ e. word_bytes e.0), length-map {B = List ℕ} fs (λ e. word_bytes e.0), ap length words_behind.1, length-append (table_words es) words_behind.0)
 
 -- with no entries there are no documents, and all is as it is to be
-pub indexed_empty : (docs : Inside) → docs.documents.entries ≡ [] → docs.words.entries ≡ [] → docs.pairs ≡ 0 → IsIndexed docs
+pub indexed_empty : (docs : Inside) → docs.documents.entries ≡ [] → docs.words.entries ≡ [] → docs.pairs ≡ 0 → hasher_of docs.documents ≡ hasher_of docs.words → IsIndexed docs
 unfolding IsDistinct
-indexed_empty docs none empty zero =
+indexed_empty docs none empty zero hashers =
     let nothing : documents_of docs ≡ [] = ap (map (kept_document (table_words docs.words.entries))) none in
     record {
       numbered = subst (All (λ e. All (λ n. n < length docs.words.entries) e.1.numbers.items)) (sym none) (All-nil _);
@@ -69,6 +69,7 @@ indexed_empty docs none empty zero =
       counts = ap counts_of empty ∙ ap (λ ds. tally (all_words ds)) (sym nothing);
       pairs = zero ∙ ap pairs_of (sym nothing);
       collected = subst IsCollected (sym nothing) (record { documents = omega arith; pairs = omega arith; different = tt; are_documents = All-nil IsDocument });
+      hashers = hashers;
     }
 
 -- an identifier that isn't live goes last

@@ -13,7 +13,7 @@ use Rattle.client_registry.proofs.OverLaws.{over-append, flat-over-filter}
 use Rattle.client_registry.specs.Command.{Command, Add, Delete, Search, is_update}
 use Rattle.client_registry.specs.Document.{Document}
 use Rattle.client_registry.specs.Documents.{has_word, ids_with}
-use Rattle.client_registry.specs.Live.{after, live, holds_pair, adds_pair, is_listed, is_live_with, newly_listed, added_list, counter, shown, found, in_order}
+use Rattle.client_registry.specs.Live.{after, live, holds_pair, adds_pair, is_listed, is_live_with, newly_listed, added_list, counter, shown, matching_ids, in_order}
 use Rattle.client_registry.specs.Over.{over}
 use Rattle.client_registry.specs.Setup.{Setup, setup_list}
 
@@ -53,8 +53,8 @@ counter-updates s cs word = ap length (added_list-updates s cs word)
 pub shown-updates : (s : Setup) (cs : List Command) (word : List ℕ) → shown s (filter is_update cs) word ≡ shown s cs word
 shown-updates s cs word = λ i. filter (holds_pair (live-updates s.documents cs i) word) (setup_list s word ++ added_list-updates s cs word i)
 
-pub found-updates : (s : Setup) (cs : List Command) (word : List ℕ) → found s (filter is_update cs) word ≡ found s cs word
-found-updates s cs word = ap (λ docs. in_order (ids_with docs word)) (live-updates s.documents cs)
+pub matching_ids-updates : (s : Setup) (cs : List Command) (word : List ℕ) → matching_ids s (filter is_update cs) word ≡ matching_ids s cs word
+matching_ids-updates s cs word = ap (λ docs. in_order (ids_with docs word)) (live-updates s.documents cs)
 
 -- One command more.
 

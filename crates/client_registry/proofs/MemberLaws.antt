@@ -88,7 +88,7 @@ either true false = refl
 either false true = refl
 either false false = refl
 
--- others, and behind them those of xs that aren't among them, have the members of both
+-- others, and after them those of xs that aren't among them, have the members of both
 pub any_merged : (q : ℕ → Bool) (others xs : List ℕ) → list_any q (others ++ filter (λ n. not (list_any (nat_eq n) others)) xs) ≡ (list_any q xs || list_any q others)
 any_merged q others xs =
     any_by_members q (others ++ filter (λ n. not (list_any (nat_eq n) others)) xs) (xs ++ others) members ∙ list_any-append q xs others

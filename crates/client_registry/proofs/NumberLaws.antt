@@ -77,7 +77,7 @@ keys_stay (e ∷ es) w = by (bytes_eq w e.0) (keys_stay es w)
 
 -- Numbers into a table that grows.
 
--- a place of a list is the same where more stands behind
+-- a place of a list is the same where more stands after
 get_or-front : {X : Type 0} (xs ys : List X) (n : ℕ) (d : X) → take (length xs) ys ≡ xs → n < length xs → get_or ys n d ≡ get_or xs n d
 get_or-front xs ys n d same within = sym (get_or-take (length xs) ys n d within) ∙ ap (λ zs. get_or zs n d) same
 

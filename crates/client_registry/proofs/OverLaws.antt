@@ -6,7 +6,7 @@ use Rattle.std.proofs.lemmas.List.Elements.{filter-append}
 use Rattle.client_registry.specs.Over.{over, kept_by}
 
 module _ {A B : Type 0} (f : List A → A → B) where
-  -- the results of a list and another behind it are those of both, the second with the first in its past
+  -- the results of a list and another after it are those of both, the second with the first in its past
   pub over-append : (past xs ys : List A) → over f past (xs ++ ys) ≡ over f past xs ++ over f (past ++ xs) ys
   over-append past [] ys = ap (λ before. over f before ys) (sym (append-nil past))
   over-append past (x ∷ xs) ys =

@@ -46,7 +46,7 @@ list_any-map p f [] = refl
 list_any-map p f (x ∷ xs) = ap (λ b. p (f x) || b) (list_any-map p f xs)
 
 module _ (docs : List Document) (doc : Document) where
-  -- the words of one more document stand behind the others
+  -- the words of one more document stand after the others
   pub all_words-push : all_words (docs ++ doc ∷ []) ≡ all_words docs ++ doc.words
   all_words-push = flat_map-append (λ d. d.words) docs (doc ∷ []) ∙ ap (λ r. all_words docs ++ r) (append-nil doc.words)
 

@@ -128,7 +128,7 @@ module _ (r : Inside) (sound : IsSound r) (id : ℕ) (words : List (List ℕ)) (
     module _ (s : Inside) (p : ℕ) (place : position (λ k. nat_eq id (id_number k)) (keys_of r.documents.entries) ≡ Some p)
         (entries : s.documents.entries ≡ set_value_at r.documents.entries p new) (same_words : table_words s.words.entries ≡ table_words r.words.entries)
         (counts : (n : ℕ) → get_or (values_of s.words.entries) n 0 ≡ get_or (values_of r.words.entries) n 0 + rise old.numbers.items ns n) where
-      -- the facts behind the addition
+      -- the facts after the addition
       pub facts-put : facts (registered_of s) ≡ facts_after (facts (registered_of r)) (Add (record { id = id; words = words }))
       facts-put = λ i. record {
         live = λ q. (live_replaced r s id p new place entries same_words q ∙ ap (λ o. if nat_eq q id then o else (facts (registered_of r)).live q) alive) i;

@@ -156,7 +156,7 @@ has_kept r id k kept = by (lookup (λ k. nat_eq id (id_number k)) r.documents.en
 
 -- what a registry tells depends on its counts and on what it keeps
 pub facts_by : (a b : Registered) → a.counts ≡ b.counts → a.kept ≡ b.kept → facts a ≡ facts b
-facts_by a b counts kept = λ i. facts (record { counts = counts i; kept = kept i; room = a.room })
+facts_by a b counts kept = λ i. facts (record { counts = counts i; kept = kept i; room = a.room; keys = a.keys })
 
 pub none_there : {X : Type 0} (o : Option X) → is_some o ≡ false → o ≡ None
 none_there None h = refl

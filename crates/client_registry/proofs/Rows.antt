@@ -5,7 +5,7 @@ use Rattle.client_registry.specs.Command.{Command, Add, Delete}
 use Rattle.client_registry.specs.Document.{Document}
 use Rattle.client_registry.specs.Documents.{words_of, list_lengths}
 use Rattle.client_registry.specs.FirstClash.{first_clash}
-use Rattle.client_registry.specs.Live.{added_list, counter, found, shown}
+use Rattle.client_registry.specs.Live.{added_list, counter, matching_ids, shown}
 use Rattle.client_registry.specs.Setup.{Setup, setup_of}
 use Rattle.client_registry.specs.Sized.{is_accepted}
 use Rattle.client_registry.specs.declared.faults.SizeFault.TheVariants.{BadParameter, ListTooLong}
@@ -89,7 +89,7 @@ added_again = Add (doc 5 (a ∷ [])) ∷ Delete 5 ∷ Add (doc 5 (a ∷ c ∷ []
 abbrev of_one : Setup
 of_one = setup_of (doc 1 (a ∷ []) ∷ []) 1 1
 
-again_found : found of_one added_again a ≡ 1 ∷ 5 ∷ []
+again_found : matching_ids of_one added_again a ≡ 1 ∷ 5 ∷ []
 again_found = refl
 
 again_shown : shown of_one added_again a ≡ 1 ∷ 5 ∷ []
@@ -117,26 +117,26 @@ other_accepted = refl
 other_counters : counter of_five [] a ∷ counter of_five (Add (doc 6 (a ∷ [])) ∷ []) a ∷ [] ≡ 0 ∷ 1 ∷ []
 other_counters = refl
 
-other_found : found of_five (Add (doc 6 (a ∷ [])) ∷ []) a ≡ 5 ∷ 6 ∷ []
+other_found : matching_ids of_five (Add (doc 6 (a ∷ [])) ∷ []) a ≡ 5 ∷ 6 ∷ []
 other_found = refl
 
 -- deleted, and added again without the word
-found_without : found of_five (Delete 5 ∷ Add (doc 5 (c ∷ [])) ∷ []) a ≡ []
+found_without : matching_ids of_five (Delete 5 ∷ Add (doc 5 (c ∷ [])) ∷ []) a ≡ []
 found_without = refl
 
-found_with_other : found of_five (Delete 5 ∷ Add (doc 5 (c ∷ [])) ∷ []) c ≡ 5 ∷ []
+found_with_other : matching_ids of_five (Delete 5 ∷ Add (doc 5 (c ∷ [])) ∷ []) c ≡ 5 ∷ []
 found_with_other = refl
 
 -- documents of no word bring no pair
 abbrev empty_document : List Command
 empty_document = Add (doc 2 []) ∷ Delete 2 ∷ Add (doc 3 (a ∷ [])) ∷ []
 
-empty_found : found of_one empty_document a ≡ 1 ∷ 3 ∷ []
+empty_found : matching_ids of_one empty_document a ≡ 1 ∷ 3 ∷ []
 empty_found = refl
 
 empty_counter : counter of_one empty_document a ≡ 1
 empty_counter = refl
 
 -- identifiers that come falling are found rising
-rising : found (setup_of (doc 9 (a ∷ []) ∷ doc 3 (a ∷ b ∷ []) ∷ []) 4 4) [] a ≡ 3 ∷ 9 ∷ []
+rising : matching_ids (setup_of (doc 9 (a ∷ []) ∷ doc 3 (a ∷ b ∷ []) ∷ []) 4 4) [] a ≡ 3 ∷ 9 ∷ []
 rising = refl

@@ -21,7 +21,7 @@ list_any-push q w front had e =
     ∙ sym (list_any-append (bytes_eq q) front (w ∷ []))
 
 module _ {X : Type 0} (f : X → List ℕ) (xs : List X) (i : ℕ) (x : X) (w : List ℕ) (within : i < length xs) (at : x ≡ get_or xs i x) (is : w ≡ f x) where
-  -- the word at i behind those before it
+  -- the word at i after those before it
   pub front_more : map f (take (i + 1) xs) ≡ map f (take i xs) ++ w ∷ []
   front_more = map_more f xs i x within ∙ ap (λ y. map f (take i xs) ++ f y ∷ []) (sym at) ∙ ap (λ v. map f (take i xs) ++ v ∷ []) (sym is)
 

@@ -11,6 +11,7 @@ use Rattle.std.proofs.lemmas.Cmp.{nat_eq_equiv}
 use Rattle.std.proofs.lemmas.List.{drop_all, length-map, take_all}
 use Rattle.std.proofs.lemmas.List.Elements.{All-cons, All-nil, All-head, All-tail, All-weaker}
 use Rattle.two_level.specs.Shape.{Shape}
+use Rattle.indexmap.specs.IndexMap.{hasher_of}
 use Rattle.client_registry.specs.Document.{Document}
 use Rattle.client_registry.specs.DocumentRule.{IsDocument}
 use Rattle.client_registry.specs.Documents.{has_word, words_of}
@@ -137,8 +138,8 @@ module _ (docs : Collected) (indexed : IsIndexed docs) (r : Inside) (same_docume
             (All-head IsDocument (kept_document (table_words docs.words.entries) e) (map (kept_document (table_words docs.words.entries)) es) valid);
       }
 
-  pub sound_setup : r.next.items ≡ [] → r.again.items ≡ [] → IsSound r
-  sound_setup next again = record {
+  pub sound_setup : r.next.items ≡ [] → r.again.items ≡ [] → hasher_of r.documents ≡ hasher_of r.words → IsSound r
+  sound_setup next again hashers = record {
     words_differ = subst (IsDistinct bytes_eq) (sym (same_words ∙ counted_words docs indexed)) (IsDistinct-first_seen _);
     kept =
         subst (λ ws. All (λ e. IsKept ws (kept_entry e)) r.documents.entries) (sym same_words)
@@ -148,4 +149,5 @@ module _ (docs : Collected) (indexed : IsIndexed docs) (r : Inside) (same_docume
         omega (arith, length-map {B = List ℕ} r.words.entries (λ x. word_bytes x.0), length-map {B = List ℕ} docs.words.entries (λ x. word_bytes x.0), ap length same_words, words_within docs indexed);
     next = next;
     again = again;
+    hashers = hashers;
   }

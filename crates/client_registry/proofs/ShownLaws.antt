@@ -13,7 +13,7 @@ use Rattle.client_registry.proofs.OverLaws.{over-append}
 use Rattle.client_registry.specs.Command.{Command, Add, Delete, Search}
 use Rattle.client_registry.specs.Document.{Document}
 use Rattle.client_registry.specs.Documents.{has_word, ids_with, is_live, IsCollected}
-use Rattle.client_registry.specs.Live.{after, live, is_listed, is_live_with, newly_listed, added_list, shown, found, in_order}
+use Rattle.client_registry.specs.Live.{after, live, is_listed, is_live_with, newly_listed, added_list, shown, matching_ids, in_order}
 use Rattle.client_registry.specs.Over.{over}
 use Rattle.client_registry.specs.Setup.{Setup, setup_list}
 use Rattle.client_registry.specs.Sized.{is_accepted}
@@ -80,7 +80,7 @@ live_apart s apart = from_end (λ xs. are_accepted s xs ≡ true → AreApart (i
         by (Search word) ok = before
 
 -- the identifiers that a search shows, put in order, are those found
-pub in_order-shown : (s : Setup) (cs : List Command) (word : List ℕ) → IsCollected s.documents → are_accepted s cs ≡ true → in_order (shown s cs word) ≡ found s cs word
+pub in_order-shown : (s : Setup) (cs : List Command) (word : List ℕ) → IsCollected s.documents → are_accepted s cs ≡ true → in_order (shown s cs word) ≡ matching_ids s cs word
 in_order-shown s cs word collected accepted =
     in_order-same (shown s cs word) (ids_with (live s.documents cs) word) shown_apart found_apart same
   where

@@ -1,5 +1,5 @@
 -- What is accepted is sized.
-use Rattle.std.proofs.Common.{◌≡◌, ℕ, ◌+◌, ◌*◌, ◌<◌, ◌≤◌, ◌^◌, Bool, true, false, not, ◌&&◌, List, [], ◌∷◌, ◌++◌, length, filter, Option, None, Some, nat_lt, nat_le, refl, sym, ap, subst, append_assoc, ◌∙◌, arith}
+use Rattle.std.proofs.Common.{◌≡◌, ℕ, ◌+◌, ◌*◌, ◌<◌, ◌≤◌, ◌^◌, Bool, true, false, not, ◌&&◌, List, [], ◌∷◌, ◌++◌, length, filter, Option, None, Some, nat_lt, nat_le, option_map, refl, sym, ap, subst, append_assoc, ◌∙◌, arith}
 use Rattle.std.specs.Prelude.{All, flat_map, bytes_eq, if◌then◌else◌}
 use Rattle.std.specs.List.{list_all}
 use Rattle.std.specs.Option.{option_or}
@@ -11,14 +11,16 @@ use Rattle.std.proofs.lemmas.List.Folds.{list_all-append}
 use Rattle.std.proofs.Math.Nat.{mul-le-mul_left, div-le_self}
 use Rattle.client_registry.proofs.OverLaws.{over-append}
 use Rattle.client_registry.proofs.WordsLaws.{length-first_seen}
-use Rattle.client_registry.specs.Acceptance.{blocks_of, index_bytes, frames_needed, is_within, parameter_refusal, list_refusal, bytes_refusal, setup_refusal}
+use Rattle.client_registry.specs.Acceptance.{blocks_of, index_bytes, frames_needed, parameter_refusal, refused_shape, list_refusal, bytes_refusal, setup_refusal}
 use Rattle.client_registry.specs.Command.{Command, is_update}
 use Rattle.client_registry.specs.Documents.{all_words, first_seen, IsCollected}
 use Rattle.client_registry.specs.Over.{over}
 use Rattle.client_registry.specs.Run.{Run}
 use Rattle.client_registry.specs.Setup.{Setup, setup_words}
 use Rattle.client_registry.specs.Sized.{IsHistory, is_accepted, update_frames, words_named, run_words, IsSizedCommand, IsSized}
-use Rattle.client_registry.specs.declared.faults.SizeFault.TheVariants.{BadParameter, TooManyBytes}
+use Rattle.client_registry.specs.declared.faults.SizeFault.TheVariants.{TooManyBytes}
+use Rattle.two_level.specs.ShapeFault.{is_within}
+use Rattle.two_level.specs.declared.shape_fault.ShapeFault.TheVariants.{BadCell, BadBlock}
 
 -- nothing is refused where no cause stands
 no_cause : {A : Type 0} (o p : Option A) → option_or o p ≡ None → (o ≡ None) × (p ≡ None)
@@ -36,7 +38,7 @@ module _ (s : Setup) (h : setup_refusal s.documents s.shape.b s.shape.big ≡ No
   accepted_shape = by (is_within 1 64 s.shape.b) (is_within 1 256 s.shape.big) refl refl (no_cause (parameter_refusal s.shape) (option_or (list_refusal s) (bytes_refusal s)) h).0
     where
       by : (x y : Bool) → is_within 1 64 s.shape.b ≡ x → is_within 1 256 s.shape.big ≡ y
-          → (if not x then Some (BadParameter 0 s.shape.b) else if not y then Some (BadParameter 1 s.shape.big) else None) ≡ None
+          → option_map refused_shape (if not x then Some (BadCell s.shape.b) else if not y then Some (BadBlock s.shape.big) else None) ≡ None
           → ((1 ≤ s.shape.b) × (s.shape.b ≤ 64)) × ((1 ≤ s.shape.big) × (s.shape.big ≤ 256))
       by true true a b e = (is_within-true 1 64 s.shape.b a, is_within-true 1 256 s.shape.big b)
       by false y a b e = absurd (cc)

@@ -50,6 +50,11 @@ module _ {K : Type 0} (bytes : K → List ℕ) where
       subst (IsDistinct bytes_eq) (sym (map-append (λ e. bytes e.0) es ((k, v) ∷ [])))
       (IsDistinct-push bytes_eq (λ x y. nat_list_eq_equiv.symm x y) (words es) (bytes k) differ absent)
 
+  -- the last of them stands after the others
+  pub last_word : (k : K) (v : ℕ) (es : List (K × ℕ)) → slice_get (words (es ++ (k, v) ∷ [])) (length es) ≡ Some (bytes k)
+  last_word k v [] = refl
+  last_word k v (e ∷ es) = last_word k v es
+
   -- the last of them is one of them
   pub last_numbered : (k : K) (v : ℕ) (es : List (K × ℕ)) → list_any (bytes_eq (bytes k)) (words (es ++ (k, v) ∷ [])) ≡ true
   last_numbered k v es =
@@ -151,7 +156,7 @@ pub keys-GivesNumbers : (es fs : List (List ℕ × ℕ)) → (given : GivesNumbe
 keys-GivesNumbers es fs given = ap keys_of given.1 ∙ map-append (λ e. e.0) es (map (λ w. (w, 0)) given.0) ∙ ap (λ ws. keys_of es ++ ws) (keys-given given.0)
 
 module _ {K : Type 0} (bytes : K → List ℕ) (es fs : List (K × ℕ)) (given : GivesNumbers (map (λ e. (bytes e.0, e.1)) es) (map (λ e. (bytes e.0, e.1)) fs)) where
-  -- words that are given numbers stand behind those that had one
+  -- words that are given numbers stand after those that had one
   pub table_given : map (λ e. bytes e.0) fs ≡ map (λ e. bytes e.0) es ++ given.0
   table_given =
       sym (keys-counts bytes fs) ∙ keys-GivesNumbers (map (λ e. (bytes e.0, e.1)) es) (map (λ e. (bytes e.0, e.1)) fs) given ∙ ap (λ ws. ws ++ given.0) (keys-counts bytes es)

@@ -83,7 +83,7 @@ fold-counted_up-below (w ∷ ws) es n all =
 pub tally-below : (ws : List (List ℕ)) → All (λ e. e.1 ≤ length ws) (tally ws)
 tally-below ws = let e : 0 + length ws ≡ length ws = omega arith in subst (λ m. All (λ e. e.1 ≤ m) (tally ws)) e (fold-counted_up-below ws [] 0 (All-nil (λ e. e.1 ≤ 0)))
 
--- one word more behind the others
+-- one word more after the others
 pub fold-counted_up-push : (es : List (List ℕ × ℕ)) (ws : List (List ℕ)) (w : List ℕ) → fold counted_up es (ws ++ w ∷ []) ≡ counted_up (fold counted_up es ws) w
 fold-counted_up-push es [] w = refl
 fold-counted_up-push es (v ∷ ws) w = fold-counted_up-push (counted_up es v) ws w

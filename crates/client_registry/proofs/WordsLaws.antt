@@ -55,7 +55,7 @@ list_any-congr v w (k ∷ ks) same = λ i. sym (nat_list_eq_equiv.congr w v k sa
 abbrev pub new_to : List (List ℕ) → List (List ℕ) → List (List ℕ)
 new_to ks ws = filter (λ v. not (list_any (bytes_eq v) ks)) ws
 
--- of the words behind one that is known, those that differ from it and are new are those that are new
+-- of the words after one that is known, those that differ from it and are new are those that are new
 new_to-known : (ks : List (List ℕ)) (w : List ℕ) (ws : List (List ℕ)) → list_any (bytes_eq w) ks ≡ true → new_to ks (w ∷ filter (λ v. not (bytes_eq w v)) ws) ≡ new_to ks ws
 new_to-known ks w ws known =
     ap (λ b. cond (not b) (w ∷ rest) rest) known
@@ -68,7 +68,7 @@ new_to-known ks w ws known =
     by v true e = ap not (list_any-congr v w ks e ∙ known)
     by v false e = refl
 
--- and behind one that is new, they are those that are new to it too
+-- and after one that is new, they are those that are new to it too
 new_to-new : (ks : List (List ℕ)) (w : List ℕ) (ws : List (List ℕ)) → list_any (bytes_eq w) ks ≡ false → new_to ks (w ∷ filter (λ v. not (bytes_eq w v)) ws) ≡ w ∷ new_to (ks ++ w ∷ []) ws
 new_to-new ks w ws absent =
     ap (λ b. cond (not b) (w ∷ rest) rest) absent
@@ -89,7 +89,7 @@ new_to-new ks w ws absent =
         ∙ either (list_any (bytes_eq v) ks) (bytes_eq v w)
         ∙ ap (λ b. not b && not (list_any (bytes_eq v) ks)) (nat_list_eq_equiv.symm v w)
 
--- the words counted behind others are those that are new to these, by first appearance
+-- the words counted after others are those that are new to these, by first appearance
 pub keys-fold : (ws : List (List ℕ)) (es : List (List ℕ × ℕ)) → keys_of (fold counted_up es ws) ≡ keys_of es ++ new_to (keys_of es) (first_seen ws)
 keys-fold [] es = sym (append-nil (keys_of es))
 keys-fold (w ∷ ws) es = by (list_any (bytes_eq w) (keys_of es)) refl (keys-fold ws (counted_up es w)) (keys-counted_up es w)

@@ -1,8 +1,11 @@
 -- Which setups are accepted, and how large their index is.
-use Rattle.std.specs.Prelude.{ℕ, ◌+◌, ◌*◌, ◌^◌, Bool, not, ◌&&◌, nat_lt, nat_le, List, length, sum_by, position, slice_index, Option, None, Some, is_none, option_map, if◌then◌else◌}
+use Rattle.std.specs.Prelude.{ℕ, ◌+◌, ◌*◌, ◌^◌, nat_lt, List, length, sum_by, position, slice_index, Option, None, Some, is_none, option_map, if◌then◌else◌}
 use Rattle.std.specs.Int.{div_ceil}
 use Rattle.std.specs.Option.{option_or}
 use Rattle.two_level.specs.Shape.{Shape}
+use Rattle.two_level.specs.ShapeFault.{shape_fault}
+use Rattle.two_level.specs.declared.shape_fault.ShapeFault.{ShapeFault}
+use Rattle.two_level.specs.declared.shape_fault.ShapeFault.TheVariants.{BadCell, BadBlock}
 use Rattle.two_level.specs.Plan.{plan, block_count}
 use Rattle.client_registry.specs.Document.{Document}
 use Rattle.client_registry.specs.Documents.{list_lengths}
@@ -22,16 +25,14 @@ index_bytes s = length (setup_words s) * (17 + 8 * s.shape.b) + blocks_of s * (8
 abbrev pub frames_needed : Setup → ℕ
 frames_needed s = 2 + div_ceil (length (setup_words s)) 1024 + div_ceil (blocks_of s) 256
 
--- whether n lies between these two
-abbrev pub is_within : ℕ → ℕ → ℕ → Bool
-is_within low high n = nat_le low n && nat_le n high
+-- the fault of a parameter that is outside its limits: b, which is parameter 0, else big
+abbrev pub refused_shape : ShapeFault → SizeFault
+refused_shape (BadCell b) = BadParameter 0 b
+refused_shape (BadBlock big) = BadParameter 1 big
 
 -- the parameter that is outside its limits: b of 1 to 64, else big of 1 to 256
 abbrev pub parameter_refusal : Shape → Option SizeFault
-parameter_refusal shape =
-    if not (is_within 1 64 shape.b) then Some (BadParameter 0 shape.b)
-    else if not (is_within 1 256 shape.big) then Some (BadParameter 1 shape.big)
-    else None
+parameter_refusal shape = option_map refused_shape (shape_fault shape)
 
 -- the first word whose list is too long for two levels
 abbrev pub list_refusal : Setup → Option SizeFault

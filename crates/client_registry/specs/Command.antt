@@ -1,3 +1,4 @@
+-- The commands after a setup.
 use Rattle.std.specs.Prelude.{ℕ, Bool, true, false, List}
 use Rattle.client_registry.specs.Document.{Document}
 

@@ -1,3 +1,4 @@
+-- Which command a command of the code is.
 use Rattle.client_registry.specs.Command.{Command as Meant, Add as adds, Delete as deletes, Search as searches}
 use Rattle.client_registry.specs.IdNumber.{id_number}
 use Rattle.client_registry.specs.WordBytes.{word_bytes}

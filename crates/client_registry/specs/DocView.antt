@@ -1,3 +1,4 @@
+-- What the fields of a document stand for.
 use Rattle.std.specs.Prelude.{map}
 use Rattle.client_registry.specs.Document.{Document}
 use Rattle.client_registry.specs.WordBytes.{word_bytes}

@@ -1,3 +1,4 @@
+-- A document: an identifier and words.
 use Rattle.std.specs.Prelude.{ℕ, List}
 
 -- a document: its identifier, and its words in the order in which they were given

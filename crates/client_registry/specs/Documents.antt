@@ -1,3 +1,4 @@
+-- The words of documents, by first appearance, and which documents are collected.
 use Rattle.std.specs.Prelude.{ℕ, ◌+◌, ◌^◌, ◌≤◌, Bool, not, ◌==◌, nat_lt, List, [], ◌∷◌, length, map, filter, flat_map, All, bytes_eq, Option, None, Some, if◌then◌else◌}
 use Rattle.std.specs.List.{list_any, IsDistinct}
 use Rattle.client_registry.specs.Document.{Document}

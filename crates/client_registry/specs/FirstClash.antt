@@ -1,3 +1,4 @@
+-- The first two equal values of a list.
 use Rattle.std.specs.Prelude.{ℕ, List, [], Option, length, take, position, slice_get, slice_index_or, bytes_eq, option_map, filter_map}
 use Rattle.std.specs.List.{range_with_len}
 

@@ -1,3 +1,4 @@
+-- The keys of a client's hasher.
 use Rattle.std.specs.Prelude.{ℕ}
 use Rattle.std.specs.Hash.DefaultHasher.{with_keys}
 use Rattle.std.specs.declared.hash.DefaultHasher.{DefaultHasher}

@@ -2,7 +2,7 @@
 use Rattle.std.specs.Prelude.{◌≡◌, ℕ, ◌^◌, ◌<◌, Bool, true, false, List, [], ◌∷◌, ◌++◌, flat_map, None, Some}
 use Rattle.client_registry.specs.Command.{Command, Add, Delete, Search}
 use Rattle.client_registry.specs.Documents.{is_live}
-use Rattle.client_registry.specs.Live.{live_of, is_listed, counter, shown, found}
+use Rattle.client_registry.specs.Live.{live_of, is_listed, counter, shown, matching_ids}
 use Rattle.client_registry.specs.Over.{over}
 use Rattle.client_registry.specs.Run.{History}
 use Rattle.client_registry.specs.Setup.{Setup}
@@ -21,7 +21,7 @@ is_set_up (Some run) = true
 abbrev pub begun_by : Setup → History
 begun_by s = Some (record { setup = s; later = [] })
 
--- the same with these commands behind it; before a setup there are none
+-- the same with these commands after it; before a setup there are none
 abbrev pub longer : List Command → History → History
 longer commands None = None
 longer commands (Some run) = Some (record run { later = run.later ++ commands })
@@ -45,7 +45,7 @@ abbrev pub frames_in : History → ℕ
 frames_in None = 0
 frames_in (Some run) = update_frames run
 
--- whether a command is accepted behind it; before a setup none is
+-- whether a command is accepted after it; before a setup none is
 abbrev pub accepts : History → Command → Bool
 accepts None c = false
 accepts (Some run) c = is_accepted run.setup run.later c
@@ -61,7 +61,7 @@ IsFirstOf None whole = Unit {0}
 IsFirstOf (Some run) None = ⊥
 IsFirstOf (Some run) (Some whole) = (whole.setup ≡ run.setup) × ((more : List Command) × (whole.later ≡ run.later ++ more))
 
--- what a command behind these others shows, and what it finds: a search alone does
+-- what a command after these others shows, and what it finds: a search alone does
 abbrev pub shown_by : Setup → List Command → Command → List (List ℕ)
 shown_by s past (Add d) = []
 shown_by s past (Delete id) = []
@@ -70,7 +70,7 @@ shown_by s past (Search word) = shown s past word ∷ []
 abbrev pub found_by : Setup → List Command → Command → List (List ℕ)
 found_by s past (Add d) = []
 found_by s past (Delete id) = []
-found_by s past (Search word) = found s past word ∷ []
+found_by s past (Search word) = matching_ids s past word ∷ []
 
 -- what its searches show, in turn, and what they find
 abbrev pub shown_in_turn : History → List (List ℕ)

@@ -1,3 +1,4 @@
+-- The number that an identifier of the code is.
 use Rattle.std.specs.Prelude.{ℕ}
 use Rattle.client_registry.specs.declared.doc_id.DocId.{DocId}
 

@@ -2,6 +2,7 @@ pub mod HashNumbers
 pub mod WordRule
 pub mod WordBytes
 pub mod IdNumber
+pub mod Collected
 pub mod Document
 pub mod FirstClash
 pub mod DocumentRule

@@ -65,14 +65,14 @@ in_order [] = []
 in_order (n ∷ ns) = insert_in_order n (in_order ns)
 
 -- the identifiers of the live documents with the word, rising
-abbrev pub found : Setup → List Command → List ℕ → List ℕ
-found s commands word = in_order (ids_with (live s.documents commands) word)
+abbrev pub matching_ids : Setup → List Command → List ℕ → List ℕ
+matching_ids s commands word = in_order (ids_with (live s.documents commands) word)
 
 -- the same of a history
 abbrev pub live_of : History → List Document
 live_of None = []
 live_of (Some run) = live run.setup.documents run.later
 
-abbrev pub found_in : History → List ℕ → List ℕ
-found_in None word = []
-found_in (Some run) word = found run.setup run.later word
+abbrev pub matching_in : History → List ℕ → List ℕ
+matching_in None word = []
+matching_in (Some run) word = matching_ids run.setup run.later word

@@ -16,11 +16,13 @@ pub record Kept : Type 0 where
   pub numbers : List ℕ
   pub live : Option ℕ
 
--- each word at its number, with its counter; what is kept of each identifier; and for how many numbers there is memory
+-- each word at its number, with its counter; what is kept of each identifier; for how many numbers there is memory; and the
+-- two numbers under which identifiers and words are hashed
 pub record Registered : Type 0 where
   pub counts : List (List ℕ × ℕ)
   pub kept : List Kept
   pub room : ℕ
+  pub keys : ℕ × ℕ
 
 -- the words, each at its number
 abbrev pub known_words : Registered → List (List ℕ)

@@ -1,7 +1,10 @@
+-- What the fields of a registry stand for.
 use Rattle.std.specs.Prelude.{◌≡◌, ◌<◌, ◌≤◌, ◌^◌, ℕ, List, [], All, length, map, take, drop, min, unwrap_or, vec_capacity, Some, bytes_eq}
 use Rattle.std.specs.List.{IsDistinct}
 use Rattle.std.specs.List.Sorted.{IsNonDecreasing}
+use Rattle.indexmap.specs.IndexMap.{hasher_of}
 use Rattle.client_registry.specs.DocumentRule.{IsDocument}
+use Rattle.client_registry.specs.HashNumbers.{hash_numbers}
 use Rattle.client_registry.specs.IdNumber.{id_number}
 use Rattle.client_registry.specs.Numbered.{words_by_number}
 use Rattle.client_registry.specs.Registered.{Kept, Registered}
@@ -21,6 +24,7 @@ registered_of r = record {
   counts = counts_of r.words.entries;
   kept = map kept_entry r.documents.entries;
   room = min (vec_capacity r.next) (vec_capacity r.again);
+  keys = hash_numbers (hasher_of r.words);
 }
 
 -- what is so of all that is kept of an identifier, beside so many words
@@ -34,10 +38,11 @@ pub record IsKept (words : List (List ℕ)) (k : Kept) : Type 0 where
   -- and the live document keeps the limits of a document
   pub valid : (n : ℕ) → k.live ≡ Some n → IsDocument (record { id = k.id; words = words_by_number words (take n k.numbers) })
 
--- words stand once, and what is kept of each identifier is sound
+-- words stand once, what is kept of each identifier is sound, and identifiers are hashed as words are
 pub record IsSound (r : Inside) : Type 0 where
   pub words_differ : IsDistinct bytes_eq (table_words r.words.entries)
   pub kept : All (λ e. IsKept (table_words r.words.entries) (kept_entry e)) r.documents.entries
   pub few : length r.words.entries < 2 ^ 32
   pub next : r.next.items ≡ []
   pub again : r.again.items ≡ []
+  pub hashers : hasher_of r.documents ≡ hasher_of r.words

@@ -1,3 +1,4 @@
+-- A setup with commands after it, and where it begins in a longer history.
 use Rattle.std.specs.Prelude.{ℕ, List, [], Option, None, Some}
 use Rattle.client_registry.specs.Command.{Command}
 use Rattle.client_registry.specs.Setup.{Setup}

@@ -1,3 +1,4 @@
+-- The bytes that a word of the code is.
 use Rattle.std.specs.Prelude.{ℕ, List}
 use Rattle.client_registry.specs.declared.word.Word.{Word}
 

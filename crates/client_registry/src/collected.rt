@@ -26,14 +26,13 @@ pub struct Docs {
 }
 
 impl Model for Docs {
-    ghost use Rattle.std.specs.Prelude.{List};
-    ghost use Rattle.client_registry.specs.Document.{Document};
+    ghost use Rattle.client_registry.specs.Collected.{Collected};
 
-    ghost Value = { List Document };
+    ghost Value = { Collected };
 
-    ghost use Rattle.client_registry.specs.DocsView.{documents_of, IsIndexed};
+    ghost use Rattle.client_registry.specs.DocsView.{collected_of, IsIndexed};
 
-    ghost view = { documents_of };
+    ghost view = { collected_of };
 
     ghost invariant = { IsIndexed };
 }
@@ -41,13 +40,15 @@ impl Model for Docs {
 impl Docs {
     ghost use Rattle.client_registry.specs.Documents.{docs_refusal, is_live, list_lengths, words_of, IsCollected};
     ghost use Rattle.client_registry.specs.DocumentRule.{IsDocument};
+    ghost use Rattle.client_registry.specs.HashNumbers.{hash_numbers};
     ghost use Rattle.client_registry.specs.IdNumber.{id_number};
     ghost use Rattle.client_registry.specs.Numbered.{document_by};
     ghost use Rattle.client_registry.specs.WordBytes.{word_bytes};
 
     /// No document. Words and identifiers are to be hashed under these keys.
     pub fn new(alloc: Global, keys: HashKeys) -> Docs
-        ensures { result ≡ [] }
+        ensures none { result.documents ≡ [] }
+        ensures keys { result.keys ≡ hash_numbers keys }
     {
         Docs {
             documents: IndexMap::with_hasher(alloc, keys),
@@ -56,17 +57,18 @@ impl Docs {
         }
     }
 
-    /// Adds a document behind the others.
+    /// Adds a document after the others.
     ///
     /// At most 2^18 documents, and 2^20 pairs of a word and a document. Errors, the first that stands:
     /// `AlreadyLive(id)` where a document has this identifier; `TooManyDocuments(count)` and
     /// `TooManyPairs(count)`, with the count that would result. With none of these, `NoMemory` where there is no
-    /// memory. After an error the documents are as before and `doc` is dropped.
+    /// memory. After an error the documents are as before and `doc` is dropped. The keys stay.
     pub fn push(&mut self, doc: Doc) -> Result<(), DocsFault>
-        ensures ok { OnOk result (self.new ≡ self.old ++ doc ∷ []) }
+        ensures ok { OnOk result (self.new.documents ≡ self.old.documents ++ doc ∷ []) }
         ensures err { OnErr result (self.new ≡ self.old) }
-        ensures refused { IfSome (docs_refusal self.old doc) (λ fault. result ≡ Err fault) }
-        ensures accepted { docs_refusal self.old doc ≡ None → IsOkUnless result DocsFault.NoMemory }
+        ensures keys { self.new.keys ≡ self.old.keys }
+        ensures refused { IfSome (docs_refusal self.old.documents doc) (λ fault. result ≡ Err fault) }
+        ensures accepted { docs_refusal self.old.documents doc ≡ None → IsOkUnless result DocsFault.NoMemory }
     {
         let id = doc.id();
         if self.is_live(id) {
@@ -94,27 +96,27 @@ impl Docs {
 
     /// How many documents.
     pub fn len(&self) -> usize
-        ensures len { result ≡ length self.now }
-        ensures valid { IsCollected self.now }
+        ensures len { result ≡ length self.now.documents }
+        ensures valid { IsCollected self.now.documents }
     {
         self.documents.len()
     }
 
     /// How many different words the documents have: at most 2^20.
     pub fn words(&self) -> usize
-        ensures words { result ≡ length (words_of self.now) }
+        ensures words { result ≡ length (words_of self.now.documents) }
         ensures within { result ≤ MAX_PAIRS }
-        ensures valid { IsCollected self.now }
+        ensures valid { IsCollected self.now.documents }
     {
         self.words.len()
     }
 
     /// The document at place `i`, from 0: its numbers are those of [`Docs::word`].
     pub fn get(&self, i: usize) -> Numbered<'_>
-        requires { i < length self.now }
-        ensures document { slice_get self.now i ≡ Some (document_by (words_of self.now) result) }
-        ensures numbered { All (λ n. n < length (words_of self.now)) result.numbers.now }
-        ensures valid { IsDocument (document_by (words_of self.now) result) }
+        requires { i < length self.now.documents }
+        ensures document { slice_get self.now.documents i ≡ Some (document_by (words_of self.now.documents) result) }
+        ensures numbered { All (λ n. n < length (words_of self.now.documents)) result.numbers.now }
+        ensures valid { IsDocument (document_by (words_of self.now.documents) result) }
     {
         let (id, listed) = self.documents.get_index(i).unwrap();
         Numbered {
@@ -125,25 +127,25 @@ impl Docs {
 
     /// The word of this number, from 0.
     pub fn word(&self, w: usize) -> &Word
-        requires { w < length (words_of self.now) }
-        ensures { slice_get (words_of self.now) w ≡ Some (word_bytes result.now) }
+        requires { w < length (words_of self.now.documents) }
+        ensures { slice_get (words_of self.now.documents) w ≡ Some (word_bytes result.now) }
     {
         self.words.get_index(w).unwrap().0
     }
 
     /// How many documents hold the word of this number: at least 1.
     pub fn list_len(&self, w: usize) -> u32
-        requires { w < length (words_of self.now) }
-        ensures length { slice_get (list_lengths self.now) w ≡ Some result }
+        requires { w < length (words_of self.now.documents) }
+        ensures length { slice_get (list_lengths self.now.documents) w ≡ Some result }
         ensures some { 1 ≤ result }
-        ensures within { result ≤ length self.now }
+        ensures within { result ≤ length self.now.documents }
     {
         *self.words.get_index(w).unwrap().1
     }
 
     /// Whether a document has this identifier.
     pub fn is_live(&self, id: DocId) -> bool
-        ensures { result ≡ is_live self.now (id_number id) }
+        ensures { result ≡ is_live self.now.documents (id_number id) }
     {
         self.documents.contains_key(&id)
     }

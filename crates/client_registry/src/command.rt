@@ -3,7 +3,7 @@ use crate::document::Doc;
 use crate::word::Word;
 
 /// A command after the setup.
-#[derive(Debug, Drop)]
+#[derive(Drop)]
 pub enum Command {
     /// A document becomes live.
     Add(Doc),

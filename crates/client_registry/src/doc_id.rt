@@ -20,7 +20,7 @@ impl fmt::Display for Zero {
 impl Error for Zero {}
 
 /// The identifier of a document: 1 to 2^64-1.
-#[derive(Clone, Copy, Debug, PartialEq, Eq, Hash)]
+#[derive(Clone, Copy, PartialEq, Eq, Hash)]
 pub struct DocId {
     number: u64,
     pub ghost some: { 1 ≤ number },

@@ -9,7 +9,7 @@ use std::collections::BTreeSet;
 use std::marker::Model;
 
 /// A document: an identifier, and at most 4,096 different words in the order in which they were given.
-#[derive(Debug, Drop)]
+#[derive(Drop)]
 pub struct Doc {
     id: DocId,
     words: Vec<Word>,

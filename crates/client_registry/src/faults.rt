@@ -7,6 +7,7 @@ ghost use Rattle.client_registry.specs.declared.faults.DocsFault.TheVariants as 
 use std::alloc::AllocError;
 use std::error::Error;
 use std::fmt;
+use two_level::ShapeFault;
 
 /// Why bytes aren't a word.
 #[derive(Clone, Copy, Debug, PartialEq, Eq)]
@@ -45,7 +46,7 @@ pub enum DocsFault {
 }
 
 /// Why a document isn't added.
-#[derive(Clone, Copy, Debug, PartialEq, Eq)]
+#[derive(Clone, Copy, Debug)]
 pub enum AddFault {
     /// A document has this identifier already.
     AlreadyLive(u64),
@@ -54,11 +55,11 @@ pub enum AddFault {
 }
 
 /// No document has this identifier.
-#[derive(Clone, Copy, Debug, PartialEq, Eq)]
+#[derive(Clone, Copy, Debug)]
 pub struct UnknownDocument(pub u64);
 
 /// Why there is no index of the documents.
-#[derive(Clone, Copy, Debug, PartialEq, Eq)]
+#[derive(Clone, Copy, Debug)]
 pub enum SizeFault {
     /// A parameter is outside its limits: 0 is b (1 to 64), 1 is B (1 to 256).
     BadParameter { which: u8, value: u64 },
@@ -150,6 +151,19 @@ impl fmt::Display for SizeFault {
 }
 
 impl Error for SizeFault {}
+
+impl From<ShapeFault> for SizeFault {
+    ghost use Rattle.client_registry.specs.Acceptance.{refused_shape};
+
+    ghost from_gives = { λ fault size. size ≡ refused_shape fault };
+
+    fn from(fault: ShapeFault) -> SizeFault {
+        match fault {
+            ShapeFault::BadCell(value) => SizeFault::BadParameter { which: 0, value },
+            ShapeFault::BadBlock(value) => SizeFault::BadParameter { which: 1, value },
+        }
+    }
+}
 
 impl From<AllocError> for DocFault {
     ghost from_gives = { λ _ e. e ≡ doc.NoMemory };

@@ -1,6 +1,6 @@
 //! What a client knows of its documents: words, documents, and the documents collected for a setup, with each
-//! word numbered by its first appearance and the number of documents that hold it; behind the setup a [`Registry`],
-//! which tells what is live, listed and counted, and is changed by each addition and deletion. It stands on the plan of
+//! word numbered by its first appearance and the number of documents that hold it; after the setup a [`Registry`],
+//! which tells what is live, listed and counted, and is changed by each addition and deletion. It depends on the plan of
 //! a list alone (`two_level`), so that [`size_of`] tells the size of an index, or why there is none, without a key.
 //! Callers see a [`Doc`] as a `Document` of specs/Document.antt and [`Docs`] as the list of them, and a registry by the
 //! history that it represents (`Represents` of specs/Registered.antt); what is refused is exactly what a definition named
@@ -20,8 +20,6 @@ mod numbered;
 mod numbering;
 mod registry;
 mod size;
-#[cfg(test)]
-mod tests;
 mod updates;
 mod word;
 mod word_table;

@@ -67,9 +67,10 @@ pub(crate) fn is_among(numbers: &[u32], number: u32) -> bool
 }
 
 /// Appends numbers for which there is room.
-fn append(to: &mut Vec<u32>, numbers: &[u32])
+pub(crate) fn append(to: &mut Vec<u32>, numbers: &[u32])
     requires { vec_len to.old + length numbers.now ≤ vec_capacity to.old }
-    ensures { to.new.items ≡ to.old.items ++ numbers.now }
+    ensures items { to.new.items ≡ to.old.items ++ numbers.now }
+    ensures capacity { vec_capacity to.new ≡ vec_capacity to.old }
 {
     for number in numbers {
         to.push_reserved(*number);

@@ -1,5 +1,5 @@
 ghost use Rattle.std.specs.Prelude.{◌≡◌, ◌+◌, ◌<◌, ◌≤◌, ◌^◌, [], All, fold, length, map, Some, slice_get, vec_capacity, vec_len};
-ghost use Rattle.indexmap.specs.IndexMap.{spare};
+ghost use Rattle.indexmap.specs.IndexMap.{hasher_of, spare};
 ghost use Rattle.client_registry.specs.Numbered.{words_by_number};
 ghost use Rattle.client_registry.specs.Tally.{counted_up, counts_of};
 ghost use Rattle.client_registry.specs.WordBytes.{word_bytes};
@@ -16,6 +16,7 @@ fn count_up(words: &mut Words, word: Word) -> u32
     ensures counted { counts_of words.new.entries ≡ counted_up (counts_of words.old.entries) (word_bytes word) }
     ensures number { slice_get (table_words words.new.entries) result ≡ Some (word_bytes word) }
     ensures spare { spare words.old ≤ spare words.new + 1 }
+    ensures hasher { hasher_of words.new ≡ hasher_of words.old }
 {
     let (place, counted) = words.insert_full(word, 1).unwrap();
     if let Some(count) = counted {
@@ -34,6 +35,7 @@ pub(crate) fn count_all(words: &mut Words, of: Vec<Word>, numbers: &mut Vec<u32>
     ensures counted { counts_of words.new.entries ≡ fold counted_up (counts_of words.old.entries) (map word_bytes of.items) }
     ensures numbers { words_by_number (table_words words.new.entries) numbers.new.items ≡ map word_bytes of.items }
     ensures within { All (λ n. n < length words.new.entries) numbers.new.items }
+    ensures hasher { hasher_of words.new ≡ hasher_of words.old }
 {
     for word in of {
         numbers.push_reserved(count_up(words, word));

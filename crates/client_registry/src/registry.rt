@@ -47,12 +47,13 @@ impl Registry {
     ghost use Rattle.client_registry.specs.WordBytes.{word_bytes};
     ghost use Rattle.two_level.specs.Shape.{Shape};
 
-    /// The registry of a setup of these documents: all of them are live, and each word keeps its number. It takes no
-    /// memory.
+    /// The registry of a setup of these documents: all of them are live, each word keeps its number, and they are hashed
+    /// as before. It takes no memory.
     pub fn from_docs(docs: Docs) -> Registry
-        ensures setup { (shape : Shape) → Represents result (record { documents = docs; shape = shape }) [] }
-        ensures words { known_words result ≡ words_of docs }
-        ensures valid { IsCollected docs }
+        ensures setup { (shape : Shape) → Represents result (record { documents = docs.documents; shape = shape }) [] }
+        ensures words { known_words result ≡ words_of docs.documents }
+        ensures keys { result.keys ≡ docs.keys }
+        ensures valid { IsCollected docs.documents }
     {
         let Docs {
             documents,

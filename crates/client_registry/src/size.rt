@@ -6,11 +6,13 @@ ghost use Rattle.client_registry.specs.Setup.{setup_of, setup_words};
 use crate::collected::Docs;
 use crate::faults::SizeFault;
 use crate::limits::MAX_INDEX_BYTES;
-use two_level::plan;
+use two_level::Shape;
 
 /// How large an index is.
-#[derive(Clone, Copy, Debug, PartialEq, Eq)]
+#[derive(Clone, Copy)]
 pub struct Size {
+    /// Its parameters, within their limits.
+    pub shape: Shape,
     /// How many different words, which are the entries of its dictionary.
     pub words: u32,
     /// How many blocks of its array.
@@ -24,47 +26,37 @@ pub struct Size {
 /// big }` where `big` is outside 1 to 256; `ListTooLong { word, n }` for the least word number whose list, of n
 /// identifiers, has no plan; `TooManyBytes(count)`. It takes no memory.
 pub fn size_of(docs: &Docs, b: u64, big: u64) -> Result<Size, SizeFault>
-    ensures words { IfOk result (λ size. size.words ≡ length (setup_words (setup_of docs.now b big))) }
-    ensures blocks { IfOk result (λ size. size.blocks ≡ blocks_of (setup_of docs.now b big)) }
-    ensures refused { IfSome (setup_refusal docs.now b big) (λ fault. result ≡ Err fault) }
-    ensures accepted { setup_refusal docs.now b big ≡ None → IsOk result }
+    ensures shape { IfOk result (λ size. size.shape ≡ record { b = b; big = big }) }
+    ensures words { IfOk result (λ size. size.words ≡ length (setup_words (setup_of docs.now.documents b big))) }
+    ensures blocks { IfOk result (λ size. size.blocks ≡ blocks_of (setup_of docs.now.documents b big)) }
+    ensures refused { IfSome (setup_refusal docs.now.documents b big) (λ fault. result ≡ Err fault) }
+    ensures accepted { setup_refusal docs.now.documents b big ≡ None → IsOk result }
 {
-    if b < 1 || b > 64 {
-        return Err(SizeFault::BadParameter { which: 0, value: b });
-    }
-    if big < 1 || big > 256 {
-        return Err(SizeFault::BadParameter {
-            which: 1,
-            value: big,
-        });
-    }
+    let shape = Shape::new(b, big)?;
     let words = docs.words();
-    let blocks = count_blocks(docs, b as u16, big as u16)?;
+    let blocks = count_blocks(docs, shape)?;
     let bytes = words as u64 * (17 + 8 * b) + blocks * (8 * big);
     if bytes > MAX_INDEX_BYTES {
         return Err(SizeFault::TooManyBytes(bytes));
     }
     Ok(Size {
+        shape,
         words: words as u32,
         blocks: blocks as u32,
     })
 }
 
 /// How many blocks the lists of all words take, or the first list that is too long.
-fn count_blocks(docs: &Docs, b: u16, big: u16) -> Result<u64, SizeFault>
-    requires cell { 1 ≤ b }
-    requires cell_within { b ≤ 64 }
-    requires block { 1 ≤ big }
-    requires block_within { big ≤ 256 }
-    ensures blocks { IfOk result (λ blocks. blocks ≡ blocks_of (setup_of docs.now b big)) }
+fn count_blocks(docs: &Docs, shape: Shape) -> Result<u64, SizeFault>
+    ensures blocks { IfOk result (λ blocks. blocks ≡ blocks_of (setup_of docs.now.documents shape.b shape.big)) }
     ensures within { IfOk result (λ blocks. blocks ≤ 2 ^ 40) }
-    ensures fit { IfOk result (λ _. list_refusal (setup_of docs.now b big) ≡ None) }
-    ensures too_long { IfErr result (λ fault. list_refusal (setup_of docs.now b big) ≡ Some fault) }
+    ensures fit { IfOk result (λ _. list_refusal (setup_of docs.now.documents shape.b shape.big) ≡ None) }
+    ensures too_long { IfErr result (λ fault. list_refusal (setup_of docs.now.documents shape.b shape.big) ≡ Some fault) }
 {
     let mut blocks = 0;
     for word in 0..docs.words() {
         let n = docs.list_len(word);
-        let Some(more) = list_blocks(n, b, big) else {
+        let Some(more) = list_blocks(n, shape) else {
             return Err(SizeFault::ListTooLong {
                 word: word as u32,
                 n: u64::from(n),
@@ -76,16 +68,12 @@ fn count_blocks(docs: &Docs, b: u16, big: u16) -> Result<u64, SizeFault>
 }
 
 /// How many blocks a list of n identifiers takes, where it isn't too long.
-fn list_blocks(n: u32, b: u16, big: u16) -> Option<u64>
-    requires some { 1 ≤ n }
-    requires cell { 1 ≤ b }
-    requires cell_within { b ≤ 64 }
-    requires block { 1 ≤ big }
-    requires block_within { big ≤ 256 }
-    ensures planned { result ≡ option_map (λ p. p.pointer_blocks + p.data_blocks) (layout.plan (record { b = b; big = big }) n) }
+fn list_blocks(n: u32, shape: Shape) -> Option<u64>
+    requires { 1 ≤ n }
+    ensures planned { result ≡ option_map (λ p. p.pointer_blocks + p.data_blocks) (layout.plan shape n) }
     ensures within { IfSome result (λ blocks. blocks ≤ 2 * n + 3) }
 {
-    match plan(u64::from(n), b, big) {
+    match shape.plan(u64::from(n)) {
         Ok(plan) => Some(u64::from(plan.pointer_blocks) + u64::from(plan.data_blocks)),
         Err(_) => None,
     }

@@ -7,7 +7,7 @@ use arrayvec::ArrayString;
 
 /// A word: 1 to 64 bytes of UTF-8 without the bytes 00 to 20 and 7f, which lie in the value itself. Words are
 /// compared by their bytes.
-#[derive(Clone, Copy, Debug, PartialEq, Eq, Hash)]
+#[derive(Clone, Copy, PartialEq, Eq, Hash)]
 pub struct Word {
     text: ArrayString<MAX_WORD_BYTES>,
     pub ghost is_word: { word_refusal text.bytes ≡ None },

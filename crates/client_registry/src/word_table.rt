@@ -1,4 +1,5 @@
-ghost use Rattle.std.specs.Prelude.{◌≡◌, ◌+◌, ◌-◌, ◌<◌, ◌≤◌, ◌^◌, ◌&&◌, [], All, ℕ, bytes_eq, false, if◌then◌else◌, IsOk, length, map, nat_eq, not, OnOk, slice_index, true, vec_capacity, vec_len};
+ghost use Rattle.std.specs.Prelude.{◌≡◌, ◌+◌, ◌-◌, ◌<◌, ◌≤◌, ◌^◌, ◌&&◌, [], All, ℕ, Some, bytes_eq, false, if◌then◌else◌, IfOk, IsOk, length, map, nat_eq, not, OnOk, slice_get, slice_index, true};
+ghost use Rattle.indexmap.specs.IndexMap.{hasher_of};
 ghost use Rattle.std.specs.List.{list_any, IsDistinct};
 ghost use Rattle.std.specs.List.Sorted.{IsNonDecreasing};
 ghost use Rattle.std.specs.Map.{values_of};
@@ -8,75 +9,74 @@ ghost use Rattle.client_registry.specs.WordBytes.{word_bytes};
 ghost use Rattle.client_registry.specs.WordTable.{table_words, GivesNumbers};
 
 use crate::hash_keys::HashKeys;
+use crate::limits::MAX_WORDS;
 use crate::listed::is_among;
 use crate::word::Word;
+use arrayvec::ArrayVec;
 use indexmap::IndexMap;
 use std::alloc::AllocError;
 
 /// The word table: each word once, at the place that is its number, with a count: how many documents
-/// hold it, at a setup, and behind it its counter.
+/// hold it, at a setup, and after it its counter.
 pub(crate) type Words = IndexMap<Word, u32, HashKeys>;
 
 /// Sets all counts to 0.
 pub(crate) fn clear_counts(words: &mut Words)
     ensures words { table_words words.new.entries ≡ table_words words.old.entries }
     ensures counts { All (λ e. e.1 ≡ 0) words.new.entries }
+    ensures hasher { hasher_of words.new ≡ hasher_of words.old }
 {
     for number in 0..words.len() {
         words[number] = 0;
     }
 }
 
-/// Gives each of these words a number: those that have none go last, with the count 0. Error: `NoMemory` where there
-/// is no memory for them, or no number of 32 bits; some of them may have a number then.
-pub(crate) fn number_all(words: &mut Words, of: &[Word]) -> Result<(), AllocError>
+/// Gives each of these words a number, where it has none, and appends the numbers of all: new words go last, with the
+/// count 0. Error: `NoMemory` where there is no memory for them, or no number of 32 bits; some of them may have a number
+/// then.
+pub(crate) fn number_all(
+    words: &mut Words,
+    of: &[Word],
+    numbers: &mut ArrayVec<u32, MAX_WORDS>,
+) -> Result<(), AllocError>
     requires few { length words.old.entries < 2 ^ 32 }
+    requires most { length of.now ≤ MAX_WORDS }
+    requires empty { numbers.old.items ≡ [] }
     ensures few { length words.new.entries < 2 ^ 32 }
     ensures more { GivesNumbers (counts_of words.old.entries) (counts_of words.new.entries) }
     ensures differ { IsDistinct bytes_eq (table_words words.old.entries) → IsDistinct bytes_eq (table_words words.new.entries) }
+    ensures hasher { hasher_of words.new ≡ hasher_of words.old }
     ensures numbered { OnOk result (All (λ word. list_any (bytes_eq word) (table_words words.new.entries) ≡ true) (map word_bytes of.now)) }
+    ensures numbers { OnOk result (words_by_number (table_words words.new.entries) numbers.new.items ≡ map word_bytes of.now) }
+    ensures within { OnOk result (All (λ n. n < length words.new.entries) numbers.new.items) }
     ensures succeeds { All (λ word. list_any (bytes_eq word) (table_words words.old.entries) ≡ true) (map word_bytes of.now) → IsOk result }
 {
     for word in of {
-        number(words, word)?;
+        numbers.push(number(words, word)?);
     }
     Ok(())
 }
 
-/// Gives the word a number, where it has none.
-fn number(words: &mut Words, word: &Word) -> Result<(), AllocError>
+/// The number of the word: its own, else the next one, which it is given with the count 0.
+fn number(words: &mut Words, word: &Word) -> Result<u32, AllocError>
     requires few { length words.old.entries < 2 ^ 32 }
     ensures few { length words.new.entries < 2 ^ 32 }
     ensures more { GivesNumbers (counts_of words.old.entries) (counts_of words.new.entries) }
     ensures differ { IsDistinct bytes_eq (table_words words.old.entries) → IsDistinct bytes_eq (table_words words.new.entries) }
+    ensures hasher { hasher_of words.new ≡ hasher_of words.old }
     ensures numbered { OnOk result (list_any (bytes_eq (word_bytes word.now)) (table_words words.new.entries) ≡ true) }
+    ensures number { IfOk result (λ n. slice_get (table_words words.new.entries) n ≡ Some (word_bytes word.now)) }
     ensures succeeds { list_any (bytes_eq (word_bytes word.now)) (table_words words.old.entries) ≡ true → IsOk result }
 {
-    if words.contains_key(word) {
-        return Ok(());
+    if let Some(number) = words.get_index_of(word) {
+        return Ok(number as u32);
     }
-    if words.len() == u32::MAX as usize {
+    let next = words.len();
+    if next == u32::MAX as usize {
         return Err(AllocError);
     }
     words.insert(*word, 0)?;
-    Ok(())
-}
-
-/// Appends the numbers of these words, each of which has one, and for which there is room.
-pub(crate) fn append_numbers(words: &Words, of: &[Word], numbers: &mut Vec<u32>)
-    requires few { length words.now.entries < 2 ^ 32 }
-    requires numbered { All (λ word. list_any (bytes_eq word) (table_words words.now.entries) ≡ true) (map word_bytes of.now) }
-    requires empty { numbers.old.items ≡ [] }
-    requires room { length of.now ≤ vec_capacity numbers.old }
-    ensures numbers { words_by_number (table_words words.now.entries) numbers.new.items ≡ map word_bytes of.now }
-    ensures within { All (λ n. n < length words.now.entries) numbers.new.items }
-    ensures count { vec_len numbers.new ≡ length of.now }
-    ensures capacity { vec_capacity numbers.new ≡ vec_capacity numbers.old }
-{
-    for word in of {
-        let number = words.get_index_of(word).unwrap();
-        numbers.push_reserved(number as u32);
-    }
+    Ok(next as u32)
 }
 
 /// Counts one up for each of these numbers that isn't listed. The listed numbers rise.
@@ -87,6 +87,7 @@ pub(crate) fn count_new(words: &mut Words, numbers: &[u32], listed: &[u32])
     requires counters { All (λ n. list_any (nat_eq n) listed.now ≡ false → slice_index (values_of words.old.entries) n < 2 ^ 32 - 1) numbers.now }
     ensures words { table_words words.new.entries ≡ table_words words.old.entries }
     ensures counts { (n : ℕ) → slice_index (values_of words.new.entries) n ≡ slice_index (values_of words.old.entries) n + (if list_any (nat_eq n) numbers.now && not (list_any (nat_eq n) listed.now) then 1 else 0) }
+    ensures hasher { hasher_of words.new ≡ hasher_of words.old }
 {
     for number in numbers {
         if !is_among(listed, *number) {

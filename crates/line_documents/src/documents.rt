@@ -27,11 +27,12 @@ pub fn document_of(alloc: Global, id: u64, fields: Fields<'_>) -> Result<Doc, Li
     Ok(Doc::new(alloc, id, words)?)
 }
 
-/// Adds the document of a `doc` line to those of the setup, behind the others.
+/// Adds the document of a `doc` line to those of the setup, after the others.
 ///
 /// Errors, the first that stands: those of [`document_of`]; then, `Refused`, `AlreadyLive` where a document has this
 /// identifier, and `TooManyDocuments` and `TooManyPairs` where there would be more than 2^18 documents, or 2^20 pairs of a
-/// word and a document. `NoMemory` may come in place of all but `Zero`. After a fault the documents are as before.
+/// word and a document. `NoMemory` may come in place of all but `Zero`. After a fault the documents are as before. The keys
+/// under which they are hashed stay.
 pub fn add_document(
     alloc: Global,
     docs: &mut Docs,
@@ -39,10 +40,11 @@ pub fn add_document(
     fields: Fields<'_>,
 ) -> Result<(), LineFault>
     requires { length fields ≤ 2 ^ 19 }
-    ensures added { OnOk result (docs.new ≡ docs.old ++ document id fields.entry ∷ []) }
-    ensures accepted { OnOk result (collect_refusal docs.old (document id fields.entry) ≡ None) }
-    ensures refused { IfErr result (λ fault. SaysRefusal fault (collect_refusal docs.old (document id fields.entry))) }
+    ensures added { OnOk result (docs.new.documents ≡ docs.old.documents ++ document id fields.entry ∷ []) }
+    ensures accepted { OnOk result (collect_refusal docs.old.documents (document id fields.entry) ≡ None) }
+    ensures refused { IfErr result (λ fault. SaysRefusal fault (collect_refusal docs.old.documents (document id fields.entry))) }
     ensures kept { OnErr result (docs.new ≡ docs.old) }
+    ensures keys { docs.new.keys ≡ docs.old.keys }
     ensures memory { IsErrOf result LineFault.NoMemory → id ≢ 0 }
 {
     docs.push(document_of(alloc, id, fields)?)?;

@@ -33,7 +33,7 @@ hole_from i (n ∷ ns) = by (n == 0) refl (hole_from (i + 1) ns)
         let next : suc count ≡ 1 + count = omega arith in
         later ∙ ap (λ k. position_from is_number k (drop count ns)) place ∙ ap (λ k. position_from is_number (i + (1 + count)) (drop k (n ∷ ns))) next
 
--- the first hole is the first number behind the leading ones that is no zero
+-- the first hole is the first number after the leading ones that is no zero
 pub first_hole-behind : (ns : List ℕ) → first_hole ns ≡ position_from is_number (leading_count ns) (drop (leading_count ns) ns)
 first_hole-behind ns = hole_from 0 ns ∙ ap (λ k. position_from is_number k (drop (leading_count ns) ns)) (zero-add (leading_count ns))
 

@@ -16,7 +16,7 @@ pub length-number_bytes : (numbers : List ℕ) → length (number_bytes numbers)
 length-number_bytes [] = refl
 length-number_bytes (n ∷ ns) = omega (arith, length-append (to_be_bytes w64 n) (number_bytes ns), length-number_bytes ns)
 
--- the number at i behind the bytes of those before it
+-- the number at i after the bytes of those before it
 pub number_bytes-more : (numbers : List ℕ) (i : ℕ) → i < length numbers
     → number_bytes (take (i + 1) numbers) ≡ number_bytes (take i numbers) ++ to_be_bytes w64 (get_or numbers i 0)
 number_bytes-more numbers i within =
@@ -33,7 +33,7 @@ number_bytes-replicate (suc n) =
     ∙ replicate-append-replicate 8 (8 * n) 0
     ∙ ap (λ k. replicate k 0) eight_more
 
--- numbers and the zeros behind them, as bytes and the zeros behind those
+-- numbers and the zeros after them, as bytes and the zeros after those
 pub number_bytes-filled : (width : ℕ) (numbers : List ℕ)
     → number_bytes (filled width numbers) ≡ number_bytes numbers ++ replicate (8 * width - 8 * length numbers) 0
 number_bytes-filled width numbers =

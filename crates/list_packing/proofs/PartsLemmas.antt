@@ -69,7 +69,7 @@ first_chunks-at width (suc n) (suc i) xs within =
     first_chunks-at width n i (drop width xs) (omega arith)
     ∙ ap (take width) (drop-drop (i * width) width xs ∙ ap (λ k. drop k xs) next)
 
--- part i begins behind the i parts before it
+-- part i begins after the i parts before it
 pub parts-at : {X : Type 0} (width : ℕ) (xs : List X) (i : ℕ) → i < div_ceil (length xs) width
     → get_or (parts width xs) i [] ≡ take width (drop (i * width) xs)
 parts-at width xs i within = first_chunks-at width (div_ceil (length xs) width) i xs within

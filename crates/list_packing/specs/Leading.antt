@@ -13,13 +13,13 @@ leading (n ∷ ns) =
 abbrev pub leading_count : List ℕ → ℕ
 leading_count numbers = position_or_len (λ n. n == 0) numbers
 
--- the first place behind a zero at which another number stands, where these numbers begin at place i
+-- the first place after a zero at which another number stands, where these numbers begin at place i
 abbrev pub first_hole_from : ℕ → List ℕ → Option ℕ
 first_hole_from i [] = None
 first_hole_from i (n ∷ ns) =
     if n == 0 then position_from (λ m. not (m == 0)) (i + 1) ns
     else first_hole_from (i + 1) ns
 
--- the first place behind a zero at which another number stands
+-- the first place after a zero at which another number stands
 abbrev pub first_hole : List ℕ → Option ℕ
 first_hole numbers = first_hole_from 0 numbers

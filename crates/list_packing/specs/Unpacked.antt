@@ -1,3 +1,4 @@
+-- What a block's numbers are read as: so many before its zeros, or a first hole.
 use Rattle.std.specs.Prelude.{ℕ, List, Result, Ok, Err}
 use Rattle.std.specs.Option.{option_map_or}
 use Rattle.list_packing.specs.Leading.{leading_count, first_hole}

@@ -6,7 +6,7 @@
 //! writes a block in place, [`unpack`] says how many numbers of a block come before its zeros, and [`number_at`]
 //! reads one. `joined-parts` of proofs/PartsLemmas.antt says that the parts, joined, are the list, so nothing is
 //! lost, doubled or moved; `leading-filled` of proofs/LeadingLemmas.antt that the numbers of a block without its
-//! zeros are those that it was filled from. The crate stands on std alone, takes no memory, and knows neither what the
+//! zeros are those that it was filled from. The crate depends on std alone, takes no memory, and knows neither what the
 //! numbers mean nor where a block is kept.
 #![tactic(auto)]
 

@@ -9,7 +9,7 @@ use crate::number::number_at;
 /// How many numbers of a block stand before its zeros: the numbers that it was filled from.
 ///
 /// The block is whole numbers of eight bytes each, high byte first. Error: `HoleInBlock(place)`, the first place
-/// behind a zero at which another number stands, exactly where there is one. It takes no memory.
+/// after a zero at which another number stands, exactly where there is one. It takes no memory.
 pub fn unpack(block: &[u8]) -> Result<usize, HoleInBlock>
     requires { length block.now % 8 ≡ 0 }
     ensures exact { result ≡ unpacked (numbers_of block.now) }

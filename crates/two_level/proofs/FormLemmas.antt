@@ -105,7 +105,7 @@ module _ (pointed : Option ℕ) (ns : List ℕ) where
       unmapped None none = refl
       unmapped (Some place) none = absurd (cc)
 
-  -- where a block is refused, a number stands behind a zero, or a pointer is past the last block
+  -- where a block is refused, a number stands after a zero, or a pointer is past the last block
   pub block_read-refused : (fault : CellFault) → block_read pointed ns ≡ Err fault → IfSome (leading ns) (λ numbers. IsSomeAnd pointed (λ blocks. Any (λ p. blocks < p) numbers))
   block_read-refused fault is =
       subst (λ o. IfSome o (λ numbers. IsSomeAnd pointed (λ blocks. Any (λ p. blocks < p) numbers))) (sym (leading-first_hole ns))
@@ -146,7 +146,7 @@ module _ (block : ℕ → ℕ → Option (List ℕ)) (blocks : ℕ) (ends : Ends
   opened-refused DataPointers ns fault is = no_data (leading ns) (block_read-refused (Some blocks) ns fault is)
   opened-refused BlockPointers ns fault is = no_tops (leading ns) (block_read-refused (Some blocks) ns fault is)
 
--- nor behind one that is refused
+-- nor after one that is refused
 pub cell_read-refused : (blocks : ℕ) (cell : List ℕ) (r : Result CellRead CellFault) → 0 < length cell
     → r ≡ cell_read blocks (slice_index cell 0) (numbers_of (drop 1 cell))
     → OnErr r ((block : ℕ → ℕ → Option (List ℕ)) → EndsAfter blocks block → listed block cell ≡ None)

@@ -63,7 +63,7 @@ module _ (s : Shape) (ranks ids : List ℕ) (p : code.Plan) (C : Laid → Type 0
       → (l : Laid) × (laid s ranks ids ≡ Some l) × C l
   lay_cases = by_plan (nat_le (length ids) s.b) (nat_le (length ids) (s.b * s.big)) (nat_le (length ids) (s.b * s.big * s.big)) (leb-true _ _) (leb-true _ _)
 
--- the pointers made of part i of the ranks behind the first n are part i of the pointers behind the first n
+-- the pointers made of part i of the ranks after the first n are part i of the pointers after the first n
 pointers-part : (big n i : ℕ) (ranks part : List ℕ) → i < div_ceil (length (drop n (pointers ranks))) big
     → part ≡ get_or (parts big (drop n ranks)) i [] → pointers part ≡ get_or (parts big (drop n (pointers ranks))) i []
 pointers-part big n i ranks part within is =
@@ -79,7 +79,7 @@ pointers-part big n i ranks part within is =
 
 -- ---- cells
 
--- a kind, and the numbers behind it with zeros to the end of the cell
+-- a kind, and the numbers after it with zeros to the end of the cell
 pub cell_written : (kind b m : ℕ) (out new ns : List ℕ) → length out ≡ 1 + 8 * b → m ≡ 8 * b
     → new ≡ number_bytes ns ++ replicate (m - 8 * length ns) 0
     → put_mid 1 (length (set out 0 kind) - 1) (set out 0 kind) new ≡ kind ∷ number_bytes (filled b ns)
@@ -158,7 +158,7 @@ module _ (s : Shape) (n : ℕ) (ranks ids : List ℕ) (top : div_ceil (div_ceil 
       get_or_append_left (blocks s.big (drop n (pointers ranks))) (blocks s.big ids) [] i (omega (arith, length-blocks s.big (drop n (pointers ranks)), inside))
       ∙ blocks-part s.big (drop n (pointers ranks)) i (pointers part) inside (pointers-part s.big n i ranks part inside is)
 
-  -- one behind them is one of identifiers
+  -- one after them is one of identifiers
   lower_block : (i : ℕ) → n ≤ i → get_or both i [] ≡ get_or (blocks s.big ids) (i - n) []
   lower_block i behind =
       let many : length (blocks s.big (drop n (pointers ranks))) ≡ n = length-blocks s.big (drop n (pointers ranks)) ∙ length-upper in

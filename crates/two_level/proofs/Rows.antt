@@ -44,7 +44,7 @@ blocks_of_8192_row = refl
 pub cell_row : laid (shape 2 2) [] (3 ∷ []) ≡ Some (record { kind = Identifiers; numbers = 3 ∷ 0 ∷ []; blocks = [] })
 cell_row = refl
 
--- three identifiers in two blocks, the first of which stands behind the second
+-- three identifiers in two blocks, the first of which stands after the second
 pub one_level_row : laid (shape 2 2) (1 ∷ 0 ∷ []) (7 ∷ 8 ∷ 9 ∷ [])
     ≡ Some (record { kind = DataPointers; numbers = 2 ∷ 1 ∷ []; blocks = (7 ∷ 8 ∷ []) ∷ (9 ∷ 0 ∷ []) ∷ [] })
 one_level_row = refl
@@ -63,7 +63,7 @@ pub opened_row : opened (in_array ((4 ∷ 0 ∷ []) ∷ (13 ∷ 14 ∷ []) ∷ (
     BlockPointers (5 ∷ 1 ∷ []) ≡ Some (11 ∷ 12 ∷ 13 ∷ 14 ∷ 15 ∷ [])
 opened_row = refl
 
--- a number behind a zero in the cell, a pointer past the array, a number behind a zero in a block
+-- a number after a zero in the cell, a pointer past the array, a number after a zero in a block
 pub hole_in_cell_row : opened (in_array []) Identifiers (4 ∷ 0 ∷ 5 ∷ []) ≡ None
 hole_in_cell_row = refl
 

@@ -1,4 +1,5 @@
 pub mod Shape
+pub mod ShapeFault
 pub mod Plan
 pub mod Planned
 pub mod Laid

@@ -1,3 +1,4 @@
+-- The list that a reader finds after a cell.
 use Rattle.std.specs.Prelude.{ℕ, zero, suc, ◌≡◌, ◌+◌, ◌<◌, ◌==◌, List, [], ◌∷◌, ◌++◌, length, Option, Some, None, option_map, option_and_then, slice_get, if◌then◌else◌}
 pub use Rattle.list_packing.specs.Numbers.{numbers_of}
 pub use Rattle.list_packing.specs.Leading.{leading}
@@ -21,14 +22,14 @@ abbrev pub followed : (ℕ → ℕ → Option (List ℕ)) → ℕ → List ℕ �
 followed block first [] = Some []
 followed block first (p ∷ ps) = joined (option_and_then leading (block first p)) (followed block (first + 1) ps)
 
--- the list behind a cell's numbers; `block i p` are the numbers of block number i of the list, at pointer p
+-- the list of a cell's numbers; `block i p` are the numbers of block number i of the list, at pointer p
 abbrev pub opened : (ℕ → ℕ → Option (List ℕ)) → CellKind → List ℕ → Option (List ℕ)
 opened block Identifiers numbers = leading numbers
 opened block DataPointers numbers = option_and_then (followed block 0) (leading numbers)
 opened block BlockPointers numbers =
     option_and_then (λ tops. option_and_then (followed block (length tops)) (followed block 0 tops)) (leading numbers)
 
--- the list behind a cell in the clear: a byte that says what its numbers are, and the numbers
+-- the list of a cell in the clear: a byte that says what its numbers are, and the numbers
 abbrev pub listed : (ℕ → ℕ → Option (List ℕ)) → List ℕ → Option (List ℕ)
 listed block [] = None
 listed block (kind ∷ numbers) = option_and_then (λ k. opened block k (numbers_of numbers)) (kind_of kind)

@@ -1,3 +1,4 @@
+-- How a list is laid out in a cell and blocks: by its length, and the parameters.
 use Rattle.std.specs.Prelude.{ℕ, ◌+◌, ◌*◌, Option, None, Some, nat_le, if◌then◌else◌}
 use Rattle.std.specs.Int.{div_ceil}
 use Rattle.two_level.specs.Shape.{Shape}

@@ -7,7 +7,7 @@ use std::fmt;
 pub enum CellFault {
     /// The cell begins with this byte, which is no kind: not 0, 1 or 2.
     BadKind(u8),
-    /// A number stands behind a zero, first at this place; places count numbers from 0.
+    /// A number stands after a zero, first at this place; places count numbers from 0.
     Hole(u64),
     /// A pointer lies above the number of blocks, first at this place.
     BadPointer(u64),

@@ -12,7 +12,7 @@ use list_packing::unpack;
 /// before its zeros.
 ///
 /// The cell is one byte and at most 64 numbers of eight bytes each, high byte first. Errors, the first that stands:
-/// `BadKind(byte)` where the first byte is above 2; `Hole(place)`, the first number behind a zero; `BadPointer(place)`,
+/// `BadKind(byte)` where the first byte is above 2; `Hole(place)`, the first number after a zero; `BadPointer(place)`,
 /// the first pointer above `blocks`, where the numbers are pointers. It takes no memory.
 pub fn read_cell(clear: &[u8], blocks: u32) -> Result<CellRead, CellFault>
     requires numbers { length clear.now % 8 ≡ 1 }
@@ -42,7 +42,7 @@ pub fn read_cell(clear: &[u8], blocks: u32) -> Result<CellRead, CellFault>
 /// blocks of the array for a block of pointers, and `None` for one of identifiers.
 ///
 /// The block is at most 256 numbers of eight bytes each, high byte first. Errors: `Hole(place)`, the first number
-/// behind a zero; else `BadPointer(place)`, the first pointer above `pointers_below`. It takes no memory.
+/// after a zero; else `BadPointer(place)`, the first pointer above `pointers_below`. It takes no memory.
 pub fn read_block(clear: &[u8], pointers_below: Option<u32>) -> Result<u16, CellFault>
     requires numbers { length clear.now % 8 ≡ 0 }
     requires size { length clear.now ≤ 2048 }
@@ -76,7 +76,7 @@ fn first_bad_pointer(pointers: &[u8], blocks: u32) -> Option<u64>
     None
 }
 
-/// Number `i`, from 0, of a block in the clear, or of a cell behind its first byte.
+/// Number `i`, from 0, of a block in the clear, or of a cell after its first byte.
 ///
 /// The bytes are numbers of eight bytes each, high byte first; a cell has one byte more. All bytes of the number
 /// have to be there. It takes no memory.

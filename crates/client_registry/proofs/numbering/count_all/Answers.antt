@@ -48,4 +48,5 @@ loop-word-preserved c =
       few = omega (arith, len, grows.1, had.few);
       count = omega (arith, len, c.push_reserved.ensures.len, had.count);
       capacity = omega (arith, c.push_reserved.ensures.capacity, had.capacity);
+      hasher = c.count_up.ensures.hasher ∙ had.hasher;
     }

@@ -1,6 +1,6 @@
 use Rattle.std.proofs.Common.{◌≡◌, ◌+◌, ◌<◌, ◌≤◌, ◌^◌, length, map, vec_capacity, vec_len}
 use Rattle.std.specs.Prelude.{All, fold}
-use Rattle.indexmap.specs.IndexMap.{spare}
+use Rattle.indexmap.specs.IndexMap.{hasher_of, spare}
 use Rattle.client_registry.specs.Numbered.{words_by_number}
 use Rattle.client_registry.specs.Tally.{counted_up, counts_of}
 use Rattle.client_registry.specs.WordBytes.{word_bytes}
@@ -17,4 +17,5 @@ invariant-loop-word l = record {
   few : length l.words.entries ≤ length l.initial.words.entries + length l.yielded;
   count : vec_len l.numbers ≡ length l.yielded;
   capacity : vec_len l.fn.of ≤ vec_capacity l.numbers;
+  hasher : hasher_of l.words ≡ hasher_of l.initial.words;
 }

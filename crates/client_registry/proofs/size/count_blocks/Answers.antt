@@ -12,34 +12,34 @@ use Rattle.client_registry.specs.declared.faults.SizeFault.TheVariants.{ListTooL
 
 pub returns-in_default-clause-too_long : goal.returns-in_default-clause-too_long
 returns-in_default-clause-too_long c =
-    let docs = c.args.docs.now in
+    let docs = c.args.docs.now.documents in
     let w = c.loop-word.word in
     let n = c.list_len-n.result in
-    let o = plan (record { b = c.args.b; big = c.args.big }) n in
+    let o = plan c.args.shape n in
     let long : is_none o ≡ true = is_unplanned o (sym c.in_default.ensures.planned) in
-    list_refusal-at (setup_of docs c.args.b c.args.big) w n c.list_len-n.ensures.length c.loop-word.invariant.short long ∙ ap (λ m. Some (ListTooLong w m)) (sym c.from.ensures)
+    list_refusal-at (setup_of docs c.args.shape.b c.args.shape.big) w n c.list_len-n.ensures.length c.loop-word.invariant.short long ∙ ap (λ m. Some (ListTooLong w m)) (sym c.from.ensures)
 
 pub loop-word-preserved : goal.loop-word-preserved
 loop-word-preserved c =
-    let docs = c.args.docs.now in
+    let docs = c.args.docs.now.documents in
     let lens = list_lengths docs in
     let w = c.loop-word.word in
     let n = c.list_len-n.result in
-    let o = plan (record { b = c.args.b; big = c.args.big }) n in
+    let o = plan c.args.shape n in
     let planned = is_planned o c.in-Some.more (sym c.in-Some.ensures.planned) in
     let here = get_or_from_slice_get lens w n 0 c.list_len-n.ensures.length in
     let within = slice_get_within lens w n c.list_len-n.ensures.length in
     record {
-      short = below_more _ _ c.loop-word.invariant.short (ap (λ m. is_none (plan (record { b = c.args.b; big = c.args.big }) m)) here ∙ planned.0);
+      short = below_more _ _ c.loop-word.invariant.short (ap (λ m. is_none (plan c.args.shape m)) here ∙ planned.0);
       counted =
           ap (λ k. k + c.in-Some.more) c.loop-word.invariant.counted
-          ∙ ap (λ k. sum_by (λ m. block_count (plan (record { b = c.args.b; big = c.args.big }) m)) (take w lens) + k) (sym planned.1 ∙ ap (λ m. block_count (plan (record { b = c.args.b; big = c.args.big }) m)) (sym here))
-          ∙ sym (sum_by_more (λ m. block_count (plan (record { b = c.args.b; big = c.args.big }) m)) lens w 0 within);
+          ∙ ap (λ k. sum_by (λ m. block_count (plan c.args.shape m)) (take w lens) + k) (sym planned.1 ∙ ap (λ m. block_count (plan c.args.shape m)) (sym here))
+          ∙ sym (sum_by_more (λ m. block_count (plan c.args.shape m)) lens w 0 within);
       within = omega (arith, c.loop-word.invariant.within, c.in-Some.ensures.within, c.list_len-n.ensures.within, c.words-word-end.ensures.valid.documents);
     }
 
 pub returns-clause-fit : goal.returns-clause-fit
 returns-clause-fit c =
-    let docs = c.args.docs.now in
+    let docs = c.args.docs.now.documents in
     let count : length (list_lengths docs) ≡ c.words-word-end.result = length-map (words_of docs) (λ v. length (ids_with docs v)) ∙ sym c.words-word-end.ensures.words in
-    list_refusal-none (setup_of docs c.args.b c.args.big) (λ k lt. c.loop-word.invariant.short k (omega (arith, count, lt)))
+    list_refusal-none (setup_of docs c.args.shape.b c.args.shape.big) (λ k lt. c.loop-word.invariant.short k (omega (arith, count, lt)))

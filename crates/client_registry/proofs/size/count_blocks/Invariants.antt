@@ -6,7 +6,7 @@ use Rattle.client_registry.proofs.size.count_blocks.Given as goal
 
 abbrev pub invariant-loop-word : goal.invariant-loop-word
 invariant-loop-word l = record {
-  short : (k : ℕ) → k < l.word → is_none (plan (record { b = l.b; big = l.big }) (slice_index (list_lengths l.docs) k)) ≡ false;
-  counted : l.blocks ≡ sum_by (λ n. block_count (plan (record { b = l.b; big = l.big }) n)) (take l.word (list_lengths l.docs));
+  short : (k : ℕ) → k < l.word → is_none (plan l.shape (slice_index (list_lengths l.docs.documents) k)) ≡ false;
+  counted : l.blocks ≡ sum_by (λ n. block_count (plan l.shape n)) (take l.word (list_lengths l.docs.documents));
   within : l.blocks ≤ l.word * 2 ^ 20;
 }

@@ -15,6 +15,7 @@ loop-number-preserved c =
     record {
       words = words-set_value_at word_bytes es i 0 ∙ had.words;
       count = length-set_value es i 0 ∙ had.count;
+      hasher = had.hasher;
       cleared = subst (λ n. All (λ e. e.1 ≡ 0) (take n (set_value_at es i 0))) next (All-zero-set es i within had.cleared);
     }
 

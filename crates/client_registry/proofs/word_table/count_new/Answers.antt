@@ -4,6 +4,7 @@ use Rattle.std.specs.List.{list_any}
 use Rattle.std.specs.Map.{values_of}
 use Rattle.std.proofs.lemmas.List.{get_or-set_same, get_or-set_other, take_more}
 use Rattle.std.proofs.lemmas.Option.{get_or_from_slice_get, slice_get_within}
+use Rattle.indexmap.specs.IndexMap.{hasher_of}
 use Rattle.client_registry.specs.WordBytes.{word_bytes}
 use Rattle.client_registry.specs.WordTable.{table_words}
 use Rattle.client_registry.proofs.TableLaws.{counted_new, counted_old, length-set_value, not_before, rise, values-set_value_at, words-set_value_at}
@@ -45,6 +46,7 @@ loop-number-preserved c =
           record {
             words = ap (λ m. table_words m.entries) w.words-is ∙ words-set_value_at word_bytes es n (value + 1) ∙ had.words;
             count = ap (λ m. length m.entries) w.words-is ∙ length-set_value es n (value + 1) ∙ had.count;
+            hasher = ap hasher_of w.words-is ∙ had.hasher;
             counts = λ m.
                 ap (λ t. get_or (values_of t.entries) m 0) w.words-is
                 ∙ ap (λ vs. get_or vs m 0) (values-set_value_at es n (value + 1))
@@ -59,6 +61,7 @@ loop-number-preserved c =
           record {
             words = ap (λ m. table_words m.entries) w.words-is ∙ had.words;
             count = ap (λ m. length m.entries) w.words-is ∙ had.count;
+            hasher = ap hasher_of w.words-is ∙ had.hasher;
             counts = λ m.
                 ap (λ t. get_or (values_of t.entries) m 0) w.words-is
                 ∙ counted_old listed (take k numbers) n (λ j. get_or old j 0) (λ j. get_or (values_of es) j 0) had.counts there m

@@ -13,9 +13,9 @@ use Rattle.two_level.proofs.laying.lay_block.Goals as goal
 pub write_pointers-requires : goal.write_pointers-requires
 write_pointers-requires c =
     let short : length c.part.result.now ≤ c.from-width.result = part-within c.from-width.result _ c.args.i c.part.result.now c.part.ensures in
-    omega (arith, short, c.from-width.ensures, c.requires.size)
+    omega (arith, short, (c.from-width.ensures ∙ c.big.ensures.big), c.requires.size)
 
--- so many zeros behind the pointers of a block
+-- so many zeros after the pointers of a block
 filled_block : (width m : ℕ) (ranks : List ℕ) → m ≡ 8 * width
     → number_bytes (pointers ranks) ++ replicate (m - 8 * length ranks) 0 ≡ number_bytes (filled width (pointers ranks))
 filled_block width m ranks size =
@@ -25,19 +25,19 @@ filled_block width m ranks size =
 
 pub returns-then-i-pointer_blocks : goal.returns-then-i-pointer_blocks
 returns-then-i-pointer_blocks c =
-    let s : Shape = record { b = c.args.b; big = c.args.big } in
+    let s : Shape = c.args.shape in
     let ranks = c.args.ranks.now in
     let n = c.in-Ok.plan.pointer_blocks in
     let part = c.part.result.now in
-    let is : part ≡ get_or (parts c.args.big (drop n ranks)) c.args.i [] =
+    let is : part ≡ get_or (parts c.args.shape.big (drop n ranks)) c.args.i [] =
     c.part.ensures ∙ ap (λ xs. get_or (parts c.from-width.result xs) c.args.i []) (take_rest ranks n)
-    ∙ ap (λ width. get_or (parts width (drop n ranks)) c.args.i []) c.from-width.ensures in
-    pointer_block s ranks c.args.ids.now c.in-Ok.plan c.requires.block c.in-Ok.ensures c.requires.ranks c.args.i part c.if-i-pointer_blocks.true is
-    ∙ ap (λ bytes. Some bytes) (sym (c.write_pointers.ensures ∙ filled_block c.args.big (length c.args.out.now) part c.requires.size))
+    ∙ ap (λ width. get_or (parts width (drop n ranks)) c.args.i []) (c.from-width.ensures ∙ c.big.ensures.big) in
+    pointer_block s ranks c.args.ids.now c.in-Ok.plan c.in-Ok.ensures.limits.block_some c.in-Ok.ensures.plan c.requires.ranks c.args.i part c.if-i-pointer_blocks.true is
+    ∙ ap (λ bytes. Some bytes) (sym (c.write_pointers.ensures ∙ filled_block c.args.shape.big (length c.args.out.now) part c.requires.size))
 
 pub returns-else-i-pointer_blocks : goal.returns-else-i-pointer_blocks
 returns-else-i-pointer_blocks c =
-    let s : Shape = record { b = c.args.b; big = c.args.big } in
+    let s : Shape = c.args.shape in
     let n = c.in-Ok.plan.pointer_blocks in
-    data_block s c.args.ranks.now c.args.ids.now c.in-Ok.plan c.requires.block c.in-Ok.ensures c.requires.ranks c.args.i c.if-i-pointer_blocks.false c.requires.within
-    ∙ ap (λ bytes. Some bytes) (sym (c.pack.ensures ∙ ap (λ width. number_bytes (get_or (blocks width c.args.ids.now) (c.args.i - n) [])) c.from-width.ensures))
+    data_block s c.args.ranks.now c.args.ids.now c.in-Ok.plan c.in-Ok.ensures.limits.block_some c.in-Ok.ensures.plan c.requires.ranks c.args.i c.if-i-pointer_blocks.false c.requires.within
+    ∙ ap (λ bytes. Some bytes) (sym (c.pack.ensures ∙ ap (λ width. number_bytes (get_or (blocks width c.args.ids.now) (c.args.i - n) [])) (c.from-width.ensures ∙ c.big.ensures.big)))

@@ -10,4 +10,4 @@ returns c =
     let id = id_number c.args.id in
     c.contains_key.ensures
     ∙ is_some-kept (table_words c.self.inside.words.entries) id c.self.inside.documents.entries
-    ∙ ap (λ docs. is_live docs id) c.self.view_is
+    ∙ ap (λ docs. is_live docs id) (ap (λ v. v.documents) c.self.view_is)

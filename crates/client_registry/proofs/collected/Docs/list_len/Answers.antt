@@ -8,7 +8,7 @@ use Rattle.client_registry.proofs.collected.Docs.list_len.Goals as goal
 
 pub unwrap-requires : goal.unwrap-requires
 unwrap-requires c =
-    c.get_index.ensures.found.1 (omega (arith, c.requires, length-counted_words c.self.inside c.self.invariant, ap (λ docs. length (words_of docs)) c.self.view_is))
+    c.get_index.ensures.found.1 (omega (arith, c.requires, length-counted_words c.self.inside c.self.invariant, ap (λ docs. length (words_of docs)) (ap (λ v. v.documents) c.self.view_is)))
 
 pub returns-clause-length : goal.returns-clause-length
 returns-clause-length c =
@@ -16,7 +16,7 @@ returns-clause-length c =
     let n = c.unwrap.result.1.now in
     let at = sym c.get_index.ensures.entry ∙ ap (option_map deref_pair) c.unwrap.ensures in
     let found = rw c.unwrap.ensures at c.get_index.ensures.value in
-    ap (λ docs. slice_get (list_lengths docs) c.args.w) (sym c.self.view_is) ∙ list_length_at c.self.inside c.self.invariant c.args.w word n at found
+    ap (λ docs. slice_get (list_lengths docs) c.args.w) (sym (ap (λ v. v.documents) c.self.view_is)) ∙ list_length_at c.self.inside c.self.invariant c.args.w word n at found
 
 pub returns-clause-some : goal.returns-clause-some
 returns-clause-some c =
@@ -26,4 +26,4 @@ returns-clause-some c =
 pub returns-clause-within : goal.returns-clause-within
 returns-clause-within c =
     let found = rw c.unwrap.ensures at c.get_index.ensures.value in
-    omega (arith, count_within c.self.inside c.self.invariant (word_bytes c.unwrap.result.0.now) c.unwrap.result.1.now found, ap length c.self.view_is)
+    omega (arith, count_within c.self.inside c.self.invariant (word_bytes c.unwrap.result.0.now) c.unwrap.result.1.now found, ap length (ap (λ v. v.documents) c.self.view_is))

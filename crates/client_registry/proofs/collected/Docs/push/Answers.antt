@@ -1,9 +1,10 @@
 use Rattle.std.proofs.Common.{◌≡◌, ◌+◌, ◌<◌, ◌≤◌, ◌^◌, ◌++◌, ◌∷◌, [], false, map, length, vec_len, sym, ap, subst, ◌∙◌, arith, Some}
 use Rattle.std.specs.Prelude.{All, fold, nat_eq}
 use Rattle.std.proofs.lemmas.List.{length-map}
-use Rattle.indexmap.specs.IndexMap.{insert_entry}
+use Rattle.indexmap.specs.IndexMap.{hasher_of, insert_entry}
 use Rattle.client_registry.specs.Documents.{all_words, is_live, pairs_of, IsCollected}
 use Rattle.client_registry.specs.DocsView.{documents_of, kept_document}
+use Rattle.client_registry.specs.HashNumbers.{hash_numbers}
 use Rattle.client_registry.specs.IdNumber.{id_number}
 use Rattle.client_registry.specs.Numbered.{words_by_number}
 use Rattle.client_registry.specs.Tally.{counts_of, counted_up}
@@ -32,8 +33,8 @@ kept c = record { numbers = c.count_all.new.numbers; live = Some c.len-4.result 
 
 new_id : (c : goal.After-self-1) → is_live (documents_of c.self.inside) c.args.doc.id ≡ false
 new_id c =
-    ap (λ docs. is_live docs c.args.doc.id) c.self.view_is
-    ∙ ap (is_live c.args.self.now) (sym c.id-id.ensures)
+    ap (λ docs. is_live docs c.args.doc.id) (ap (λ v. v.documents) c.self.view_is)
+    ∙ ap (is_live c.args.self.now.documents) (sym c.id-id.ensures)
     ∙ sym c.is_live.ensures
     ∙ c.if-is_live.false
 
@@ -54,6 +55,12 @@ numbers c = c.count_all.ensures.numbers ∙ c.into_words-words.ensures.words
 documents : (c : goal.After-self-1) → map (kept_document (table_words c.count_all.new.words.entries)) c.insert.new.self.entries ≡ documents_of c.self.inside ++ c.args.doc ∷ []
 documents c = documents_pushed c.self.inside c.self.invariant c.args.doc c.id-id.result (kept c) c.insert.new.self.entries c.count_all.new.words.entries c.id-id.ensures (new_id c) (inserted c) (counted c) (numbers c)
 
+same_hasher : (c : goal.After-self-1) → hasher_of c.insert.new.self ≡ hasher_of c.self.inside.documents
+same_hasher c = c.insert.ensures.hasher ∙ c.in_ok-reserve-2.ensures.room.1
+
+same_words_hasher : (c : goal.After-self-1) → hasher_of c.count_all.new.words ≡ hasher_of c.self.inside.words
+same_words_hasher c = c.count_all.ensures.hasher ∙ c.in_ok-reserve.ensures.room.1
+
 pub invariant_of-self-2 : goal.invariant_of-self-2
 invariant_of-self-2 c =
     let docs = documents_of c.self.inside in
@@ -71,9 +78,13 @@ invariant_of-self-2 c =
       collected =
           subst IsCollected (sym (documents c))
           (IsCollected-push docs doc had.collected c.into_words-words.ensures.valid (new_id c)
-          (omega (arith, c.len-documents.ensures.len, ap length c.self.view_is))
+          (omega (arith, c.len-documents.ensures.len, ap length (ap (λ v. v.documents) c.self.view_is)))
           (omega (arith, had.pairs, count)));
+      hashers = same_hasher c ∙ had.hashers ∙ sym (same_words_hasher c);
     }
 
 pub returns-clause-ok : goal.returns-clause-ok
-returns-clause-ok c = documents c ∙ ap (λ docs. docs ++ c.args.doc ∷ []) c.self.view_is
+returns-clause-ok c = documents c ∙ ap (λ docs. docs ++ c.args.doc ∷ []) (ap (λ v. v.documents) c.self.view_is)
+
+pub returns-clause-keys : goal.returns-clause-keys
+returns-clause-keys c = ap hash_numbers (same_words_hasher c) ∙ ap (λ v. v.keys) c.self.view_is

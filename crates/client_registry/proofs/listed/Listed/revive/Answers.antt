@@ -13,7 +13,7 @@ returns-clause-numbers c =
     let next = c.args.next.now.items in
     let old = c.args.self.now.numbers.items in
     let again = c.sort_unstable.new.self.items in
-    let copied = c.append.ensures ∙ ap (λ xs. xs ++ c.deref.result.now) c.requires.empty ∙ c.deref.ensures.value in
+    let copied = c.append.ensures.items ∙ ap (λ xs. xs ++ c.deref.result.now) c.requires.empty ∙ c.deref.ensures.value in
     let same : (n : ℕ) → list_any (nat_eq n) again ≡ list_any (nat_eq n) next =
     λ n. sym (list_any-IsPermutation (nat_eq n) c.append.new.to.items again c.sort_unstable.ensures.permutation) ∙ ap (list_any (nat_eq n)) copied in
     ap (λ v. v.items) c.swap.ensures.x_after

@@ -35,6 +35,7 @@ invariant_of-self c =
       few = had.few;
       next = had.next;
       again = had.again;
+      hashers = had.hashers;
     }
 
 pub returns-clause-ok : goal.returns-clause-ok

@@ -32,7 +32,7 @@ entries : (c : goal.Joined-branch-2) → c.insert.new.self.entries ≡ c.self.in
 entries c = c.in_ok-insert.ensures.entries ∙ insert_entry-made c.args.id (empty c) c.self.inside.documents.entries (absent c)
 
 pub invariant_of-self-2 : goal.invariant_of-self-2
-invariant_of-self-2 c = sound-made c.args.id (empty c) c.self.inside c.insert.new.self (entries c) refl c.new-numbers.ensures.items c.self.invariant
+invariant_of-self-2 c = sound-made c.args.id (empty c) c.self.inside c.insert.new.self (entries c) refl c.new-numbers.ensures.items c.insert.ensures.hasher c.self.invariant
 
 pub returns-clause-facts : goal.returns-clause-facts
 returns-clause-facts c = facts-made c.args.id (empty c) c.self.inside c.insert.new.self (entries c) refl c.new-numbers.ensures.items ∙ ap facts c.self.view_is

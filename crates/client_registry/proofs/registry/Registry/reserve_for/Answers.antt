@@ -1,4 +1,4 @@
-use Rattle.std.proofs.Common.{◌≡◌, true, find, length, map, nat_eq, sym, ap, subst, ◌∙◌, arith}
+use Rattle.std.proofs.Common.{◌≡◌, ◌<◌, true, find, length, map, nat_eq, sym, ap, subst, ◌∙◌, arith}
 use Rattle.std.specs.Prelude.{All, is_ok}
 use Rattle.std.specs.List.{list_any}
 use Rattle.std.specs.Str.{bytes_eq}
@@ -6,10 +6,14 @@ use Rattle.std.proofs.lemmas.Bool.{true≢false}
 use Rattle.std.proofs.lemmas.List.{length-map}
 use Rattle.std.proofs.lemmas.Result.{on_ok_weaker}
 use Rattle.client_registry.specs.IdNumber.{id_number}
+use Rattle.client_registry.specs.Numbered.{words_by_number}
 use Rattle.client_registry.specs.Registered.{kept_of, known_words}
 use Rattle.client_registry.specs.WordBytes.{word_bytes}
 use Rattle.client_registry.proofs.RegistryLaws.{facts_by}
-use Rattle.client_registry.proofs.registry.Registry.reserve.Goals as goal
+use Rattle.client_registry.proofs.registry.Registry.reserve_for.Goals as goal
+
+pub number_words-requires-clause-most : goal.number_words-requires-clause-most
+number_words-requires-clause-most c = omega (arith, length-map c.words.result.now word_bytes, ap length c.words.ensures.words, c.words.ensures.few)
 
 pub returns-in_err-number_words-clause-succeeds : goal.returns-in_err-number_words-clause-succeeds
 returns-in_err-number_words-clause-succeeds c =
@@ -34,3 +38,19 @@ returns-clause-room c =
       numbered = subst (λ cs. All (λ word. list_any (bytes_eq word) (map (λ e. e.0) cs) ≡ true) doc.words) (sym counts) numbered;
       entry = (entry.0, ap (kept_of c.make_room.new.self) (sym c.id.ensures) ∙ ap (find (λ k. nat_eq id k.id)) c.make_room.ensures.kept ∙ entry.1, omega (arith, room, entry.2, words));
     }) c.make_room.ensures.room
+
+pub returns-clause-numbers : goal.returns-clause-numbers
+returns-clause-numbers c =
+    let ns = c.number_words.new.numbers.items in
+    let counts = c.make_room.ensures.counts ∙ c.make_entry.ensures.counts in
+    on_ok_weaker c.make_room.result
+    (λ room. ap (λ cs. words_by_number (map (λ e. e.0) cs) ns) counts ∙ c.in_ok-number_words.ensures.numbers ∙ c.words.ensures.words)
+    c.make_room.ensures.room
+
+pub returns-clause-within : goal.returns-clause-within
+returns-clause-within c =
+    let ns = c.number_words.new.numbers.items in
+    let counts = c.make_room.ensures.counts ∙ c.make_entry.ensures.counts in
+    on_ok_weaker c.make_room.result
+    (λ room. subst (λ cs. All (λ n. n < length (map (λ e. e.0) cs)) ns) (sym counts) c.in_ok-number_words.ensures.within)
+    c.make_room.ensures.room
