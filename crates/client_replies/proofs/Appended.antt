@@ -14,7 +14,7 @@ chunks_then size (suc n) xs =
     ∙ ap (λ (bytes : List ℕ). take size xs ∷ first_chunks size n (drop size xs) ++ take size bytes ∷ []) (drop-drop (size * n) size xs)
     ∙ ap (λ (k : ℕ). take size xs ∷ first_chunks size n (drop size xs) ++ take size (drop k xs) ∷ []) more
 
--- one more number behind those that were appended
+-- one more number after those that were appended
 pub one_more : (start out new ids : List ℕ) (i n size : ℕ) → size ≡ 8 → out ≡ start ++ map (from_be_bytes w64) (first_chunks 8 i ids) → new ≡ out ++ n ∷ [] → n ≡ from_be_bytes w64 (take size (drop (8 * i) ids))
     → new ≡ start ++ map (from_be_bytes w64) (first_chunks 8 (i + 1) ids)
 one_more start out new ids i n size eight e f g =

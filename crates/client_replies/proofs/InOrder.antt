@@ -17,7 +17,7 @@ abbrev times : ℕ → List ℕ → ℕ
 times q [] = 0
 times q (x ∷ xs) = one q x + times q xs
 
--- no number is above one behind it
+-- no number is above one after it
 abbrev IsUp : List ℕ → Type 0
 IsUp [] = Unit {0}
 IsUp (x ∷ xs) = AllByRecursion (λ y. x ≤ y) xs × IsUp xs

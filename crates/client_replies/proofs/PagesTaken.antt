@@ -1,4 +1,4 @@
--- Pages that were taken one behind the other, the last one marked, are the pages of their identifiers.
+-- Pages that were taken one after the other, the last one marked, are the pages of their identifiers.
 use Rattle.std.proofs.Common.{◌≡◌, ℕ, suc, ◌≤◌, List, [], ◌∷◌, ◌++◌, length, drop, refl, ap, ◌∙◌, length-append, arith}
 use Rattle.std.specs.Int.{div_ceil}
 use Rattle.std.specs.List.{flat_map}

@@ -1,14 +1,13 @@
 -- What a contract sees of the pages that a search brings.
-use Rattle.std.specs.Prelude.{◌≡◌, ℕ, ◌+◌, ◌<◌, ◌≤◌, Bool, true, false, List, ◌++◌, length, Result, Ok, Err}
+use Rattle.std.specs.Prelude.{◌≡◌, ℕ, ◌+◌, ◌<◌, ◌^◌, ◌≤◌, Bool, true, false, List, ◌++◌, length, Result, Ok, Err}
 use Rattle.sse_frames.specs.Replies.{ReplyText, Page}
-use Rattle.sse_frames.specs.Seen.{numbers_in}
+use Rattle.sse_frames.specs.FrameViews.{numbers_in}
 use Rattle.sse_frames.specs.Sizes.{AreIds}
 use Rattle.sse_frames.specs.Reading.{IsReply}
 use Rattle.client_replies.specs.Faults.{IsFaultOf}
 use Rattle.client_replies.specs.declared.found.Found.{Found}
 use Rattle.client_replies.specs.declared.found.Progress.{Progress}
 use Rattle.client_replies.specs.declared.found.Progress.TheVariants as progress
-use Rattle.client_replies.specs.declared.found.TheConstants.{MAX_PAGES}
 use Rattle.client_replies.specs.declared.reply_fault.ReplyFault.{ReplyFault}
 use Rattle.client_replies.specs.declared.reply_fault.ReplyFault.TheVariants as faults
 
@@ -30,7 +29,7 @@ pub record IsPageIn (bytes : List ℕ) (last : Bool) (ids : List ℕ) : Type 0 w
 -- the bytes are a page that may follow so many: there are at most 2^20, and only the first may be empty
 pub record IsNextPage (pages : ℕ) (bytes : List ℕ) (last : Bool) (ids : List ℕ) : Type 0 where
   pub reply : IsReply (Page last ids) bytes
-  pub within : pages < MAX_PAGES
+  pub within : pages < 2 ^ 20
   pub some : 1 ≤ pages → 1 ≤ length ids
 
 -- no page that may follow, and which fault that is

@@ -1,7 +1,6 @@
-ghost use Rattle.std.specs.Prelude.{◌≡◌, ◌≤◌, ◌++◌, length, OnErr, OnOk};
+ghost use Rattle.std.specs.Prelude.{◌≡◌, ◌≢◌, ◌≤◌, ◌+◌, ◌/◌, ◌^◌, ◌++◌, Bool, Err, IsOk, List, ℕ, length, vec_capacity, vec_len, OnErr, OnOk};
 ghost use Rattle.std.specs.Int.{w64, from_be_bytes};
-ghost use Rattle.sse_frames.specs.Seen.{numbers_in};
-ghost use Rattle.client_replies.specs.declared.found.TheConstants.{MAX_PAGES};
+ghost use Rattle.sse_frames.specs.FrameViews.{numbers_in};
 
 use crate::page_in::page_in;
 use crate::reply_fault::{ReplyFault, fault_of};
@@ -11,11 +10,11 @@ use std::alloc::{AllocError, Global};
 pub const MAX_PAGES: u32 = 1 << 20;
 
 /// The identifiers of the pages of a search that came so far.
-#[derive(Debug, Drop)]
+#[derive(Drop)]
 pub struct Found {
     ids: Vec<u64>,
     pages: u32,
-    pub ghost most: { pages ≤ MAX_PAGES },
+    pub ghost most: { pages ≤ 2 ^ 20 },
 }
 
 /// Whether a search has more pages to come.
@@ -26,8 +25,9 @@ pub enum Progress {
 }
 
 impl Found {
-    ghost use Rattle.std.specs.Prelude.{◌+◌, [], false, IsErrOf};
+    ghost use Rattle.std.specs.Prelude.{[], false, IsErrOf};
     ghost use Rattle.client_registry.specs.Live.{in_order};
+    ghost use Rattle.sse_frames.specs.Reading.{IsReply};
     ghost use Rattle.sse_frames.specs.Replies.{reply_bytes, Page, StoreFault};
     ghost use Rattle.client_replies.specs.Pages.{AfterPage};
 
@@ -44,7 +44,8 @@ impl Found {
 
     /// Takes the next page, with its four length bytes. A page that isn't the last holds 8,192
     /// identifiers, a last one that isn't the first at least one, and there are at most 2^20 pages;
-    /// else it is `BadReply`. After a refusal the pages taken are as before.
+    /// else it is `BadReply`. After a refusal the pages taken are as before. `OutOfMemory` comes only where a page that may
+    /// follow finds no room beside the identifiers that came.
     pub fn page(&mut self, reply: &[u8]) -> Result<Progress, ReplyFault>
         ensures after { AfterPage self.old reply.now self.new result }
         ensures counted { OnOk result (self.new.pages ≡ self.old.pages + 1) }
@@ -52,6 +53,7 @@ impl Found {
         ensures kept { OnErr result (self.new.ids.items ≡ self.old.ids.items) }
         ensures kept_pages { OnErr result (self.new.pages ≡ self.old.pages) }
         ensures store { IsErrOf result ReplyFault.StoreFault → reply.now ≡ reply_bytes StoreFault }
+        ensures taken { (last : Bool) (ids : List ℕ) → IsReply (Page last ids) reply.now → vec_len self.old.ids + length ids ≤ vec_capacity self.old.ids → result ≢ Err ReplyFault.OutOfMemory }
     {
         let Some((last, ids)) = page_in(reply) else {
             return Err(fault_of(reply));
@@ -82,6 +84,7 @@ impl Found {
 fn append_ids(out: &mut Vec<u64>, ids: &[u8]) -> Result<(), AllocError>
     ensures ok { OnOk result (out.new.items ≡ out.old.items ++ numbers_in ids.now) }
     ensures err { OnErr result (out.new.items ≡ out.old.items) }
+    ensures succeeds { vec_len out.old + length ids.now / 8 ≤ vec_capacity out.old → IsOk result }
 {
     let count = ids.len() / 8;
     out.reserve(count)?;

@@ -1,6 +1,6 @@
 ghost use Rattle.std.specs.Prelude.{◌≡◌, ℕ, Bool, List, false, None, IfSome};
 ghost use Rattle.sse_frames.specs.Replies.{Page};
-ghost use Rattle.sse_frames.specs.Seen.{seen_reply};
+ghost use Rattle.sse_frames.specs.FrameViews.{reply_view};
 ghost use Rattle.sse_frames.specs.Reading.{IsReply};
 ghost use Rattle.client_replies.specs.Pages.{IsPageIn, is_page};
 
@@ -20,7 +20,7 @@ pub(crate) fn page_in(reply: &[u8]) -> Option<(bool, &[u8])>
 /// Whether the page is the last, and its identifiers, where the reply is one.
 fn page_of(reply: Reply<'_>) -> Option<(bool, &[u8])>
     ensures found { IfSome result (λ page. reply.entry ≡ Reply.Page page.0 page.1) }
-    ensures none { result ≡ None → is_page (seen_reply reply.entry) ≡ false }
+    ensures none { result ≡ None → is_page (reply_view reply.entry) ≡ false }
 {
     match reply {
         Reply::Page { last, ids } => Some((last, ids)),

@@ -1,6 +1,6 @@
 ghost use Rattle.std.specs.Prelude.{◌≡◌};
 ghost use Rattle.sse_frames.specs.Replies.{ReplyText, reply_bytes, StoreFault};
-ghost use Rattle.sse_frames.specs.Seen.{seen_reply};
+ghost use Rattle.sse_frames.specs.FrameViews.{reply_view};
 ghost use Rattle.sse_frames.specs.Reading.{IsReply};
 ghost use Rattle.client_replies.specs.Faults.{fault_told, IsFaultOf};
 
@@ -69,7 +69,7 @@ pub fn fault_of(reply: &[u8]) -> ReplyFault
 
 /// The fault that a reply reports.
 fn told_by(reply: Reply<'_>) -> ReplyFault
-    ensures { result ≡ fault_told (seen_reply reply.entry) }
+    ensures { result ≡ fault_told (reply_view reply.entry) }
 {
     match reply {
         Reply::Clash { what, place } => ReplyFault::Clash { what, place },

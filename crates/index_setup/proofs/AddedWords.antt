@@ -28,7 +28,7 @@ id_for-push : (id : ℕ) (ws : List (List ℕ)) (v word : List ℕ) → id_for i
 id_for-push id ws v word = ap (map (λ _. id)) (filter-append (bytes_eq word) ws (v ∷ [])) ∙ map-append (λ _. id) (filter (bytes_eq word) ws) (filter (bytes_eq word) (v ∷ []))
 
 module _ (G : List ℕ → List ℕ) (id : ℕ) (v : List ℕ) where
-  -- with the identifier behind the list of the word v
+  -- with the identifier after the list of the word v
   abbrev with_id : List ℕ → List ℕ
   with_id word = G word ++ id_for id (v ∷ []) word
 
@@ -69,7 +69,7 @@ module _ (docs before : List Document) (id : ℕ) (ws : List (List ℕ)) (v : Li
   with_one =
       λ i. map (λ word. (ap (λ ids. ids_with before word ++ ids) (id_for-push id ws v word) ∙ sym (append_assoc (ids_with before word) (id_for id ws word) (id_for id (v ∷ []) word))) i) (words_of docs)
 
-  -- one word more: its list has the identifier behind it
+  -- one word more: its list has the identifier after it
   pub lists_with-found : (n : ℕ) → position (bytes_eq v) (words_of docs) ≡ Some n → lists_with docs before id (ws ++ v ∷ []) ≡ set so_far n (get_or so_far n [] ++ id ∷ [])
   lists_with-found n at = with_one ∙ at_place (λ word. ids_with before word ++ id_for id ws word) id v (words_of docs) (IsDistinct-first_seen (all_words docs)) n at
 

@@ -1,6 +1,6 @@
 -- Which fault a setup is refused with, from those of its labels and of its places.
 use Rattle.std.proofs.Common.{◌≡◌, ◌≢◌, ℕ, List, Option, None, Some, Err, refl, sym, ap, subst, ◌∙◌}
-use Rattle.std.specs.Prelude.{IfSome, IsOkUnless, Result, option_map}
+use Rattle.std.specs.Prelude.{Result, option_map}
 use Rattle.std.specs.Option.{option_or}
 use Rattle.client_registry.specs.Acceptance.{setup_refusal}
 use Rattle.client_registry.specs.Setup.{Setup}
@@ -20,35 +20,15 @@ failed A fault = Err fault
 pub same_fault : (A : Type 0) (x y : BuildFault) → failed A x ≡ failed A y → x ≡ y
 same_fault A x y same = cc
 
-module _ {B : Type 0} (r : Result B BuildFault) (x : BuildFault) (is : r ≡ Err x) where
-  -- the labels' memory is the setup's
-  pub labels_memory : (labels places : Option (ℕ × ℕ)) → (labels ≡ None → x ≡ NoMemory) → first_of labels places ≡ None → IsOkUnless r NoMemory
-  labels_memory None places none clear = subst (λ o. IsOkUnless o NoMemory) (sym is) (none refl)
-  labels_memory (Some words) places none clear = absurd (cc)
+-- labels that are equal come first
+pub labels_named : (x : BuildFault) (labels places : Option (ℕ × ℕ)) → Some x ≡ option_map (λ words. LabelClash words.0 words.1) labels → first_of labels places ≡ Some x
+labels_named x None places is = absurd (cc)
+labels_named x (Some words) places is = sym is
 
-  -- and that of the places, where the labels differ
-  pub places_memory : (labels places : Option (ℕ × ℕ)) → labels ≡ None → (places ≡ None → x ≡ NoMemory) → first_of labels places ≡ None → IsOkUnless r NoMemory
-  places_memory (Some words) places apart none clear = absurd (cc)
-  places_memory None None apart none clear = subst (λ o. IsOkUnless o NoMemory) (sym is) (none refl)
-  places_memory None (Some blocks) apart none clear = absurd (cc)
-
-  module _ (A : Type 0) (differ : r ≢ Err NoMemory) where
-    as_told : failed A x ≢ failed A NoMemory
-    as_told same = differ (is ∙ ap (λ e. Err e) (same_fault A x NoMemory same))
-
-    -- a fault of the labels
-    pub labels_named : (labels places : Option (ℕ × ℕ)) → (failed A x ≢ failed A NoMemory → IfSome labels (λ words. failed A x ≡ failed A (LabelClash words.0 words.1)))
-        → (labels ≡ None → x ≡ NoMemory) → IfSome (first_of labels places) (λ fault. r ≡ Err fault)
-    labels_named None places named none = absurd (differ (is ∙ ap (λ e. Err e) (none refl)))
-    labels_named (Some words) places named none = is ∙ ap (λ e. Err e) (same_fault A x (LabelClash words.0 words.1) (named as_told))
-
-    -- a fault of the places, where the labels differ
-    pub places_named : (labels places : Option (ℕ × ℕ)) → labels ≡ None
-        → (failed A x ≢ failed A NoMemory → IfSome places (λ blocks. failed A x ≡ failed A (PlaceClash blocks.0 blocks.1)))
-        → (places ≡ None → x ≡ NoMemory) → IfSome (first_of labels places) (λ fault. r ≡ Err fault)
-    places_named (Some words) places apart named none = absurd (cc)
-    places_named None None apart named none = absurd (differ (is ∙ ap (λ e. Err e) (none refl)))
-    places_named None (Some blocks) apart named none = is ∙ ap (λ e. Err e) (same_fault A x (PlaceClash blocks.0 blocks.1) (named as_told))
+-- and places, where no labels are equal
+pub places_named : (x : BuildFault) (labels places : Option (ℕ × ℕ)) → labels ≡ None → Some x ≡ option_map (λ blocks. PlaceClash blocks.0 blocks.1) places → first_of labels places ≡ Some x
+places_named x None places none is = sym is
+places_named x (Some words) places none is = absurd (cc)
 
 -- no refusal at all is none of the second kind
 pub second_none : {X : Type 0} (first second : Option X) → option_or first second ≡ None → second ≡ None
@@ -60,7 +40,7 @@ pub first_none : {X : Type 0} (first second : Option X) → option_or first seco
 first_none None second clear = refl
 first_none (Some x) second clear = absurd (cc)
 
-unmapped : {X Y : Type 0} (f : X → Y) (o : Option X) → option_map f o ≡ None → o ≡ None
+pub unmapped : {X Y : Type 0} (f : X → Y) (o : Option X) → option_map f o ≡ None → o ≡ None
 unmapped f None clear = refl
 unmapped f (Some x) clear = absurd (cc)
 

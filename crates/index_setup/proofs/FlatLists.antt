@@ -134,7 +134,7 @@ length-next_from a [] (l ∷ ls) fit = absurd fit
 length-next_from a (m ∷ ns) [] fit = absurd fit
 length-next_from a (m ∷ ns) (l ∷ ls) fit = ap (λ (k : ℕ). suc k) (length-next_from (a + m) ns ls fit.1)
 
--- lists as long as they are to be, one behind the other
+-- lists as long as they are to be, one after the other
 pub filled_lists-full : (lists : List (List ℕ)) → filled_lists (map length lists) lists ≡ flat_map (λ list. list) lists
 filled_lists-full [] = refl
 filled_lists-full (l ∷ ls) =

@@ -1,12 +1,15 @@
 -- The labels and the tags of a setup, by the key formulas.
-use Rattle.std.proofs.Common.{◌≡◌, ℕ, ◌+◌, List, [], ◌∷◌, ◌++◌, map, refl, ap, ◌∙◌}
+use Rattle.std.proofs.Common.{◌≡◌, ℕ, ◌+◌, ◌≤◌, ◌^◌, List, [], ◌∷◌, ◌++◌, length, map, None, refl, ap, ◌∙◌, arith}
 use Rattle.std.specs.List.{range_with_len}
-use Rattle.std.proofs.lemmas.List.{map-append}
+use Rattle.std.proofs.lemmas.List.{length-map, map-append}
 use Rattle.std.proofs.lemmas.Simd.{map-map}
 use Rattle.keyed_fn.specs.KeyedFn.{KeyedFn}
 use Rattle.keyed_fn.specs.KeyFormulas.{part_key, list_label, place_tag}
+use Rattle.client_registry.specs.Acceptance.{setup_refusal}
 use Rattle.client_registry.specs.Setup.{Setup, setup_words}
-use Rattle.sse_model.specs.Positions.{word_blocks, block_position, entries_from, blocks_from}
+use Rattle.client_registry.proofs.SizedLaws.{accepted_blocks}
+use Rattle.sse_model.proofs.Counts.{length-block_positions}
+use Rattle.sse_model.specs.Positions.{word_blocks, block_position, block_positions, entries_from, blocks_from}
 use Rattle.sse_model.specs.Wire.{labels_in}
 use Rattle.index_setup.specs.Entries.{key_table, index_labels, index_tags, word_labels, block_tags}
 
@@ -31,3 +34,7 @@ module _ (f : KeyedFn) (key : List ℕ) (s : Setup) where
   -- the tags of the blocks
   pub index_tags-are : index_tags f key s ≡ block_tags f key s.shape s.documents (setup_words s)
   index_tags-are = tags_from 0 (setup_words s)
+
+-- there are as many tags as blocks
+pub tags_within : (f : KeyedFn) (key : List ℕ) (s : Setup) → setup_refusal s.documents s.shape.b s.shape.big ≡ None → length (index_tags f key s) ≤ 2 ^ 25
+tags_within f key s accepted = omega (arith, length-map (block_positions 0 s) (λ p. key_table f key s p.label), length-block_positions 0 s, accepted_blocks s accepted)

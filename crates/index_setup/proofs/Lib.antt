@@ -1,8 +1,6 @@
 mod ListsWithin
 mod KeyTags
 mod Ranks
-mod Neighbours
-mod FoundClash
 mod RankWrites
 mod TagLists
 mod FlatLists

@@ -26,9 +26,9 @@ use Rattle.sse_model.specs.Positions.{Position, block_position, entry_position, 
 use Rattle.word_keys.specs.PadName.{PadName, cell_name, name_after, named_pad}
 use Rattle.index_setup.specs.Entries.{index_tags, key_table, setup_ranks}
 use Rattle.index_setup.specs.Placed.{block_texts, placed}
-use Rattle.index_setup.specs.Tagged.{tagged_from}
+use Rattle.tag_order.specs.Tagged.{tagged_from}
 use Rattle.index_setup.proofs.RankWrites.{length-ranks_of, position_at_rank}
-use Rattle.index_setup.proofs.Ranks.{key as tag_of}
+use Rattle.tag_order.proofs.InOrder.{key as tag_of}
 
 -- the list of the word at w is as long as its length says
 pub list_at : (docs : List Document) (w n : ℕ) → w < length (words_of docs) → slice_get (list_lengths docs) w ≡ Some n

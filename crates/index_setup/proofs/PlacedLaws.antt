@@ -106,7 +106,7 @@ pub cell_text-laid : (o : Option Laid) (bytes : List ℕ) → option_map cell_by
 cell_text-laid None bytes is = absurd (cc)
 cell_text-laid (Some l) bytes is = cc
 
--- the label and the encrypted cell behind it
+-- the label and the encrypted cell after it
 pub entry_written : (o : Option Laid) (label copied out cell encrypted : List ℕ) (size : ℕ) (pad : ℕ → List ℕ) → copied ≡ label → length label ≡ 16
     → length out ≡ 16 + size → option_map cell_bytes o ≡ Some cell → length cell ≡ size → encrypted ≡ xored cell (pad (length cell))
     → option_map (λ l. label ++ xored (cell_bytes l) (pad size)) o ≡ Some (put_mid 16 (length (copied ++ drop 16 out) - 16) (copied ++ drop 16 out) encrypted)
@@ -119,7 +119,7 @@ entry_written (Some l) label copied out cell encrypted size pad same long room l
     ap (λ x. Some (label ++ x)) (ap (λ bytes. xored bytes (pad size)) own ∙ ap (λ n. xored cell (pad n)) (sym fits) ∙ sym is)
     ∙ ap (λ x. Some x) (sym front)
 
--- the room behind a label
+-- the room after a label
 pub behind_label : (label copied out : List ℕ) (size : ℕ) → copied ≡ label → length label ≡ 16 → length out ≡ 16 + size
     → length (take (length (copied ++ drop 16 out) - 16) (drop 16 (copied ++ drop 16 out))) ≡ size
 behind_label label copied out size same long room =

@@ -5,11 +5,12 @@ use Rattle.std.proofs.lemmas.List.{ext_get_or, get_or_default, get_or-set_same, 
 use Rattle.std.proofs.lemmas.List.FromFn.{length-map-range_with_len}
 use Rattle.sse_frames.specs.Order.{by_bytes}
 use Rattle.sse_model.specs.Positions.{ranks_of}
-use Rattle.index_setup.specs.Tagged.{tagged_from, IsOrderOf}
-use Rattle.index_setup.specs.declared.tagged.Tagged.{Tagged}
-use Rattle.index_setup.proofs.FoundClash.{at, nothing}
-use Rattle.index_setup.proofs.Neighbours.{sorted_place, length-order}
-use Rattle.index_setup.proofs.Ranks.{key, pos, make, length-tagged_from, get_or-tagged_from, rank_of_place, IsPlaced, sorted-IsPlaced, all_at}
+use Rattle.tag_order.specs.Tagged.{tagged_from, IsOrderOf}
+use Rattle.tag_order.specs.declared.tagged.Tagged.{Tagged}
+use Rattle.tag_order.proofs.FoundClash.{at, nothing}
+use Rattle.tag_order.proofs.Neighbours.{sorted_place, length-order}
+use Rattle.tag_order.proofs.InOrder.{key, pos, make, length-tagged_from, get_or-tagged_from, IsPlaced, sorted-IsPlaced, all_at}
+use Rattle.index_setup.proofs.Ranks.{rank_of_place}
 
 pub length-ranks_of : (tags : List (List ℕ)) → length (ranks_of tags) ≡ length tags
 length-ranks_of tags = length-map-range_with_len _ 0 (length tags)

@@ -47,11 +47,11 @@ setup_entries f key s = map (sealed (key_table f key s) (setup_ranks f key s)) (
 abbrev pub setup_blocks : KeyedFn → List ℕ → Setup → List Entry
 setup_blocks f key s = map (sealed (key_table f key s) (setup_ranks f key s)) (block_positions 0 s)
 
--- the bytes of the dictionary: its entries by rising label, one behind the other
+-- the bytes of the dictionary: its entries by rising label, one after the other
 abbrev pub dictionary_bytes : KeyedFn → List ℕ → Setup → List ℕ
 dictionary_bytes f key s = flat_map entry_bytes (by_bytes (λ entry. entry.label) (setup_entries f key s))
 
--- the bytes of the array: the blocks by rising place tag, one behind the other
+-- the bytes of the array: the blocks by rising place tag, one after the other
 abbrev pub array_bytes : KeyedFn → List ℕ → Setup → List ℕ
 array_bytes f key s = flat_map (λ block. block.text) (by_bytes (λ block. block.label) (setup_blocks f key s))
 

@@ -2,5 +2,4 @@ pub mod Entries
 pub mod Lists
 pub mod Placed
 pub mod Refused
-pub mod Tagged
 pub mod Texts

@@ -13,7 +13,7 @@ abbrev pub starts_from : ℕ → List ℕ → List ℕ
 starts_from a [] = []
 starts_from a (n ∷ ns) = a ∷ starts_from (a + n) ns
 
--- lists that are to have these lengths, each filled up with zeros, one behind the other
+-- lists that are to have these lengths, each filled up with zeros, one after the other
 abbrev pub filled_lists : List ℕ → List (List ℕ) → List ℕ
 filled_lists [] lists = []
 filled_lists (n ∷ ns) [] = []

@@ -1,4 +1,5 @@
-ghost use Rattle.std.specs.Prelude.{◌≡◌, ◌≢◌, ◌+◌, ◌*◌, ◌<◌, ◌^◌, length, map, flat_map, None, IfOk, IfSome, IsOk, IsOkUnless};
+ghost use Rattle.std.specs.Prelude.{◌≡◌, ◌≢◌, ◌+◌, ◌*◌, ◌<◌, ◌^◌, List, ℕ, length, map, flat_map, option_map, None, IfOk, IfSome, IsOkUnless};
+ghost use Rattle.std.specs.Result.{result_err};
 ghost use Rattle.client_registry.specs.Acceptance.{blocks_of, setup_refusal};
 ghost use Rattle.client_registry.specs.Documents.{ids_with, words_of};
 ghost use Rattle.client_registry.specs.FirstClash as clashes;
@@ -7,22 +8,22 @@ ghost use Rattle.keyed_fn.specs.KeyedFn.{keyed_fn};
 ghost use Rattle.list_packing.specs.Parts.{parts};
 ghost use Rattle.sse_frames.specs.Frames.{entry_bytes};
 ghost use Rattle.sse_model.specs.Positions.{ranks_of};
-ghost use Rattle.index_setup.specs.Entries.{array_bytes, dictionary_bytes, index_labels, place_clash, setup_blocks, setup_entries, setup_ranks, word_labels};
+ghost use Rattle.index_setup.specs.Entries.{array_bytes, dictionary_bytes, index_labels, index_tags, setup_blocks, setup_entries, setup_ranks, word_labels};
 ghost use Rattle.index_setup.specs.Placed.{placed};
 ghost use Rattle.index_setup.specs.Refused.{build_refusal, clash_refusal, refused_by_size};
-ghost use Rattle.index_setup.specs.Tagged.{IsOrderOf};
+ghost use Rattle.tag_order.specs.Tagged.{IsOrderOf};
 
 use crate::fault::BuildFault;
 use crate::index::Index;
 use crate::labels::{blocks_in, labels_of, tags_of};
 use crate::lists::lists_of;
-use crate::order::{by_tag, first_clash, ranks};
-use crate::shape::Shape;
-use crate::tagged::Tagged;
-use crate::writing::{write_blocks, write_entry};
-use client_registry::{Docs, size_of};
+use crate::order::ranks;
+use crate::writing::{entry_size, write_blocks, write_entry};
+use client_registry::{Docs, Size, size_of};
 use keyed_fn::Keyed;
 use std::alloc::{AllocError, Global};
+use tag_order::{Tagged, by_tag, first_clash};
+use two_level::Shape;
 use word_keys::{MasterKey, PreparedMaster};
 
 /// Builds the index of the documents with b numbers per cell and `big` numbers per block.
@@ -37,40 +38,35 @@ pub fn build<K: Keyed>(
     big: u64,
 ) -> Result<Index, BuildFault>
     // Which error: a refusal by size takes no memory, so none hides it; a clash is named, or memory is wanting.
-    ensures refused { IfSome (setup_refusal docs.now b big) (λ fault. result ≡ Err (refused_by_size fault)) }
-    ensures clash { setup_refusal docs.now b big ≡ None → result ≢ Err BuildFault.NoMemory → IfSome (clash_refusal (keyed_fn K.prf K.pad) key.now (setup_of docs.now b big)) (λ fault. result ≡ Err fault) }
-    ensures built { build_refusal (keyed_fn K.prf K.pad) key.now docs.now b big ≡ None → IsOkUnless result BuildFault.NoMemory }
-    ensures accepted { IfOk result (λ _. build_refusal (keyed_fn K.prf K.pad) key.now docs.now b big ≡ None) }
+    ensures refused { IfSome (setup_refusal docs.now.documents b big) (λ fault. result ≡ Err (refused_by_size fault)) }
+    ensures clash { setup_refusal docs.now.documents b big ≡ None → result ≢ Err BuildFault.NoMemory → IfSome (clash_refusal (keyed_fn K.prf K.pad) key.now (setup_of docs.now.documents b big)) (λ fault. result ≡ Err fault) }
+    ensures built { build_refusal (keyed_fn K.prf K.pad) key.now docs.now.documents b big ≡ None → IsOkUnless result BuildFault.NoMemory }
+    ensures accepted { IfOk result (λ _. build_refusal (keyed_fn K.prf K.pad) key.now docs.now.documents b big ≡ None) }
 
     // The index is the one of the definitions.
-    ensures entries { IfOk result (λ index. index.entries.items ≡ dictionary_bytes (keyed_fn K.prf K.pad) key.now (setup_of docs.now b big)) }
-    ensures array { IfOk result (λ index. index.array.items ≡ array_bytes (keyed_fn K.prf K.pad) key.now (setup_of docs.now b big)) }
-    ensures words { IfOk result (λ index. index.words ≡ length (words_of docs.now)) }
-    ensures blocks { IfOk result (λ index. index.blocks ≡ blocks_of (setup_of docs.now b big)) }
+    ensures entries { IfOk result (λ index. index.entries.items ≡ dictionary_bytes (keyed_fn K.prf K.pad) key.now (setup_of docs.now.documents b big)) }
+    ensures array { IfOk result (λ index. index.array.items ≡ array_bytes (keyed_fn K.prf K.pad) key.now (setup_of docs.now.documents b big)) }
+    ensures words { IfOk result (λ index. index.words ≡ length (words_of docs.now.documents)) }
+    ensures blocks { IfOk result (λ index. index.blocks ≡ blocks_of (setup_of docs.now.documents b big)) }
     ensures b { IfOk result (λ index. index.b ≡ b) }
     ensures big { IfOk result (λ index. index.big ≡ big) }
 {
-    let (shape, blocks) = accepted(docs, b, big)?;
+    let size = size_of(docs, b, big)?;
     let master = key.prepare(keyed);
     let labels = label_order(alloc, keyed, &master, docs)?;
-    let ranks = block_ranks(alloc, keyed, &master, docs, shape, blocks)?;
-    Ok(write_index(alloc, keyed, &master, docs, shape, &labels, &ranks)?)
-}
-
-/// The parameters and how many blocks the lists take, where the size of the index is within its limits.
-fn accepted(docs: &Docs, b: u64, big: u64) -> Result<(Shape, u32), BuildFault>
-    ensures refused { IfSome (setup_refusal docs.now b big) (λ fault. result ≡ Err (refused_by_size fault)) }
-    ensures accepted { setup_refusal docs.now b big ≡ None → IsOk result }
-    ensures not_refused { IfOk result (λ _. setup_refusal docs.now b big ≡ None) }
-    ensures b { IfOk result (λ found. found.0.b ≡ b) }
-    ensures big { IfOk result (λ found. found.0.big ≡ big) }
-{
-    let size = size_of(docs, b, big)?;
-    let shape = Shape {
-        b: b as u16,
-        big: big as u16,
-    };
-    Ok((shape, size.blocks))
+    labels_differ(&labels)?;
+    let tags = place_order(alloc, keyed, &master, docs, size)?;
+    places_differ(&tags)?;
+    let block_ranks = ranks(alloc, &tags)?;
+    Ok(write_index(
+        alloc,
+        keyed,
+        &master,
+        docs,
+        size.shape,
+        &labels,
+        &block_ranks,
+    )?)
 }
 
 /// The labels of the words with their numbers, by rising label.
@@ -79,39 +75,45 @@ fn label_order<K: Keyed>(
     keyed: &K,
     master: &PreparedMaster<K>,
     docs: &Docs,
-) -> Result<Vec<Tagged>, BuildFault>
-    ensures clash { result ≢ Err BuildFault.NoMemory → IfSome (clashes.first_clash (word_labels (keyed_fn K.prf K.pad) master.now (words_of docs.now))) (λ words. result ≡ Err (BuildFault.LabelClash words.0 words.1)) }
-    ensures ordered { clashes.first_clash (word_labels (keyed_fn K.prf K.pad) master.now (words_of docs.now)) ≡ None → IsOkUnless result BuildFault.NoMemory }
-    ensures differ { IfOk result (λ _. clashes.first_clash (word_labels (keyed_fn K.prf K.pad) master.now (words_of docs.now)) ≡ None) }
-    ensures order { IfOk result (λ order. IsOrderOf (word_labels (keyed_fn K.prf K.pad) master.now (words_of docs.now)) order.items) }
+) -> Result<Vec<Tagged>, AllocError>
+    ensures { IfOk result (λ order. IsOrderOf (word_labels (keyed_fn K.prf K.pad) master.now (words_of docs.now.documents)) order.items) }
 {
-    let order = by_tag(labels_of(alloc, keyed, master, docs)?)?;
-    if let Some((first, second)) = first_clash(&order) {
-        return Err(BuildFault::LabelClash { first, second });
-    }
-    Ok(order)
+    by_tag(labels_of(alloc, keyed, master, docs)?)
 }
 
-/// The place of each block in the array, by block position.
-fn block_ranks<K: Keyed>(
+/// Whether these labels, by rising label, differ. Error: `LabelClash` exactly where two are equal; it takes no memory, so
+/// that no want of it comes in place of a clash that was found.
+fn labels_differ(labels: &[Tagged]) -> Result<(), BuildFault>
+    ensures { (tags : List (List ℕ)) → IsOrderOf tags labels.now → result_err result ≡ option_map (λ words. BuildFault.LabelClash words.0 words.1) (clashes.first_clash tags) }
+{
+    match first_clash(labels) {
+        Some((first, second)) => Err(BuildFault::LabelClash { first, second }),
+        None => Ok(()),
+    }
+}
+
+/// The place tags of the blocks with their positions, by rising tag, of an index of this size.
+fn place_order<K: Keyed>(
     alloc: Global,
     keyed: &K,
     master: &PreparedMaster<K>,
     docs: &Docs,
-    shape: Shape,
-    blocks: u32,
-) -> Result<Vec<u32>, BuildFault>
-    requires accepted { setup_refusal docs.now shape.b shape.big ≡ None }
-    ensures clash { result ≢ Err BuildFault.NoMemory → IfSome (place_clash (keyed_fn K.prf K.pad) master.now (setup_of docs.now shape.b shape.big)) (λ blocks. result ≡ Err (BuildFault.PlaceClash blocks.0 blocks.1)) }
-    ensures placed { place_clash (keyed_fn K.prf K.pad) master.now (setup_of docs.now shape.b shape.big) ≡ None → IsOkUnless result BuildFault.NoMemory }
-    ensures differ { IfOk result (λ _. place_clash (keyed_fn K.prf K.pad) master.now (setup_of docs.now shape.b shape.big) ≡ None) }
-    ensures ranks { IfOk result (λ ranks. ranks.items ≡ setup_ranks (keyed_fn K.prf K.pad) master.now (setup_of docs.now shape.b shape.big)) }
+    size: Size,
+) -> Result<Vec<Tagged>, AllocError>
+    requires { setup_refusal docs.now.documents size.shape.b size.shape.big ≡ None }
+    ensures { IfOk result (λ order. IsOrderOf (index_tags (keyed_fn K.prf K.pad) master.now (setup_of docs.now.documents size.shape.b size.shape.big)) order.items) }
 {
-    let tags = by_tag(tags_of(alloc, keyed, master, docs, shape, blocks)?)?;
-    if let Some((first, second)) = first_clash(&tags) {
-        return Err(BuildFault::PlaceClash { first, second });
+    by_tag(tags_of(alloc, keyed, master, docs, size.shape, size.blocks)?)
+}
+
+/// Whether these place tags, by rising tag, differ. Error: `PlaceClash` exactly where two are equal; it takes no memory.
+fn places_differ(tags: &[Tagged]) -> Result<(), BuildFault>
+    ensures { (by_position : List (List ℕ)) → IsOrderOf by_position tags.now → result_err result ≡ option_map (λ blocks. BuildFault.PlaceClash blocks.0 blocks.1) (clashes.first_clash by_position) }
+{
+    match first_clash(tags) {
+        Some((first, second)) => Err(BuildFault::PlaceClash { first, second }),
+        None => Ok(()),
     }
-    Ok(ranks(alloc, &tags)?)
 }
 
 /// The index, with each cell and each block encrypted in its place. `labels` are by rising label, `block_ranks` has
@@ -125,13 +127,13 @@ fn write_index<K: Keyed>(
     labels: &[Tagged],
     block_ranks: &[u32],
 ) -> Result<Index, AllocError>
-    requires accepted { setup_refusal docs.now shape.b shape.big ≡ None }
-    requires labels { IsOrderOf (index_labels (keyed_fn K.prf K.pad) master.now (setup_of docs.now shape.b shape.big)) labels.now }
-    requires block_ranks { block_ranks.now ≡ setup_ranks (keyed_fn K.prf K.pad) master.now (setup_of docs.now shape.b shape.big) }
-    ensures entries { IfOk result (λ index. index.entries.items ≡ dictionary_bytes (keyed_fn K.prf K.pad) master.now (setup_of docs.now shape.b shape.big)) }
-    ensures array { IfOk result (λ index. index.array.items ≡ array_bytes (keyed_fn K.prf K.pad) master.now (setup_of docs.now shape.b shape.big)) }
-    ensures words { IfOk result (λ index. index.words ≡ length (words_of docs.now)) }
-    ensures blocks { IfOk result (λ index. index.blocks ≡ blocks_of (setup_of docs.now shape.b shape.big)) }
+    requires accepted { setup_refusal docs.now.documents shape.b shape.big ≡ None }
+    requires labels { IsOrderOf (index_labels (keyed_fn K.prf K.pad) master.now (setup_of docs.now.documents shape.b shape.big)) labels.now }
+    requires block_ranks { block_ranks.now ≡ setup_ranks (keyed_fn K.prf K.pad) master.now (setup_of docs.now.documents shape.b shape.big) }
+    ensures entries { IfOk result (λ index. index.entries.items ≡ dictionary_bytes (keyed_fn K.prf K.pad) master.now (setup_of docs.now.documents shape.b shape.big)) }
+    ensures array { IfOk result (λ index. index.array.items ≡ array_bytes (keyed_fn K.prf K.pad) master.now (setup_of docs.now.documents shape.b shape.big)) }
+    ensures words { IfOk result (λ index. index.words ≡ length (words_of docs.now.documents)) }
+    ensures blocks { IfOk result (λ index. index.blocks ≡ blocks_of (setup_of docs.now.documents shape.b shape.big)) }
     ensures b { IfOk result (λ index. index.b ≡ shape.b) }
     ensures big { IfOk result (λ index. index.big ≡ shape.big) }
 {
@@ -139,7 +141,7 @@ fn write_index<K: Keyed>(
     let blocks = block_ranks.len();
     let word_ranks = ranks(alloc, labels)?;
     let ids = lists_of(alloc, docs)?;
-    let mut entries = vec![in alloc; 0u8; words * shape.entry_size()]?;
+    let mut entries = vec![in alloc; 0u8; words * entry_size(shape)]?;
     let mut array = vec![in alloc; 0u8; blocks * shape.block_size()]?;
     let from = Sources {
         labels,
@@ -149,8 +151,8 @@ fn write_index<K: Keyed>(
     };
     write_lists(keyed, master, docs, shape, from, &mut entries, &mut array);
     Ok(Index::new(
-        shape.b,
-        shape.big,
+        shape.b(),
+        shape.big(),
         words as u32,
         blocks as u32,
         entries,
@@ -181,15 +183,15 @@ fn write_lists<K: Keyed>(
     entries: &mut [u8],
     array: &mut [u8],
 )
-    requires accepted { setup_refusal docs.now shape.b shape.big ≡ None }
-    requires labels { IsOrderOf (index_labels (keyed_fn K.prf K.pad) master.now (setup_of docs.now shape.b shape.big)) from.labels.now }
-    requires word_ranks { from.word_ranks.now ≡ ranks_of (index_labels (keyed_fn K.prf K.pad) master.now (setup_of docs.now shape.b shape.big)) }
-    requires ids { from.ids.now ≡ flat_map (ids_with docs.now) (words_of docs.now) }
-    requires block_ranks { from.block_ranks.now ≡ setup_ranks (keyed_fn K.prf K.pad) master.now (setup_of docs.now shape.b shape.big) }
-    requires entries_size { length entries.old ≡ length (words_of docs.now) * (17 + 8 * shape.b) }
+    requires accepted { setup_refusal docs.now.documents shape.b shape.big ≡ None }
+    requires labels { IsOrderOf (index_labels (keyed_fn K.prf K.pad) master.now (setup_of docs.now.documents shape.b shape.big)) from.labels.now }
+    requires word_ranks { from.word_ranks.now ≡ ranks_of (index_labels (keyed_fn K.prf K.pad) master.now (setup_of docs.now.documents shape.b shape.big)) }
+    requires ids { from.ids.now ≡ flat_map (ids_with docs.now.documents) (words_of docs.now.documents) }
+    requires block_ranks { from.block_ranks.now ≡ setup_ranks (keyed_fn K.prf K.pad) master.now (setup_of docs.now.documents shape.b shape.big) }
+    requires entries_size { length entries.old ≡ length (words_of docs.now.documents) * (17 + 8 * shape.b) }
     requires array_size { length array.old ≡ length from.block_ranks.now * (8 * shape.big) }
-    ensures entries { parts (17 + 8 * shape.b) entries.new ≡ placed (parts (17 + 8 * shape.b) entries.old) from.entry.word_ranks.now (map entry_bytes (setup_entries (keyed_fn K.prf K.pad) master.now (setup_of docs.now shape.b shape.big))) }
-    ensures array { parts (8 * shape.big) array.new ≡ placed (parts (8 * shape.big) array.old) from.entry.block_ranks.now (map (λ block. block.text) (setup_blocks (keyed_fn K.prf K.pad) master.now (setup_of docs.now shape.b shape.big))) }
+    ensures entries { parts (17 + 8 * shape.b) entries.new ≡ placed (parts (17 + 8 * shape.b) entries.old) from.entry.word_ranks.now (map entry_bytes (setup_entries (keyed_fn K.prf K.pad) master.now (setup_of docs.now.documents shape.b shape.big))) }
+    ensures array { parts (8 * shape.big) array.new ≡ placed (parts (8 * shape.big) array.old) from.entry.block_ranks.now (map (λ block. block.text) (setup_blocks (keyed_fn K.prf K.pad) master.now (setup_of docs.now.documents shape.b shape.big))) }
 {
     let mut ids = from.ids;
     let mut ranks = from.block_ranks;
@@ -199,8 +201,8 @@ fn write_lists<K: Keyed>(
         let (places, later_ranks) = ranks.split_at(blocks_in(n, shape) as usize);
         let mut pads = master.list_pads(keyed, docs.word(w));
         let place = from.word_ranks[w] as usize;
-        let at = place * shape.entry_size();
-        let entry = &mut entries[at..at + shape.entry_size()];
+        let at = place * entry_size(shape);
+        let entry = &mut entries[at..at + entry_size(shape)];
         write_entry(
             keyed,
             pads.next(),

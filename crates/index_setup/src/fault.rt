@@ -4,7 +4,7 @@ use std::error::Error;
 use std::fmt;
 
 /// Why a setup's index can't be built: the first cause that stands, in this order.
-#[derive(Debug, Clone, Copy, PartialEq, Eq)]
+#[derive(Debug, Clone, Copy)]
 pub enum BuildFault {
     /// A parameter is out of its range: `which` is 0 for b (1 to 64), 1 for B (1 to 256).
     BadParameter { which: u8, value: u64 },

@@ -5,7 +5,7 @@ use list_packing::part;
 
 /// The index of a setup: for each word its label and encrypted cell, by rising label, and the encrypted blocks of the
 /// longer lists by rising place tag. What it hands out takes no memory.
-#[derive(Debug, Drop)]
+#[derive(Drop)]
 pub struct Index {
     b: u16,
     big: u16,

@@ -6,14 +6,13 @@ ghost use Rattle.keyed_fn.specs.KeyedFn.{keyed_fn};
 ghost use Rattle.keyed_fn.specs.KeyFormulas.{part_key, place_tag};
 ghost use Rattle.two_level.specs.Plan as layout;
 ghost use Rattle.index_setup.specs.Entries.{block_tags, word_labels, ArePlanned};
-ghost use Rattle.index_setup.specs.Tagged.{tagged_from};
+ghost use Rattle.tag_order.specs.Tagged.{tagged_from};
 
-use crate::shape::Shape;
-use crate::tagged::Tagged;
 use client_registry::{Docs, Word};
 use keyed_fn::Keyed;
 use std::alloc::{AllocError, Global};
-use two_level::plan;
+use tag_order::Tagged;
+use two_level::Shape;
 use word_keys::{PlaceTags, PreparedMaster};
 
 /// The label of each word, by word number.
@@ -23,7 +22,7 @@ pub(crate) fn labels_of<K: Keyed>(
     master: &PreparedMaster<K>,
     docs: &Docs,
 ) -> Result<Vec<Tagged>, AllocError>
-    ensures { IfOk result (λ labels. labels.items ≡ tagged_from 0 (word_labels (keyed_fn K.prf K.pad) master.now (words_of docs.now))) }
+    ensures { IfOk result (λ labels. labels.items ≡ tagged_from 0 (word_labels (keyed_fn K.prf K.pad) master.now (words_of docs.now.documents))) }
 {
     let mut labels = Vec::with_capacity(alloc, docs.words())?;
     for w in 0..docs.words() {
@@ -43,9 +42,9 @@ pub(crate) fn tags_of<K: Keyed>(
     shape: Shape,
     blocks: u32,
 ) -> Result<Vec<Tagged>, AllocError>
-    requires planned { ArePlanned (record { b = shape.b; big = shape.big }) docs.now }
-    requires most { length (block_tags (keyed_fn K.prf K.pad) master.now (record { b = shape.b; big = shape.big }) docs.now (words_of docs.now)) < 2 ^ 32 }
-    ensures { IfOk result (λ tags. tags.items ≡ tagged_from 0 (block_tags (keyed_fn K.prf K.pad) master.now (record { b = shape.b; big = shape.big }) docs.now (words_of docs.now))) }
+    requires planned { ArePlanned shape docs.now.documents }
+    requires most { length (block_tags (keyed_fn K.prf K.pad) master.now shape docs.now.documents (words_of docs.now.documents)) < 2 ^ 32 }
+    ensures { IfOk result (λ tags. tags.items ≡ tagged_from 0 (block_tags (keyed_fn K.prf K.pad) master.now shape docs.now.documents (words_of docs.now.documents))) }
 {
     let mut tags = Vec::with_capacity(alloc, blocks as usize)?;
     for w in 0..docs.words() {
@@ -94,10 +93,10 @@ fn push_under<K: Keyed>(
 /// How many blocks a list of n identifiers takes, which isn't too long.
 pub(crate) fn blocks_in(n: u32, shape: Shape) -> u32
     requires some { 1 ≤ n }
-    requires planned { IsSome (layout.plan (record { b = shape.b; big = shape.big }) n) }
-    ensures { result ≡ layout.block_count (layout.plan (record { b = shape.b; big = shape.big }) n) }
+    requires planned { IsSome (layout.plan shape n) }
+    ensures { result ≡ layout.block_count (layout.plan shape n) }
 {
-    let Ok(plan) = plan(u64::from(n), shape.b, shape.big) else {
+    let Ok(plan) = shape.plan(u64::from(n)) else {
         unreachable!()
     };
     plan.pointer_blocks + plan.data_blocks

@@ -1,8 +1,8 @@
 //! Builds the encrypted index of a setup in flat bytes: for each word of the collected documents one dictionary
 //! entry, a label and an encrypted cell, by rising label, and for each block of a longer list its encrypted numbers,
 //! by rising place tag. Labels and tags come first, so that each cell and block is laid in the place that it is sent
-//! from, and encrypted there. It stands on `word_keys`, the only way to labels and keystream, on `two_level` for
-//! the layout of a list, and on `client_registry` for the documents. Callers use [`build`], and read the [`Index`]. It
+//! from, and encrypted there. It depends on `word_keys`, the only way to labels and keystream, on `two_level` for
+//! the layout of a list, on `tag_order` for the order of labels and tags, and on `client_registry` for the documents. Callers use [`build`], and read the [`Index`]. It
 //! sends and stores nothing: frames are `client_core`'s.
 #![tactic(auto)]
 
@@ -12,13 +12,8 @@ mod index;
 mod labels;
 mod lists;
 mod order;
-mod shape;
-mod tagged;
 mod writing;
 
 pub use building::build;
 pub use fault::BuildFault;
 pub use index::Index;
-
-#[cfg(test)]
-mod tests;

@@ -6,9 +6,9 @@ use client_registry::Docs;
 use std::alloc::{AllocError, Global};
 
 /// For each word, by word number, the identifiers of the documents with that word, in the documents' order: one list
-/// behind the other. How long each is the documents know, so one pass over them fills all.
+/// after the other. How long each is the documents know, so one pass over them fills all.
 pub(crate) fn lists_of(alloc: Global, docs: &Docs) -> Result<Vec<u64>, AllocError>
-    ensures { IfOk result (λ ids. ids.items ≡ flat_map (ids_with docs.now) (words_of docs.now)) }
+    ensures { IfOk result (λ ids. ids.items ≡ flat_map (ids_with docs.now.documents) (words_of docs.now.documents)) }
 {
     let mut next = starts_of(alloc, docs)?;
     let mut ids = vec![in alloc; 0u64; total_of(docs)]?;
@@ -20,7 +20,7 @@ pub(crate) fn lists_of(alloc: Global, docs: &Docs) -> Result<Vec<u64>, AllocErro
 
 /// How many identifiers all lists have.
 fn total_of(docs: &Docs) -> usize
-    ensures total { result ≡ sum (list_lengths docs.now) }
+    ensures total { result ≡ sum (list_lengths docs.now.documents) }
     ensures most { result ≤ 2 ^ 20 }
 {
     let mut sum = 0;
@@ -32,7 +32,7 @@ fn total_of(docs: &Docs) -> usize
 
 /// Where the list of each word begins.
 fn starts_of(alloc: Global, docs: &Docs) -> Result<Vec<u32>, AllocError>
-    ensures { IfOk result (λ starts. starts.items ≡ starts_from 0 (list_lengths docs.now)) }
+    ensures { IfOk result (λ starts. starts.items ≡ starts_from 0 (list_lengths docs.now.documents)) }
 {
     let mut starts = Vec::with_capacity(alloc, docs.words())?;
     let mut start = 0;
@@ -43,13 +43,13 @@ fn starts_of(alloc: Global, docs: &Docs) -> Result<Vec<u32>, AllocError>
     Ok(starts)
 }
 
-/// Puts the identifier of document `i` into the list of each of its words, behind those of the documents before it.
+/// Puts the identifier of document `i` into the list of each of its words, after those of the documents before it.
 /// `next` has for each word where the next identifier goes.
 fn add_document(docs: &Docs, i: usize, ids: &mut [u64], next: &mut [u32])
-    requires within { i < length docs.now }
+    requires within { i < length docs.now.documents }
     requires most { length ids.old ≤ 2 ^ 20 }
-    requires before { HoldsLists (list_lengths docs.now) (lists_among docs.now (take i docs.now)) ids.old next.old }
-    ensures { HoldsLists (list_lengths docs.now) (lists_among docs.now (take (i + 1) docs.now)) ids.new next.new }
+    requires before { HoldsLists (list_lengths docs.now.documents) (lists_among docs.now.documents (take i docs.now.documents)) ids.old next.old }
+    ensures { HoldsLists (list_lengths docs.now.documents) (lists_among docs.now.documents (take (i + 1) docs.now.documents)) ids.new next.new }
 {
     let doc = docs.get(i);
     let id = doc.id.get();

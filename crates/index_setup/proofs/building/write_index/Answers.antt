@@ -10,8 +10,8 @@ use Rattle.sse_frames.specs.Frames.{entry_bytes}
 use Rattle.sse_model.proofs.BlocksWithin.{blocks_within}
 use Rattle.index_setup.specs.Entries.{index_labels, setup_entries, setup_ranks}
 use Rattle.index_setup.specs.Placed.{placed}
-use Rattle.index_setup.specs.Tagged.{IsOrderOf}
-use Rattle.index_setup.specs.declared.tagged.Tagged.{Tagged}
+use Rattle.tag_order.specs.Tagged.{IsOrderOf}
+use Rattle.tag_order.specs.declared.tagged.Tagged.{Tagged}
 use Rattle.index_setup.proofs.KeyTags.{index_labels-are}
 use Rattle.index_setup.proofs.ListWrites.{length-setup_ranks}
 use Rattle.index_setup.proofs.RankWrites.{length-sorted, positions_within}
@@ -27,13 +27,13 @@ labels_counted f key s sorted order =
 pub ranks-requires-clause-most : goal.ranks-requires-clause-most
 ranks-requires-clause-most g c =
     let f = keyed_fn g.K.Keyed.prf g.K.Keyed.pad in
-    let s = setup_of c.args.docs.now c.args.shape.b c.args.shape.big in
+    let s = setup_of c.args.docs.now.documents c.args.shape.b c.args.shape.big in
     omega (arith, labels_counted f c.args.master.now s c.args.labels.now c.requires.labels, c.words-words.ensures.words, c.words-words.ensures.within)
 
 pub ranks-requires-clause-positions : goal.ranks-requires-clause-positions
 ranks-requires-clause-positions g c =
     let f = keyed_fn g.K.Keyed.prf g.K.Keyed.pad in
-    let s = setup_of c.args.docs.now c.args.shape.b c.args.shape.big in
+    let s = setup_of c.args.docs.now.documents c.args.shape.b c.args.shape.big in
     positions_within (index_labels f c.args.master.now s) c.args.labels.now c.requires.labels
 
 -- a place for each block
@@ -43,38 +43,38 @@ ranks_counted f key s ranks are = ap length are ∙ length-setup_ranks f key s
 pub overflow_mul-blocks : goal.overflow_mul-blocks
 overflow_mul-blocks g c =
     let f = keyed_fn g.K.Keyed.prf g.K.Keyed.pad in
-    let s = setup_of c.args.docs.now c.args.shape.b c.args.shape.big in
+    let s = setup_of c.args.docs.now.documents c.args.shape.b c.args.shape.big in
     let count = ranks_counted f c.args.master.now s c.args.block_ranks.now c.requires.block_ranks in
-    let product : length c.args.block_ranks.now * c.block_size.result ≡ blocks_of s * (8 * c.args.shape.big) = λ i. count i * c.block_size.ensures i in
+    let product : length c.args.block_ranks.now * c.block_size.result ≡ blocks_of s * (8 * c.args.shape.big) = λ i. count i * c.block_size.ensures.size i in
     omega (arith, product, accepted_bytes s c.requires.accepted)
 
 pub overflow_cast-blocks : goal.overflow_cast-blocks
 overflow_cast-blocks g c =
     let f = keyed_fn g.K.Keyed.prf g.K.Keyed.pad in
-    let s = setup_of c.args.docs.now c.args.shape.b c.args.shape.big in
+    let s = setup_of c.args.docs.now.documents c.args.shape.b c.args.shape.big in
     omega (arith, ranks_counted f c.args.master.now s c.args.block_ranks.now c.requires.block_ranks, accepted_blocks s c.requires.accepted)
 
 pub new-requires-clause-few_blocks : goal.new-requires-clause-few_blocks
 new-requires-clause-few_blocks g c =
     let f = keyed_fn g.K.Keyed.prf g.K.Keyed.pad in
-    let s = setup_of c.args.docs.now c.args.shape.b c.args.shape.big in
+    let s = setup_of c.args.docs.now.documents c.args.shape.b c.args.shape.big in
     omega (arith, ranks_counted f c.args.master.now s c.args.block_ranks.now c.requires.block_ranks, blocks_within s c.words-words.ensures.valid c.requires.accepted)
 
 pub returns-clause-blocks : goal.returns-clause-blocks
 returns-clause-blocks g c =
     let f = keyed_fn g.K.Keyed.prf g.K.Keyed.pad in
-    let s = setup_of c.args.docs.now c.args.shape.b c.args.shape.big in
+    let s = setup_of c.args.docs.now.documents c.args.shape.b c.args.shape.big in
     c.new.ensures.blocks ∙ ranks_counted f c.args.master.now s c.args.block_ranks.now c.requires.block_ranks
 
 pub returns-clause-entries : goal.returns-clause-entries
 returns-clause-entries g c =
     let f = keyed_fn g.K.Keyed.prf g.K.Keyed.pad in
-    let s = setup_of c.args.docs.now c.args.shape.b c.args.shape.big in
+    let s = setup_of c.args.docs.now.documents c.args.shape.b c.args.shape.big in
     let entries = c.in_ok-entries.entries in
     let new = c.write_lists.new.entries in
     let same : length new ≡ length entries.items = c.write_lists.auto.entries ∙ ap length c.deref_mut.ensures.value in
     let size : length entries.items ≡ length (setup_words s) * (17 + 8 * c.args.shape.b) =
-    sym entries.ok.0 ∙ c.in_ok-entries.ensures.len ∙ (λ i. c.words-words.ensures.words i * c.entry_size.ensures i) in
+    sym entries.ok.0 ∙ c.in_ok-entries.ensures.len ∙ (λ i. c.words-words.ensures.words i * c.entry_size.ensures.size i) in
     ap (λ v. v.items) c.new.ensures.entries
     ∙ written_back new entries.items entries.len entries.ok.0 same
     ∙ dictionary-placed f c.args.master.now s c.deref_mut.result.now new c.in_ok-word_ranks.word_ranks.items
@@ -84,14 +84,14 @@ returns-clause-entries g c =
 pub returns-clause-array : goal.returns-clause-array
 returns-clause-array g c =
     let f = keyed_fn g.K.Keyed.prf g.K.Keyed.pad in
-    let s = setup_of c.args.docs.now c.args.shape.b c.args.shape.big in
+    let s = setup_of c.args.docs.now.documents c.args.shape.b c.args.shape.big in
     let array = c.in_ok-array.array in
     let new = c.write_lists.new.array in
     let same : length new ≡ length array.items = c.write_lists.auto.array ∙ ap length c.deref_mut-2.ensures.value in
     let count = ranks_counted f c.args.master.now s c.args.block_ranks.now c.requires.block_ranks in
     let size : length array.items ≡ blocks_of s * (8 * c.args.shape.big) =
-    sym array.ok.0 ∙ c.in_ok-array.ensures.len ∙ (λ i. count i * c.block_size.ensures i) in
+    sym array.ok.0 ∙ c.in_ok-array.ensures.len ∙ (λ i. count i * c.block_size.ensures.size i) in
     ap (λ v. v.items) c.new.ensures.array
     ∙ written_back new array.items array.len array.ok.0 same
-    ∙ array-placed f c.args.master.now s c.deref_mut-2.result.now new c.args.block_ranks.now c.args.shape.block
+    ∙ array-placed f c.args.master.now s c.deref_mut-2.result.now new c.args.block_ranks.now c.block_size.ensures.limits.block_some
     (ap length c.deref_mut-2.ensures.value ∙ size) c.requires.block_ranks c.write_lists.ensures.array

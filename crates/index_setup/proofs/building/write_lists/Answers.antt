@@ -17,9 +17,9 @@ use Rattle.client_registry.specs.WordBytes.{word_bytes}
 use Rattle.sse_model.specs.Positions.{ranks_of}
 use Rattle.index_setup.specs.Entries.{index_labels, setup_blocks, setup_ranks}
 use Rattle.index_setup.specs.Placed.{placed}
-use Rattle.index_setup.specs.Tagged.{IsOrderOf}
-use Rattle.index_setup.specs.declared.tagged.Tagged.{Tagged}
-use Rattle.index_setup.proofs.FoundClash.{at}
+use Rattle.tag_order.specs.Tagged.{IsOrderOf}
+use Rattle.tag_order.specs.declared.tagged.Tagged.{Tagged}
+use Rattle.tag_order.proofs.FoundClash.{at}
 use Rattle.index_setup.proofs.KeyTags.{index_labels-are}
 use Rattle.index_setup.proofs.ListWrites.{all_written, list_at, ids_enough, ranks_enough, rank_within, ranks_few, Remains-first, Remains-more}
 use Rattle.index_setup.proofs.PlacedLaws.{parts-put_mid, slot_room}
@@ -29,13 +29,13 @@ use Rattle.index_setup.proofs.building.write_lists.Goals as goal
 pub loop-w-init : goal.loop-w-init
 loop-w-init g c =
     let f = keyed_fn g.K.Keyed.prf g.K.Keyed.pad in
-    let s = setup_of c.args.docs.now c.args.shape.b c.args.shape.big in
+    let s = setup_of c.args.docs.now.documents c.args.shape.b c.args.shape.big in
     Remains-first f c.args.master.now s c.args.from.ids.now c.args.from.block_ranks.now _ _ c.args.from.word_ranks.now c.requires.ids c.requires.block_ranks
 
 pub split_at-requires : goal.split_at-requires
 split_at-requires g c =
     let f = keyed_fn g.K.Keyed.prf g.K.Keyed.pad in
-    let docs = c.args.docs.now in
+    let docs = c.args.docs.now.documents in
     let s = setup_of docs c.args.shape.b c.args.shape.big in
     let within : c.loop-w.w < length (words_of docs) = omega (arith, c.words-w-end.ensures.words, c.loop-w-test.true) in
     ids_enough f c.args.master.now s c.loop-w.w within c.loop-w.ids.now c.loop-w.ranks.now _ _ _ _ c.args.from.word_ranks.now c.loop-w.invariant
@@ -49,13 +49,13 @@ planned_at s w n accepted within at =
 
 pub blocks_in-requires-clause-planned : goal.blocks_in-requires-clause-planned
 blocks_in-requires-clause-planned g c =
-    planned_at (setup_of c.args.docs.now c.args.shape.b c.args.shape.big) c.loop-w.w c.list_len-n.result c.requires.accepted
+    planned_at (setup_of c.args.docs.now.documents c.args.shape.b c.args.shape.big) c.loop-w.w c.list_len-n.result c.requires.accepted
     (omega (arith, c.words-w-end.ensures.words, c.loop-w-test.true)) c.list_len-n.ensures.length
 
 pub split_at-requires-in-loop-w : goal.split_at-requires-in-loop-w
 split_at-requires-in-loop-w g c =
     let f = keyed_fn g.K.Keyed.prf g.K.Keyed.pad in
-    let docs = c.args.docs.now in
+    let docs = c.args.docs.now.documents in
     let s = setup_of docs c.args.shape.b c.args.shape.big in
     let within : c.loop-w.w < length (words_of docs) = omega (arith, c.words-w-end.ensures.words, c.loop-w-test.true) in
     ranks_enough f c.args.master.now s c.loop-w.w within c.loop-w.ids.now c.loop-w.ranks.now _ _ _ _ c.args.from.word_ranks.now c.loop-w.invariant
@@ -86,7 +86,7 @@ labelled f key s sorted ranks w order are within =
 pub bounds-from-w : goal.bounds-from-w
 bounds-from-w g c =
     let f = keyed_fn g.K.Keyed.prf g.K.Keyed.pad in
-    let s = setup_of c.args.docs.now c.args.shape.b c.args.shape.big in
+    let s = setup_of c.args.docs.now.documents c.args.shape.b c.args.shape.big in
     omega (arith, ranked f c.args.master.now s c.args.from.word_ranks.now c.requires.word_ranks, c.words-w-end.ensures.words, c.loop-w-test.true)
 
 -- an entry written over its slot
@@ -106,34 +106,34 @@ slot_within r count size n less whole = let room : (r + 1) * size ≤ count * si
 pub slice_bounds-entry-end : goal.slice_bounds-entry-end
 slice_bounds-entry-end g c =
     let f = keyed_fn g.K.Keyed.prf g.K.Keyed.pad in
-    let docs = c.args.docs.now in
+    let docs = c.args.docs.now.documents in
     let s = setup_of docs c.args.shape.b c.args.shape.big in
     let size = 17 + 8 * c.args.shape.b in
     let within : c.loop-w.w < length (words_of docs) = omega (arith, c.words-w-end.ensures.words, c.loop-w-test.true) in
     let place = labelled f c.args.master.now s c.args.from.labels.now c.args.from.word_ranks.now c.loop-w.w c.requires.labels c.requires.word_ranks within in
     let r : ℕ = get_or c.args.from.word_ranks.now c.loop-w.w 0 in
     let room : (r + 1) * size ≤ length c.loop-w.entries = slot_within r (length (words_of docs)) size (length c.loop-w.entries) place.0 (c.loop-w.auto.entries ∙ c.requires.entries_size) in
-    let one : r * c.entry_size.result ≡ r * size = ap (λ n. r * n) c.entry_size.ensures in
-    omega (arith, room, one, c.entry_size-in-loop-w.ensures)
+    let one : r * c.entry_size.result ≡ r * size = ap (λ n. r * n) c.entry_size.ensures.size in
+    omega (arith, room, one, c.entry_size-in-loop-w.ensures.size)
 
 pub bounds-from-place : goal.bounds-from-place
 bounds-from-place g c =
     let f = keyed_fn g.K.Keyed.prf g.K.Keyed.pad in
-    let docs = c.args.docs.now in
+    let docs = c.args.docs.now.documents in
     let s = setup_of docs c.args.shape.b c.args.shape.big in
     let within : c.loop-w.w < length (words_of docs) = omega (arith, c.words-w-end.ensures.words, c.loop-w-test.true) in
     (labelled f c.args.master.now s c.args.from.labels.now c.args.from.word_ranks.now c.loop-w.w c.requires.labels c.requires.word_ranks within).1
 
 pub write_entry-requires-clause-planned : goal.write_entry-requires-clause-planned
 write_entry-requires-clause-planned g c =
-    subst (λ n. IsSome (plan (record { b = c.args.shape.b; big = c.args.shape.big }) n)) (sym c.split_at.ensures.front_len)
-    (planned_at (setup_of c.args.docs.now c.args.shape.b c.args.shape.big) c.loop-w.w c.list_len-n.result c.requires.accepted
+    subst (λ n. IsSome (plan c.args.shape n)) (sym c.split_at.ensures.front_len)
+    (planned_at (setup_of c.args.docs.now.documents c.args.shape.b c.args.shape.big) c.loop-w.w c.list_len-n.result c.requires.accepted
     (omega (arith, c.words-w-end.ensures.words, c.loop-w-test.true)) c.list_len-n.ensures.length)
 
 pub write_blocks-requires-clause-most : goal.write_blocks-requires-clause-most
 write_blocks-requires-clause-most g c =
     let f = keyed_fn g.K.Keyed.prf g.K.Keyed.pad in
-    let docs = c.args.docs.now in
+    let docs = c.args.docs.now.documents in
     let s = setup_of docs c.args.shape.b c.args.shape.big in
     let within : c.loop-w.w < length (words_of docs) = omega (arith, c.words-w-end.ensures.words, c.loop-w-test.true) in
     omega (
@@ -147,7 +147,7 @@ write_blocks-requires-clause-most g c =
 pub write_blocks-requires-clause-places : goal.write_blocks-requires-clause-places
 write_blocks-requires-clause-places g c = λ k d inside.
     let f = keyed_fn g.K.Keyed.prf g.K.Keyed.pad in
-    let docs = c.args.docs.now in
+    let docs = c.args.docs.now.documents in
     let s = setup_of docs c.args.shape.b c.args.shape.big in
     let within : c.loop-w.w < length (words_of docs) = omega (arith, c.words-w-end.ensures.words, c.loop-w-test.true) in
     let places = c.split_at-in-loop-w.result.0.now in
@@ -160,7 +160,7 @@ write_blocks-requires-clause-places g c = λ k d inside.
 pub loop-w-preserved : goal.loop-w-preserved
 loop-w-preserved g c =
     let f = keyed_fn g.K.Keyed.prf g.K.Keyed.pad in
-    let docs = c.args.docs.now in
+    let docs = c.args.docs.now.documents in
     let s = setup_of docs c.args.shape.b c.args.shape.big in
     let w = c.loop-w.w in
     let size = 17 + 8 * c.args.shape.b in
@@ -174,7 +174,7 @@ loop-w-preserved g c =
     let room : (r + 1) * size ≤ length c.loop-w.entries = slot_within r (length (words_of docs)) size (length c.loop-w.entries) place.0 (c.loop-w.auto.entries ∙ c.requires.entries_size) in
     let written : parts size (put_mid (r * c.entry_size.result) (r * c.entry_size.result + c.entry_size-in-loop-w.result - r * c.entry_size.result) c.loop-w.entries c.write_entry.new.out)
     ≡ set (parts size c.loop-w.entries) r c.write_entry.new.out =
-    entry_put r size c.entry_size.result c.entry_size-in-loop-w.result c.loop-w.entries c.write_entry.new.out c.entry_size.ensures c.entry_size-in-loop-w.ensures room c.write_entry.auto.out (omega arith) in
+    entry_put r size c.entry_size.result c.entry_size-in-loop-w.result c.loop-w.entries c.write_entry.new.out c.entry_size.ensures.size c.entry_size-in-loop-w.ensures.size room c.write_entry.auto.out (omega arith) in
     Remains-more f c.args.master.now s w within c.loop-w.ids.now c.loop-w.ranks.now _ _ _ _ c.args.from.word_ranks.now c.loop-w.invariant
     c.list_len-n.result c.blocks_in.result n_is count_is
     word c.split_at.result.0.now c.split_at-in-loop-w.result.0.now word_is c.split_at.ensures.front c.split_at-in-loop-w.ensures.front
@@ -185,7 +185,7 @@ loop-w-preserved g c =
 pub returns-clause-entries : goal.returns-clause-entries
 returns-clause-entries g c =
     let f = keyed_fn g.K.Keyed.prf g.K.Keyed.pad in
-    let docs = c.args.docs.now in
+    let docs = c.args.docs.now.documents in
     let s = setup_of docs c.args.shape.b c.args.shape.big in
     (all_written f c.args.master.now s c.loop-w.w c.loop-w.ids.now c.loop-w.ranks.now _ _ _ _ c.args.from.word_ranks.now
     (omega (arith, c.words-w-end.ensures.words, c.loop-w-test.false)) c.loop-w.invariant).0
@@ -193,7 +193,7 @@ returns-clause-entries g c =
 pub returns-clause-array : goal.returns-clause-array
 returns-clause-array g c =
     let f = keyed_fn g.K.Keyed.prf g.K.Keyed.pad in
-    let docs = c.args.docs.now in
+    let docs = c.args.docs.now.documents in
     let s = setup_of docs c.args.shape.b c.args.shape.big in
     (all_written f c.args.master.now s c.loop-w.w c.loop-w.ids.now c.loop-w.ranks.now _ _ _ _ c.args.from.word_ranks.now
     (omega (arith, c.words-w-end.ensures.words, c.loop-w-test.false)) c.loop-w.invariant).1

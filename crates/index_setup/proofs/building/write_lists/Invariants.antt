@@ -8,5 +8,5 @@ use Rattle.index_setup.proofs.building.write_lists.Given as goal
 -- the entries and blocks of the words from w on are left to write
 abbrev pub invariant-loop-w : goal.invariant-loop-w
 invariant-loop-w g l =
-    Remains (keyed_fn g.K.Keyed.prf g.K.Keyed.pad) l.master (setup_of l.docs l.shape.b l.shape.big) l.w l.ids l.ranks
+    Remains (keyed_fn g.K.Keyed.prf g.K.Keyed.pad) l.master (setup_of l.docs.documents l.shape.b l.shape.big) l.w l.ids l.ranks
     (parts (17 + 8 * l.shape.b) l.entries) (parts (8 * l.shape.big) l.array) (parts (17 + 8 * l.shape.b) l.fn.entries) (parts (8 * l.shape.big) l.fn.array) l.from.word_ranks.now

@@ -6,7 +6,7 @@ use Rattle.client_registry.specs.WordBytes.{word_bytes}
 use Rattle.keyed_fn.specs.KeyedFn.{keyed_fn}
 use Rattle.keyed_fn.specs.KeyFormulas.{list_label, part_key}
 use Rattle.index_setup.specs.Entries.{word_labels}
-use Rattle.index_setup.specs.Tagged.{tagged_from}
+use Rattle.tag_order.specs.Tagged.{tagged_from}
 use Rattle.index_setup.proofs.TagLists.{tagged-map_more}
 use Rattle.index_setup.proofs.labels.labels_of.Goals as goal
 
@@ -14,7 +14,7 @@ pub loop-w-preserved : goal.loop-w-preserved
 loop-w-preserved g c =
     let f = keyed_fn g.K.Keyed.prf g.K.Keyed.pad in
     let master = c.args.master.now in
-    let words = words_of c.args.docs.now in
+    let words = words_of c.args.docs.now.documents in
     let w = c.loop-w.w in
     let within : w < length words = omega (arith, c.words-w-end.ensures.words) in
     let word = word_bytes c.word.result.now in
@@ -26,5 +26,5 @@ loop-w-preserved g c =
 pub returns : goal.returns
 returns g c =
     let f = keyed_fn g.K.Keyed.prf g.K.Keyed.pad in
-    let words = words_of c.args.docs.now in
+    let words = words_of c.args.docs.now.documents in
     c.loop-w.invariant ∙ ap (λ vs. tagged_from 0 (word_labels f c.args.master.now vs)) (take_all c.loop-w.w words (omega (arith, c.words-w-end.ensures.words, c.loop-w-test.false)))

@@ -12,16 +12,16 @@ use Rattle.keyed_fn.specs.KeyFormulas.{part_key, place_tag}
 use Rattle.two_level.specs.Plan.{plan, block_count}
 use Rattle.two_level.specs.Shape.{Shape}
 use Rattle.index_setup.specs.Entries.{block_tags}
-use Rattle.index_setup.specs.Tagged.{tagged_from}
+use Rattle.tag_order.specs.Tagged.{tagged_from}
 use Rattle.index_setup.proofs.TagLists.{tagged-flat_map_more, tagged-flat_map_room}
 use Rattle.index_setup.proofs.labels.tags_of.Goals as goal
 
 pub blocks_in-count-requires : goal.blocks_in-count-requires
 blocks_in-count-requires g c =
-    let s : Shape = record { b = c.args.shape.b; big = c.args.shape.big } in
-    let lengths = list_lengths c.args.docs.now in
+    let s : Shape = c.args.shape in
+    let lengths = list_lengths c.args.docs.now.documents in
     let w = c.loop-w.w in
-    let within : w < length lengths = omega (arith, length-map (words_of c.args.docs.now) (λ word. length (ids_with c.args.docs.now word)), c.words-w-end.ensures.words) in
+    let within : w < length lengths = omega (arith, length-map (words_of c.args.docs.now.documents) (λ word. length (ids_with c.args.docs.now.documents word)), c.words-w-end.ensures.words) in
     let is = get_or_from_slice_get lengths w c.list_len.result 0 c.list_len.ensures.length in
     record { some = c.list_len.ensures.some; planned = subst (λ n. IsSome (plan s n)) is (c.requires.planned w 0 within) }
 
@@ -36,8 +36,8 @@ counted s docs w n count within at is =
 
 pub push_tags-requires : goal.push_tags-requires
 push_tags-requires g c =
-    let s : Shape = record { b = c.args.shape.b; big = c.args.shape.big } in
-    let docs = c.args.docs.now in
+    let s : Shape = c.args.shape in
+    let docs = c.args.docs.now.documents in
     let w = c.loop-w.w in
     let within : w < length (words_of docs) = omega (arith, c.words-w-end.ensures.words) in
     let F = λ (v : List ℕ). map (place_tag (keyed_fn g.K.Keyed.prf g.K.Keyed.pad) (part_key (keyed_fn g.K.Keyed.prf g.K.Keyed.pad) c.args.master.now 6 v)) (range_with_len 0 (block_count (plan s (length (ids_with docs v))))) in
@@ -49,8 +49,8 @@ push_tags-requires g c =
 pub loop-w-preserved : goal.loop-w-preserved
 loop-w-preserved g c =
     let f = keyed_fn g.K.Keyed.prf g.K.Keyed.pad in
-    let s : Shape = record { b = c.args.shape.b; big = c.args.shape.big } in
-    let docs = c.args.docs.now in
+    let s : Shape = c.args.shape in
+    let docs = c.args.docs.now.documents in
     let w = c.loop-w.w in
     let words = words_of docs in
     let within : w < length words = omega (arith, c.words-w-end.ensures.words) in
@@ -68,6 +68,6 @@ loop-w-preserved g c =
 pub returns : goal.returns
 returns g c =
     let f = keyed_fn g.K.Keyed.prf g.K.Keyed.pad in
-    let words = words_of c.args.docs.now in
+    let words = words_of c.args.docs.now.documents in
     c.loop-w.invariant
-    ∙ ap (λ vs. tagged_from 0 (block_tags f c.args.master.now (record { b = c.args.shape.b; big = c.args.shape.big }) c.args.docs.now vs)) (take_all c.loop-w.w words (omega (arith, c.words-w-end.ensures.words, c.loop-w-test.false)))
+    ∙ ap (λ vs. tagged_from 0 (block_tags f c.args.master.now c.args.shape c.args.docs.now.documents vs)) (take_all c.loop-w.w words (omega (arith, c.words-w-end.ensures.words, c.loop-w-test.false)))

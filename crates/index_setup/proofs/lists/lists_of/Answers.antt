@@ -11,12 +11,12 @@ loop-i-init c =
     let zeros = c.in_ok-ids.ensures.items_if_clones_equal (λ y is. is) in
     record {
       most = omega (arith, ap length zeros, length-replicate {A = ℕ} c.total_of.result 0, c.total_of.ensures.most);
-      holds = HoldsLists-none c.args.docs.now c.in_ok-ids.ids.items c.in_ok-next.next.items (zeros ∙ ap (λ n. replicate n 0) c.total_of.ensures.total) c.in_ok-next.ensures;
+      holds = HoldsLists-none c.args.docs.now.documents c.in_ok-ids.ids.items c.in_ok-next.next.items (zeros ∙ ap (λ n. replicate n 0) c.total_of.ensures.total) c.in_ok-next.ensures;
     }
 
 pub loop-i-preserved : goal.loop-i-preserved
 loop-i-preserved c =
-    let docs = c.args.docs.now in
+    let docs = c.args.docs.now.documents in
     let ids = c.loop-i.ids in
     let next = c.loop-i.next in
     let new_ids = c.add_document.new.ids in
@@ -34,7 +34,7 @@ loop-i-preserved c =
 
 pub returns : goal.returns
 returns c =
-    let docs = c.args.docs.now in
+    let docs = c.args.docs.now.documents in
     HoldsLists-all docs c.loop-i.ids.items c.loop-i.next.items
     (subst (λ among. HoldsLists (list_lengths docs) (lists_among docs among) c.loop-i.ids.items c.loop-i.next.items)
     (take_all c.loop-i.i docs (omega (arith, c.len-i-end.ensures.len, c.loop-i-test.false))) c.loop-i.invariant.holds)

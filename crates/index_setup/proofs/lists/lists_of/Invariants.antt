@@ -7,5 +7,5 @@ use Rattle.index_setup.proofs.lists.lists_of.Given as goal
 abbrev pub invariant-loop-i : goal.invariant-loop-i
 invariant-loop-i l = record {
   most : length l.ids.items ≤ 2 ^ 20;
-  holds : HoldsLists (list_lengths l.docs) (lists_among l.docs (take l.i l.docs)) l.ids.items l.next.items;
+  holds : HoldsLists (list_lengths l.docs.documents) (lists_among l.docs.documents (take l.i l.docs.documents)) l.ids.items l.next.items;
 }

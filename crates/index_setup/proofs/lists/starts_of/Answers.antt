@@ -7,13 +7,13 @@ use Rattle.index_setup.proofs.lists.starts_of.Goals as goal
 
 pub overflow_add-start : goal.overflow_add-start
 overflow_add-start c =
-    let within : c.loop-w.w < length (words_of c.args.docs.now) = omega (arith, c.words-w-end.ensures.words) in
-    let most = sum_lengths-within c.args.docs.now c.words-w-end.ensures.valid c.loop-w.w c.list_len-start.result within c.list_len-start.ensures.length in
+    let within : c.loop-w.w < length (words_of c.args.docs.now.documents) = omega (arith, c.words-w-end.ensures.words) in
+    let most = sum_lengths-within c.args.docs.now.documents c.words-w-end.ensures.valid c.loop-w.w c.list_len-start.result within c.list_len-start.ensures.length in
     omega (arith, most, c.loop-w.invariant.start)
 
 pub loop-w-preserved : goal.loop-w-preserved
 loop-w-preserved c =
-    let docs = c.args.docs.now in
+    let docs = c.args.docs.now.documents in
     let lens = list_lengths docs in
     let w = c.loop-w.w in
     let within : w < length (words_of docs) = omega (arith, c.words-w-end.ensures.words) in
@@ -30,6 +30,6 @@ loop-w-preserved c =
 
 pub returns : goal.returns
 returns c =
-    let lens = list_lengths c.args.docs.now in
+    let lens = list_lengths c.args.docs.now.documents in
     c.loop-w.invariant.starts
-    ∙ ap (starts_from 0) (take_all c.loop-w.w lens (omega (arith, c.words-w-end.ensures.words, c.loop-w-test.false, length-map (words_of c.args.docs.now) (λ word. length (ids_with c.args.docs.now word)))))
+    ∙ ap (starts_from 0) (take_all c.loop-w.w lens (omega (arith, c.words-w-end.ensures.words, c.loop-w-test.false, length-map (words_of c.args.docs.now.documents) (λ word. length (ids_with c.args.docs.now.documents word)))))

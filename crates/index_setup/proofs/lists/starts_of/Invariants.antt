@@ -7,6 +7,6 @@ use Rattle.index_setup.proofs.lists.starts_of.Given as goal
 -- where the first w lists begin, and the next one
 abbrev pub invariant-loop-w : goal.invariant-loop-w
 invariant-loop-w l = record {
-  starts : l.starts.items ≡ starts_from 0 (take l.w (list_lengths l.docs));
-  start : l.start ≡ sum (take l.w (list_lengths l.docs));
+  starts : l.starts.items ≡ starts_from 0 (take l.w (list_lengths l.docs.documents));
+  start : l.start ≡ sum (take l.w (list_lengths l.docs.documents));
 }

@@ -5,4 +5,4 @@ use Rattle.index_setup.proofs.lists.total_of.Given as goal
 
 -- the identifiers of the first w lists
 abbrev pub invariant-loop-w : goal.invariant-loop-w
-invariant-loop-w l = l.sum ≡ sum (take l.w (list_lengths l.docs))
+invariant-loop-w l = l.sum ≡ sum (take l.w (list_lengths l.docs.documents))

@@ -10,5 +10,5 @@ abbrev pub invariant-loop-i : goal.invariant-loop-i
 invariant-loop-i g l = record {
   pads : l.pads ≡ block_name l.initial.pads.key l.i;
   array : parts (8 * l.shape.big) l.array ≡ placed (parts (8 * l.shape.big) l.initial.array) (take l.i l.ranks)
-      (take l.i (block_texts (keyed_fn g.K.Keyed.prf g.K.Keyed.pad) l.initial.pads.key (record { b = l.shape.b; big = l.shape.big }) l.ranks l.ids));
+      (take l.i (block_texts (keyed_fn g.K.Keyed.prf g.K.Keyed.pad) l.initial.pads.key l.shape l.ranks l.ids));
 }

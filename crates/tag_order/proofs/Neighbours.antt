@@ -10,9 +10,9 @@ use Rattle.client_registry.proofs.FirstClashLaws.{first_clash-append}
 use Rattle.client_registry.proofs.DistinctLaws.{AreEqualPlaces, IsDistinct-first_clash, first_clash-places, position-at}
 use Rattle.sse_frames.specs.Order.{is_below, insert_by, by_bytes}
 use Rattle.sse_frames.proofs.Sorted.{Ascends, Ascends-by_bytes, key_below, key_order, length-by_bytes}
-use Rattle.index_setup.specs.Tagged.{tagged_from}
-use Rattle.index_setup.specs.declared.tagged.Tagged.{Tagged}
-use Rattle.index_setup.proofs.Ranks.{key, pos, make, tied_equal, before, InOrder, InOrder-by_bytes, PositionsRise-tagged_from, all_at, sorted_tagged, IsPlaced, sorted-IsPlaced, length-tagged_from, get_or-tagged_from}
+use Rattle.tag_order.specs.Tagged.{tagged_from}
+use Rattle.tag_order.specs.declared.tagged.Tagged.{Tagged}
+use Rattle.tag_order.proofs.InOrder.{key, pos, make, tied_equal, before, InOrder, InOrder-by_bytes, PositionsRise-tagged_from, all_at, sorted_tagged, IsPlaced, sorted-IsPlaced, length-tagged_from, get_or-tagged_from}
 
 -- ---- the first clash has the least second place
 
@@ -28,7 +28,7 @@ some_clash : (xs : List (List ℕ)) (i j : ℕ) → AreEqualPlaces xs i j → (o
 some_clash xs i j equal None is = absurd (distinct_places xs i j (IsDistinct-first_clash xs is) equal)
 some_clash xs i j equal (Some c) is = (c, is)
 
--- where two places are equal there is a clash, whose second place isn't behind theirs
+-- where two places are equal there is a clash, whose second place isn't after theirs
 pub first_clash-least : (xs : List (List ℕ)) (i j : ℕ) → AreEqualPlaces xs i j → (c : ℕ × ℕ) × (first_clash xs ≡ Some c) × (c.1 ≤ j)
 first_clash-least xs i j equal =
     let front : List (List ℕ) = take (j + 1) xs in

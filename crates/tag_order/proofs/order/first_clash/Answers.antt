@@ -1,9 +1,9 @@
 use Rattle.std.proofs.Common.{◌≡◌, ◌≢◌, ◌-◌, ◌+◌, false, true, sym, subst, ◌∙◌, arith}
 use Rattle.std.proofs.lemmas.Slice.Eq.{bytes_eq-Decides}
-use Rattle.index_setup.proofs.FoundClash.{at, IsFound, IsFound-all, IsFound-equal, IsFound-apart}
-use Rattle.index_setup.proofs.Ranks.{key}
-use Rattle.index_setup.proofs.order.first_clash.Goals as goal
-use Rattle.index_setup.proofs.order.first_clash.Goals.{then-eq, else-eq}
+use Rattle.tag_order.proofs.FoundClash.{at, IsFound, IsFound-all, IsFound-equal, IsFound-apart}
+use Rattle.tag_order.proofs.InOrder.{key}
+use Rattle.tag_order.proofs.order.first_clash.Goals as goal
+use Rattle.tag_order.proofs.order.first_clash.Goals.{then-eq, else-eq}
 
 pub loop-k-init : goal.loop-k-init
 loop-k-init c = record { found = λ m low high. absurd (omega arith); most = omega arith }

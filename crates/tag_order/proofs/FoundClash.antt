@@ -4,10 +4,10 @@ use Rattle.std.specs.Prelude.{nat_lt}
 use Rattle.std.proofs.lemmas.Bool.{cases_lt, ltb-true, ltb-false}
 use Rattle.client_registry.specs.FirstClash.{first_clash}
 use Rattle.sse_frames.specs.Order.{by_bytes}
-use Rattle.index_setup.specs.Tagged.{tagged_from, least_second, IsOrderOf}
-use Rattle.index_setup.specs.declared.tagged.Tagged.{Tagged}
-use Rattle.index_setup.proofs.Ranks.{key, pos}
-use Rattle.index_setup.proofs.Neighbours.{no_clash, clash_is, length-order}
+use Rattle.tag_order.specs.Tagged.{tagged_from, least_second, IsOrderOf}
+use Rattle.tag_order.specs.declared.tagged.Tagged.{Tagged}
+use Rattle.tag_order.proofs.InOrder.{key, pos}
+use Rattle.tag_order.proofs.Neighbours.{no_clash, clash_is, length-order}
 
 abbrev pub nothing : Tagged
 nothing = record { tag = []; position = 0 }

@@ -1,6 +1,6 @@
 use Rattle.std.proofs.Common.{◌≤◌, ◌+◌, length}
-use Rattle.index_setup.proofs.FoundClash.{IsFound}
-use Rattle.index_setup.proofs.order.first_clash.Given as goal
+use Rattle.tag_order.proofs.FoundClash.{IsFound}
+use Rattle.tag_order.proofs.order.first_clash.Given as goal
 
 abbrev pub invariant-loop-k : goal.invariant-loop-k
 invariant-loop-k l = record {

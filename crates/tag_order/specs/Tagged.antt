@@ -1,7 +1,7 @@
--- Labels and place tags with their positions, and what is sorted by them.
+-- Tags with their positions, and what is sorted by them.
 use Rattle.std.specs.Prelude.{◌≡◌, ℕ, ◌+◌, List, [], ◌∷◌, Option, None, Some, nat_lt, if◌then◌else◌}
 use Rattle.sse_frames.specs.Order.{by_bytes}
-use Rattle.index_setup.specs.declared.tagged.Tagged.{Tagged}
+use Rattle.tag_order.specs.declared.tagged.Tagged.{Tagged}
 
 -- each tag with its position, the first at position i
 abbrev pub tagged_from : ℕ → List (List ℕ) → List Tagged
