@@ -38,7 +38,7 @@ use Rattle.sse_agreement.proofs.Numbers.{Contains-of_by_bytes}
 use Rattle.sse_agreement.proofs.Pairs.{Contains-of_map}
 use Rattle.sse_agreement.specs.Held.{HoldsAdditions}
 
--- behind a setup alone there are none
+-- after a setup alone there are none
 pub HoldsAdditions-setup : (t : Table) (epoch : ℕ) (s : Setup) → HoldsAdditions t epoch s [] finmap.empty
 HoldsAdditions-setup t epoch s = record {
   there = λ word c below. absurd (omega (arith, below));
@@ -102,7 +102,7 @@ module _ (t : Table) (o : Offsets) (s : Setup) (past : List Command) (d : Docume
       let from = entry_from e within in
       ap (λ (x : Entry). finmap.get additions x.label) from.2
       ∙ held.missing (t (label_of from.0)) (λ word c below same.
-      let one = told.apart (label_of from.0) (name o.epoch word PlusLabel c) (named from.0 from.1) (drawn_before o s past (Add d) (name o.epoch word PlusLabel c) (counted_is_drawn o s word c past below)) refl refl same in
+      let one = told.apart (label_of from.0) (name o.epoch word PlusLabel c) (named from.0 from.1) (drawn_before o s past (Add d) (name o.epoch word PlusLabel c) (counted_is_drawn o s word c past below)) refl refl refl same in
       omega (arith, below, ap (λ (n : Name). n.number) one, ap (λ (n : Name). counter s past n.word) one))))
       differ
 
@@ -112,7 +112,7 @@ module _ (t : Table) (o : Offsets) (s : Setup) (past : List Command) (d : Docume
       let now = added-fresh s past word d (list_any-from_Contains nat_list_eq_equiv word d.words own.0) (not-true (is_listed s past word d.id) own.1) in
       omega (arith, ap length now, length-append (added_list s past word) (d.id ∷ []))
 
-  -- behind it the additions of each word from 0 to its counter are there
+  -- after it the additions of each word from 0 to its counter are there
   pub HoldsAdditions-add : HoldsAdditions t o.epoch s (past ++ Add d ∷ []) (with_entries additions sorted)
   HoldsAdditions-add = record { there = there; missing = missing; enough = enough }
     where

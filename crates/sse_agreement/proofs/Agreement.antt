@@ -25,7 +25,7 @@ use Rattle.sse_model.specs.Wire.{frames_of_setup, acknowledgements, replies_of}
 use Rattle.sse_agreement.proofs.SetupTaken.{took_each}
 use Rattle.sse_agreement.proofs.Taking.{takes-none, takes-both, steps-taken}
 use Rattle.sse_agreement.proofs.Taken.{setup_held, command_held, search_held}
-use Rattle.sse_agreement.specs.Agreement.{expecting, frames_fed, fed, replies_by_frame, search_for, HistoriesTaken, ServerAgrees}
+use Rattle.sse_agreement.specs.Agreement.{frames_fed, fed, replies_by_frame, search_for, CommandsTaken, HistoriesTaken, ServerAgrees}
 use Rattle.sse_agreement.specs.Taking.{Takes}
 use Rattle.sse_agreement.specs.Held.{Holds}
 
@@ -57,27 +57,31 @@ module _ (f : KeyedFn) (laws : IsKeyedFn f) (keys : ℕ → List ℕ) (o : Offse
         subst (λ cs. Holds t o s cs rest.0) joined rest.2,
       )
 
--- on each run that is a history, under every key, where no compared values collide, a server takes all frames, replies
--- as the run says, and then holds what it leaves
+-- so does one that holds what a run leaves those of more commands
+pub commands_taken : CommandsTaken
+commands_taken f keys o run more start laws history free held = commands_held f laws keys o run.setup run.later more start history free held
+
+-- on each run that is a history, under every key, where no compared values collide, a server that expects its first frame takes
+-- all frames, replies as the run says, and then holds what it leaves
 pub histories_taken : HistoriesTaken
-histories_taken f keys o run laws history free =
+histories_taken f keys o run start laws history free expects =
     let s = run.setup in
     let t = table f s.shape keys in
-    let first = setup_held f laws keys o s (IsCollisionFree-front t o s [] run.later free) in
+    let first = setup_held f laws keys o s start expects (IsCollisionFree-front t o s [] run.later free) in
     let rest = commands_held f laws keys o s [] run.later first.0 history free first.2 in (
       rest.0,
-      subst (λ replies. Takes f (expecting o) (frames_fed t o run) rest.0 (replies ++ over (replies_of o s) [] run.later)) (each_acknowledged o.frame (frames_needed s))
-          (takes-both f (expecting o) first.0 rest.0 (frames_of_setup t o s) (flat_map (λ fs. fs) (over (frames_by t o s) [] run.later)) (took_each o.frame (frames_needed s)) (over (replies_of o s) [] run.later) first.1 rest.1),
+      subst (λ replies. Takes f start (frames_fed t o run) rest.0 (replies ++ over (replies_of o s) [] run.later)) (each_acknowledged o.frame (frames_needed s))
+          (takes-both f start first.0 rest.0 (frames_of_setup t o s) (flat_map (λ fs. fs) (over (frames_by t o s) [] run.later)) (took_each o.frame (frames_needed s)) (over (replies_of o s) [] run.later) first.1 rest.1),
       rest.2,
     )
 
 -- so the server that is sent the frames replies as the run says, holds what it leaves, and answers each search by what is shown
 pub server_agrees : ServerAgrees
-server_agrees f keys o run laws history free =
+server_agrees f keys o run start laws history free expects =
     let s = run.setup in
     let t = table f s.shape keys in
-    let all = histories_taken f keys o run laws history free in
-    let stepped : fed f t o run ≡ (all.0, replies_by_frame o run) = steps-taken f (expecting o) (frames_fed t o run) all.1.each ∙ all.1.leaves in
+    let all = histories_taken f keys o run start laws history free expects in
+    let stepped : fed f start t o run ≡ (all.0, replies_by_frame o run) = steps-taken f start (frames_fed t o run) all.1.each ∙ all.1.leaves in
     record {
       replies = ap (λ r. r.1) stepped;
       holds = subst (Holds t o s run.later) (sym (ap (λ r. r.0) stepped)) all.2;

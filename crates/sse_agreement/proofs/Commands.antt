@@ -18,7 +18,7 @@ use Rattle.client_registry.proofs.ShownLaws.{are_accepted}
 use Rattle.search_token.proofs.TokenLaws.{keys_of_bytes-token_of}
 use Rattle.search_token.specs.TokenKeys.{TokenKeys, token_keys, keys_of_bytes}
 use Rattle.server_core.specs.Refusal.{in_place, clash, is_next, first_of_two, clash_at}
-use Rattle.server_core.specs.Search.{found, setup_ids}
+use Rattle.server_core.specs.Search.{search_result, setup_ids}
 use Rattle.server_core.specs.State.{ServerState, is_ready}
 use Rattle.server_core.specs.Step.{taken, answers}
 use Rattle.sse_frames.specs.Frames.{FrameText, AddFrame, DeleteFrame}
@@ -67,10 +67,10 @@ module _ (f : KeyedFn) (laws : IsKeyedFn f) (keys : ℕ → List ℕ) (o : Offse
   -- A search.
 
   -- a search of a word that looks up no collision finds what the run shows
-  pub found-held : (past : List Command) (word : List ℕ) (state : ServerState) → IsHistory (run_of s past) → IsCollisionFree t o (run_of s (past ++ Search word ∷ [])) → Holds t o s past state
-      → found f state (keys_of_bytes (t (name o.epoch word Token 0))) ≡ Some (live.shown s past word)
-  found-held past word state history free held =
-      ap (found f state) (keys_of_bytes-token_of f laws (keys o.epoch) word)
+  pub search_result-held : (past : List Command) (word : List ℕ) (state : ServerState) → IsHistory (run_of s past) → IsCollisionFree t o (run_of s (past ++ Search word ∷ [])) → Holds t o s past state
+      → search_result f state (keys_of_bytes (t (name o.epoch word Token 0))) ≡ Some (live.shown s past word)
+  search_result-held past word state history free held =
+      ap (search_result f state) (keys_of_bytes-token_of f laws (keys o.epoch) word)
       ∙ searched-held f keys o s past history.each history.accepted word free (finmap.get state.dictionary) state.array state.additions state.revoked setup held.additions held.revoked
     where
       word_keys : TokenKeys
@@ -81,7 +81,7 @@ module _ (f : KeyedFn) (laws : IsKeyedFn f) (keys : ℕ → List ℕ) (o : Offse
           ap (λ (n : Name). n.word)
           (free (name o.epoch w ListLabel 0) (name o.epoch word ListLabel 0)
           (is_drawn f keys o s past history.each history.accepted word free (name o.epoch w ListLabel 0) (label_is_drawn o (run_of s past) w within))
-          (label_looked_up f keys o s past history.each history.accepted word free) refl refl same)
+          (label_looked_up f keys o s past history.each history.accepted word free) refl refl refl same)
 
       setup : setup_ids f word_keys (finmap.get state.dictionary) state.array ≡ Some (setup_list s word)
       setup = setup_ids-held f keys o.epoch s history.collected history.setup word state.dictionary state.array held.setup alone
@@ -153,4 +153,4 @@ module _ (f : KeyedFn) (laws : IsKeyedFn f) (keys : ℕ → List ℕ) (o : Offse
     answers-held (Add d) history free = refl
     answers-held (Delete id) history free = refl
     answers-held (Search word) history free =
-        ap (λ ids. option_map_or pages ids (BadList ∷ [])) (found-held past word state (IsHistory-front s past (Search word ∷ []) history) free held)
+        ap (λ ids. option_map_or pages ids (BadList ∷ [])) (search_result-held past word state (IsHistory-front s past (Search word ∷ []) history) free held)

@@ -20,7 +20,7 @@ use Rattle.server_core.specs.Refusal.{first_known}
 use Rattle.server_core.specs.Step.{with_entries}
 use Rattle.sse_model.proofs.Members.{Contains-head, Contains-cons, Contains-nil, Contains-cases}
 
--- Looking up behind one entry.
+-- Looking up after one entry.
 
 apart : (q k : List ℕ) → q ≢ k → eq_by_cmp (slice_cmp nat_cmp) q k ≡ false
 apart q k differ = is_eq-slice_cmp q k ∙ false_from_ne_true _ (λ h. differ ((bytes_eq-Decides q k).0 h))

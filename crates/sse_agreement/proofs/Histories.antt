@@ -10,51 +10,62 @@ use Rattle.client_registry.proofs.SizedLaws.{IsHistory-front}
 use Rattle.client_registry.specs.Acceptance.{frames_needed}
 use Rattle.client_registry.specs.Command.{Command, Add, Delete, Search, is_update}
 use Rattle.client_registry.specs.Documents.{has_word}
-use Rattle.client_registry.specs.Histories.{IsKept, shown_by, found_by, shown_in_turn, found_in_turn}
+use Rattle.client_registry.specs.Histories.{IsKept, longer, shown_by, found_by, shown_in_turn, found_in_turn}
 use Rattle.client_registry.specs.Live.{is_live_with, added_list, shown, in_order}
 use Rattle.client_registry.specs.Over.{over}
 use Rattle.client_registry.specs.Run.{Run, History, at_first}
 use Rattle.client_registry.specs.Setup.{Setup, setup_list}
 use Rattle.client_registry.specs.Sized.{IsHistory}
 use Rattle.sse_frames.specs.Exchange.{replied}
-use Rattle.sse_frames.specs.Replies.{Next, IsIdentifier}
+use Rattle.sse_frames.specs.Replies.{IsIdentifier}
 use Rattle.sse_model.proofs.Exchanging.{replied-setup, replied-commands}
-use Rattle.sse_model.proofs.HistoryLaws.{frames_sent-run}
 use Rattle.sse_model.proofs.Prefixes.{frames_by}
-use Rattle.sse_model.specs.Histories.{table_of, frames_sent, HasNoCollision}
+use Rattle.sse_model.specs.Histories.{table_of, frames_sent, frames_of_next, HasNoCollision}
 use Rattle.sse_model.specs.Names.{Table}
 use Rattle.sse_model.specs.Wire.{acknowledgements}
-use Rattle.server_core.specs.State as server
+use Rattle.server_core.specs.State.{ServerState}
 use Rattle.server_core.specs.Step.{steps}
-use Rattle.sse_agreement.proofs.Agreement.{server_agrees}
+use Rattle.sse_agreement.proofs.Agreement.{commands_taken, server_agrees}
 use Rattle.sse_agreement.proofs.Found.{shown_are_found}
 use Rattle.client_registry.proofs.LiveLaws.{counter-below}
 use Rattle.sse_model.proofs.Counts.{AllByRecursion-append}
 use Rattle.sse_agreement.proofs.Searching.{added_are_identifiers}
 use Rattle.sse_agreement.proofs.SetupShown.{ids_with-above, ids_with-fit}
-use Rattle.sse_agreement.specs.Agreement.{ShownAreFew, replies_by_frame}
+use Rattle.sse_agreement.proofs.Taking.{steps-taken}
+use Rattle.sse_agreement.specs.Agreement.{ShownAreFew, replies_by_frame, shown_behind}
+use Rattle.sse_agreement.specs.Held.{Holds}
+use Rattle.sse_agreement.specs.Taking.{Expects}
 
 -- What it replies.
 
--- to Hello that it expects the first update, and to the others as the history says
-pub replied-run : (f : KeyedFn) (keys : ℕ → List ℕ) (run : Run) → replied (shown_in_turn (Some run)) (frames_sent f keys (Some run)) ≡ (Next 0 ∷ []) ∷ replies_by_frame at_first run
+-- as the history says
+pub replied-run : (f : KeyedFn) (keys : ℕ → List ℕ) (run : Run) → replied (shown_in_turn (Some run)) (frames_sent f keys (Some run)) ≡ replies_by_frame at_first run
 replied-run f keys run =
     let t : Table = table_of f keys run in
-    let answers = shown_in_turn (Some run) in
-    ap (replied answers) (frames_sent-run f keys run)
-    ∙ ap (λ rest. (Next 0 ∷ []) ∷ rest)
-    (replied-setup t at_first run.setup answers (flat_map (λ frames. frames) (over (frames_by t at_first run.setup) [] run.later))
-    ∙ ap (λ rest. map (λ reply. reply ∷ []) (acknowledgements 0 (frames_needed run.setup)) ++ rest) (replied-commands t at_first run.setup [] run.later))
+    replied-setup t at_first run.setup (shown_in_turn (Some run)) (flat_map (λ frames. frames) (over (frames_by t at_first run.setup) [] run.later))
+    ∙ ap (λ rest. map (λ reply. reply ∷ []) (acknowledgements 0 (frames_needed run.setup)) ++ rest) (replied-commands t at_first run.setup [] run.later)
 
--- a server that has taken nothing, and is sent the frames of a history without collisions, replies to them with what the
--- history's searches show
-pub replies_agree : (f : KeyedFn) (keys : ℕ → List ℕ) (h : History) → IsKeyedFn f → IsKept h → HasNoCollision f keys h
-    → (steps f server.at_first (frames_sent f keys h)).1 ≡ replied (shown_in_turn h) (frames_sent f keys h)
-replies_agree f keys None laws kept free = refl
-replies_agree f keys (Some run) laws kept free =
-    ap (λ frames. (steps f server.at_first frames).1) (frames_sent-run f keys run)
-    ∙ ap (λ replies. (Next 0 ∷ []) ∷ replies) (server_agrees f keys at_first run laws kept.0 free).replies
-    ∙ sym (replied-run f keys run)
+-- a server that expects the first frame of a history without collisions, whatever else it holds, and is sent its frames, replies
+-- to them with what the history's searches show
+pub replies_agree : (f : KeyedFn) (keys : ℕ → List ℕ) (h : History) (start : ServerState) → IsKeyedFn f → IsKept h → HasNoCollision f keys h → Expects 0 start
+    → (steps f start (frames_sent f keys h)).1 ≡ replied (shown_in_turn h) (frames_sent f keys h)
+replies_agree f keys None start laws kept free expects = refl
+replies_agree f keys (Some run) start laws kept free expects =
+    (server_agrees f keys at_first run start laws kept.0 free expects).replies ∙ sym (replied-run f keys run)
+
+-- and then holds what the history leaves
+pub history_held : (f : KeyedFn) (keys : ℕ → List ℕ) (run : Run) (start : ServerState) → IsKeyedFn f → IsKept (Some run) → HasNoCollision f keys (Some run) → Expects 0 start
+    → Holds (table_of f keys run) at_first run.setup run.later (steps f start (frames_sent f keys (Some run))).0
+history_held f keys run start laws kept free expects = (server_agrees f keys at_first run start laws kept.0 free expects).holds
+
+-- one that holds what a run leaves replies to the frames of more commands with what the searches among them show
+pub replies_behind : (f : KeyedFn) (keys : ℕ → List ℕ) (run : Run) (more : List Command) (start : ServerState) → IsKeyedFn f → IsKept (longer more (Some run)) → HasNoCollision f keys (longer more (Some run))
+    → Holds (table_of f keys run) at_first run.setup run.later start
+    → (steps f start (frames_of_next f keys (Some run) more)).1 ≡ replied (shown_behind run more) (frames_of_next f keys (Some run) more)
+replies_behind f keys run more start laws kept free held =
+    let all = commands_taken f keys at_first run more start laws kept.0 free held in
+    ap (λ r. r.1) (steps-taken f start (frames_of_next f keys (Some run) more) all.1.each ∙ all.1.leaves)
+    ∙ sym (replied-commands (table_of f keys run) at_first run.setup run.later more)
 
 -- What is shown.
 

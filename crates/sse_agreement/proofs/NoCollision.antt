@@ -27,14 +27,14 @@ use Rattle.sse_model.proofs.Prefixes.{run_of}
 use Rattle.sse_model.proofs.SealedEntries.{AllDiffer-words}
 use Rattle.sse_model.proofs.SentNumbers.{are_accepted-push, drawn_before, added_is_drawn, relisted_is_drawn, deleted_is_drawn}
 use Rattle.sse_model.specs.Compared.{Labels, Places, Numbers, positions_of, equal_among, collision_of_numbers, collision_of}
-use Rattle.sse_model.specs.Drawn.{drawn, probed, is_compared, IsCollisionFree}
-use Rattle.sse_model.specs.Histories.{table_of, collision_of_first, collision_behind, HasNoCollision}
+use Rattle.sse_model.specs.Drawn.{drawn, probed, is_compared, AreToldApart, IsCollisionFree}
+use Rattle.sse_model.specs.Histories.{table_of, collision_of_first, collision_of_next, HasNoCollision}
 use Rattle.sse_model.specs.Names.{Name, Kind, name, PlusLabel, Revocation, class_of, Table, table}
 use Rattle.sse_model.specs.Positions.{fresh_words}
 use Rattle.sse_model.specs.Wire.{words_live}
 use Rattle.sse_agreement.proofs.Counted.{addition_position}
 use Rattle.sse_agreement.proofs.Ranks.{places_apart}
-use Rattle.sse_agreement.proofs.Tags.{AreToldApart, labels_differ, tags_differ}
+use Rattle.sse_agreement.proofs.Tags.{labels_differ, tags_differ}
 
 -- a table without collisions tells apart what is drawn
 AreToldApart-drawn : (t : Table) (o : Offsets) (run : Run) → IsCollisionFree t o run → AreToldApart t (joined (drawn o run))
@@ -93,7 +93,7 @@ module _ (t : Table) (o : Offsets) (s : Setup) (past : List Command) (c : Comman
       equal_among-none keep (λ w. t (name o.epoch w kind (number w))) words
       (AllDiffer-words (λ w. t (name o.epoch w kind (number w))) (filter keep words) (IsDistinct-filter bytes_eq bytes_decides keep words distinct)
       (λ v w first second same. ap (λ (n : Name). n.word)
-      (AreToldApart-drawn t o (run_of s (past ++ c ∷ [])) free (name o.epoch v kind (number v)) (name o.epoch w kind (number w)) (here v first) (here w second) (class v w) (compared v) same)))
+      (AreToldApart-drawn t o (run_of s (past ++ c ∷ [])) free (name o.epoch v kind (number v)) (name o.epoch w kind (number w)) (here v first) (here w second) refl (class v w) (compared v) same)))
 
   -- so no two numbers that it sends of different words with one identifier are equal
   numbers-none : (id : ℕ) (keep : List ℕ → Bool) (words : List (List ℕ)) → IsDistinct bytes_eq words → ((w : List ℕ) → Contains (filter keep words) w → Contains names (name o.epoch w Revocation id))
@@ -123,8 +123,8 @@ collision_of-none t o s past (Delete id) history free =
 collision_of-none t o s past (Search word) history free = refl
 
 -- a command that leaves a history without collisions has no two equal values that have to differ
-pub collision_behind-none : (f : KeyedFn) (keys : ℕ → List ℕ) (h : History) (c : Command) → IsKept (longer (c ∷ []) h) → HasNoCollision f keys (longer (c ∷ []) h)
-    → collision_behind f keys h (c ∷ []) ≡ None
-collision_behind-none f keys None c kept free = refl
-collision_behind-none f keys (Some run) c kept free =
+pub collision_of_next-none : (f : KeyedFn) (keys : ℕ → List ℕ) (h : History) (c : Command) → IsKept (longer (c ∷ []) h) → HasNoCollision f keys (longer (c ∷ []) h)
+    → collision_of_next f keys h (c ∷ []) ≡ None
+collision_of_next-none f keys None c kept free = refl
+collision_of_next-none f keys (Some run) c kept free =
     ap (λ o. option_or o None) (collision_of-none (table_of f keys run) at_first run.setup run.later c kept.0 free)

@@ -1,4 +1,4 @@
--- Which pairs are listed and live behind one command more, and which numbers a command sends.
+-- Which pairs are listed and live after one command more, and which numbers a command sends.
 use Rattle.std.proofs.Common.{◌≡◌, ℕ, Bool, true, false, cond, not, ◌&&◌, ◌||◌, List, [], ◌∷◌, ◌++◌, map, filter, refl, sym, ap, ◌∙◌, ⊎_elim, eqb-true}
 use Rattle.std.specs.Prelude.{Contains, ◌==◌, bytes_eq, if◌then◌else◌}
 use Rattle.std.specs.List.{list_any}
@@ -45,7 +45,7 @@ module _ (s : Setup) (past : List Command) (word : List ℕ) (id : ℕ) where
   pub listed-search : (other : List ℕ) → is_listed s (past ++ Search other ∷ []) word id ≡ is_listed s past word id
   listed-search other = listed-push (Search other) ∙ or_nothing (holds_pair s.documents word id) (list_any (adds_pair word id) past)
 
-  -- an addition's pairs are live behind it
+  -- an addition's pairs are live after it
   pub live_with-add : (d : Document) → is_live_with s (past ++ Add d ∷ []) word id ≡ (is_live_with s past word id || (d.id == id && has_word word d))
   live_with-add d =
       ap (λ docs. holds_pair docs word id) (live-push s.documents past (Add d))

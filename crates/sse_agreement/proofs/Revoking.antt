@@ -32,7 +32,7 @@ use Rattle.sse_agreement.proofs.Numbers.{with_numbers-kept, with_numbers-there, 
 use Rattle.sse_agreement.proofs.Pairs.{listed-add, listed-delete, listed-search, live_with-add, live_with-delete, live_with-search, is_live-holds_pair, list_any-words_live, number_within, number_of}
 use Rattle.sse_agreement.specs.Held.{IsOfDeadPair, HoldsRevoked}
 
--- behind a setup alone nothing is revoked
+-- after a setup alone nothing is revoked
 pub HoldsRevoked-setup : (t : Table) (epoch : ℕ) (s : Setup) → HoldsRevoked t epoch s [] set.empty
 HoldsRevoked-setup t epoch s = record {
   there = λ word id listed dead. absurd (true≢false (sym listed ∙ alone (holds_pair s.documents word id) dead));
@@ -84,7 +84,7 @@ module _ (t : Table) (o : Offsets) (s : Setup) (past : List Command) (d : Docume
       let listed = (Contains-of_filter (λ w. is_listed s past w d.id) d.words from.0 from.1).1 in
       ap (λ q. not (set.contains revoked q)) from.2 ∙ ap not (held.there from.0 d.id listed (dead_before from.0)))
 
-  -- behind it the numbers of dead pairs are revoked
+  -- after it the numbers of dead pairs are revoked
   pub HoldsRevoked-add : IsTold s.shape t (joined (drawn o (run_of s (past ++ Add d ∷ [])))) → HoldsRevoked t o.epoch s (past ++ Add d ∷ []) (without_numbers revoked restored)
   HoldsRevoked-add told = record { there = there; only = only }
     where
@@ -100,7 +100,7 @@ module _ (t : Table) (o : Offsets) (s : Setup) (past : List Command) (d : Docume
           let own = Contains-of_filter (λ w. is_listed s past w d.id) d.words from.0 from.1 in
           let same = told.apart (name o.epoch word Revocation id) (name o.epoch from.0 Revocation d.id)
           (dead_is_drawn o s past (Add d) word id accepted before parts.0)
-          (drawn_before o s past (Add d) (name o.epoch from.0 Revocation d.id) (relisted_is_drawn o s past d from.0 accepted ok from.1)) refl refl from.2 in
+          (drawn_before o s past (Add d) (name o.epoch from.0 Revocation d.id) (relisted_is_drawn o s past d from.0 accepted ok from.1)) refl refl refl from.2 in
           let has : has_word word d ≡ true = ap (λ (n : Name). has_word n.word d) same ∙ list_any-from_Contains nat_list_eq_equiv from.0 d.words own.0 in
           let id_is : (d.id == id) ≡ true = ap (λ (n : Name). d.id == n.number) same ∙ nat_eq_equiv.refl d.id in
           true≢false (sym (and_from (d.id == id) (has_word word d) id_is has) ∙ parts.1)))
@@ -143,10 +143,10 @@ module _ (t : Table) (o : Offsets) (s : Setup) (past : List Command) (id : ℕ) 
       false_from_ne_true (set.contains revoked n) (λ inside.
       let pair = held.only n inside in
       let same = told.apart (name o.epoch from.0 Revocation id) (name o.epoch pair.word Revocation pair.id)
-      (deleted_is_drawn o s past id from.0 accepted from.1) (dead_is_drawn o s past (Delete id) pair.word pair.id accepted pair.listed pair.dead) refl refl (sym from.2 ∙ pair.same) in
+      (deleted_is_drawn o s past id from.0 accepted from.1) (dead_is_drawn o s past (Delete id) pair.word pair.id accepted pair.listed pair.dead) refl refl refl (sym from.2 ∙ pair.same) in
       true≢false (sym (is_live_word from.0 from.1) ∙ ap (λ (m : Name). is_live_with s past m.word m.number) same ∙ pair.dead)))
 
-  -- behind it the numbers of dead pairs are revoked
+  -- after it the numbers of dead pairs are revoked
   pub HoldsRevoked-delete : HoldsRevoked t o.epoch s (past ++ Delete id ∷ []) (with_numbers revoked sent)
   HoldsRevoked-delete = record { there = there; only = only }
     where

@@ -13,7 +13,7 @@ use Rattle.keyed_fn.specs.ToyLaws.{length-toy_prf, All-toy_prf, length-toy_pad, 
 use Rattle.client_registry.specs.DocumentRule.{IsDocument}
 use Rattle.client_registry.specs.Setup.{setup_of}
 use Rattle.client_registry.specs.Command.{Add, Delete, Search}
-use Rattle.client_registry.specs.Run.{Run, at_first}
+use Rattle.client_registry.specs.Run.{Run, Offsets, at_first}
 use Rattle.client_registry.specs.Sized.{IsHistory, IsSizedCommand}
 use Rattle.client_registry.specs.WordRule.{word_refusal}
 use Rattle.sse_frames.specs.Replies.{Took, Page, BadList}
@@ -21,14 +21,15 @@ use Rattle.sse_model.proofs.CollisionTest.{IsCollisionFree-from_test}
 use Rattle.sse_model.specs.Drawn.{IsCollisionFree}
 use Rattle.sse_model.specs.Names.{Table, table}
 use Rattle.sse_frames.specs.Frames.{Entry, FrameText, SetupBegin, SetupDict, SetupEnd, AddFrame, DeleteFrame, SearchFrame}
+use Rattle.server_core.specs.State as server
 use Rattle.server_core.specs.State.{ServerState}
 use Rattle.server_core.specs.Step.{taken, steps}
 use Rattle.sse_agreement.proofs.Agreement.{server_agrees}
 use Rattle.sse_agreement.proofs.Taking.{steps-taken}
-use Rattle.sse_agreement.specs.Agreement.{expecting, frames_fed, fed, Agrees}
+use Rattle.sse_agreement.specs.Agreement.{frames_fed, fed, Agrees}
 use Rattle.sse_agreement.specs.Taking.{AreInOrder}
 use Rattle.server_core.specs.Refusal.{in_place, clash}
-use Rattle.server_core.specs.Search.{found}
+use Rattle.server_core.specs.Search.{search_result}
 use Rattle.search_token.specs.TokenKeys.{keys_of_bytes}
 use Rattle.sse_frames.specs.Sending.{pages}
 use Rattle.std.specs.Option.{option_map_or}
@@ -36,6 +37,10 @@ use lib.Utf8.{encode}
 
 abbrev toy : KeyedFn
 toy = keyed_fn toy_prf toy_pad
+
+-- a server that has taken nothing
+abbrev empty : ServerState
+empty = server.at_first
 
 -- document 1 with the word `a`, then searches for `a` and `c`
 abbrev short : Run
@@ -48,7 +53,7 @@ abbrev values : Table
 values = table toy short.setup.shape (λ epoch. replicate 32 0)
 
 -- three frames are acknowledged, then `a` is found in document 1 and `c` in none
-replies_of_short : (fed toy values at_first short).1 ≡ (Took 0 ∷ []) ∷ (Took 1 ∷ []) ∷ (Took 2 ∷ []) ∷ (Page true (1 ∷ []) ∷ []) ∷ (Page true [] ∷ []) ∷ []
+replies_of_short : (fed toy empty values at_first short).1 ≡ (Took 0 ∷ []) ∷ (Took 1 ∷ []) ∷ (Took 2 ∷ []) ∷ (Page true (1 ∷ []) ∷ []) ∷ (Page true [] ∷ []) ∷ []
 replies_of_short = simp (map.gets, set.members)
 
 -- what the law supposes of a run holds of this one
@@ -82,8 +87,31 @@ short_is_history = record {
 short_is_free : IsCollisionFree values at_first short
 short_is_free = IsCollisionFree-from_test values at_first short refl
 
-short_agrees : Agrees toy values at_first short
-short_agrees = server_agrees toy (λ epoch. replicate 32 0) at_first short toy_laws short_is_history short_is_free
+short_agrees : Agrees toy empty values at_first short
+short_agrees = server_agrees toy (λ epoch. replicate 32 0) at_first short empty toy_laws short_is_history short_is_free (record { next = refl; stage = refl })
+
+-- and from another state, whose next update has the number 7 and whose tables aren't empty
+abbrev from_7 : Offsets
+from_7 = record { epoch = 0; command = 0; frame = 7 }
+
+abbrev full : ServerState
+full = record empty {
+  next = 7;
+  words = 5;
+  blocks = 2;
+  shape = record { b = 3; big = 9 };
+  dictionary = map.insert map.empty (replicate 16 1) (replicate 25 2);
+  array = replicate 72 3 ∷ [];
+  additions = map.insert map.empty (replicate 16 4) (replicate 8 5);
+  revoked = set.insert set.empty (replicate 16 6);
+}
+
+short_agrees_from_7 : Agrees toy full values from_7 short
+short_agrees_from_7 = server_agrees toy (λ epoch. replicate 32 0) from_7 short full toy_laws short_is_history (IsCollisionFree-from_test values from_7 short refl) (record { next = refl; stage = refl })
+
+-- its acknowledgements are of 7, 8 and 9, and the answers are the same
+replies_from_7 : (fed toy full values from_7 short).1 ≡ (Took 7 ∷ []) ∷ (Took 8 ∷ []) ∷ (Took 9 ∷ []) ∷ (Page true (1 ∷ []) ∷ []) ∷ (Page true [] ∷ []) ∷ []
+replies_from_7 = short_agrees_from_7.replies
 
 -- Updates.
 
@@ -131,7 +159,7 @@ frames_of_renewed = refl
 
 -- the states of a server that takes them
 abbrev begun : ServerState
-begun = taken (expecting at_first) (SetupBegin 0 1 1 1 0)
+begun = taken empty (SetupBegin 0 1 1 1 0)
 
 abbrev filled : ServerState
 filled = taken begun (SetupDict 1 9 (entry ∷ []))
@@ -148,8 +176,8 @@ deleted = taken added (DeleteFrame 4 (number ∷ []))
 abbrev added_again : ServerState
 added_again = taken deleted (AddFrame 5 (other_addition ∷ []) (number ∷ []))
 
--- each is in order behind those before it
-renewed_in_order : AreInOrder (expecting at_first) frames
+-- each is in order after those before it
+renewed_in_order : AreInOrder empty frames
 renewed_in_order = (
   record { next = refl; stage = refl; clash = refl },
   (
@@ -189,15 +217,15 @@ renewed_in_order = (
     addition_and_number = simp (map.gets, set.members)
 
 -- `a` is found in both documents
-found_row : found toy added_again (keys_of_bytes token) ≡ Some (1 ∷ 5 ∷ [])
+found_row : search_result toy added_again (keys_of_bytes token) ≡ Some (1 ∷ 5 ∷ [])
 found_row = simp (map.gets, set.members)
 
 -- so six update frames are acknowledged, and the search is answered by both
-replies_of_renewed : (fed toy values at_first renewed).1
+replies_of_renewed : (fed toy empty values at_first renewed).1
     ≡ (Took 0 ∷ []) ∷ (Took 1 ∷ []) ∷ (Took 2 ∷ []) ∷ (Took 3 ∷ []) ∷ (Took 4 ∷ []) ∷ (Took 5 ∷ []) ∷ (Page true (1 ∷ 5 ∷ []) ∷ []) ∷ []
 replies_of_renewed =
-    ap (λ fs. (steps toy (expecting at_first) fs).1) frames_of_renewed
-    ∙ ap (λ r. r.1) (steps-taken toy (expecting at_first) frames renewed_in_order)
+    ap (λ fs. (steps toy empty fs).1) frames_of_renewed
+    ∙ ap (λ r. r.1) (steps-taken toy empty frames renewed_in_order)
     ∙ ap (λ ids. (Took 0 ∷ []) ∷ (Took 1 ∷ []) ∷ (Took 2 ∷ []) ∷ (Took 3 ∷ []) ∷ (Took 4 ∷ []) ∷ (Took 5 ∷ []) ∷ option_map_or pages ids (BadList ∷ []) ∷ []) found_row
 
 -- what the law supposes of the values holds of this run

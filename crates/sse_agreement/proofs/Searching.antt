@@ -28,7 +28,7 @@ use Rattle.client_registry.specs.Run.{Run, Offsets}
 use Rattle.client_registry.specs.Setup.{Setup, setup_list}
 use Rattle.client_registry.specs.Sized.{IsSizedCommand}
 use Rattle.search_token.specs.TokenKeys.{TokenKeys, token_keys}
-use Rattle.server_core.specs.Search.{added_at, added_from, setup_ids, shown, searched}
+use Rattle.server_core.specs.Search.{added_at, added_from, setup_ids, unrevoked, searched}
 use Rattle.server_tables.specs.Contents.{CellMap, NumberSet}
 use Rattle.sse_frames.specs.Frames.{be64}
 use Rattle.sse_frames.specs.Replies.{IsIdentifier}
@@ -113,7 +113,7 @@ module _ (f : KeyedFn) (keys : ℕ → List ℕ) (o : Offsets) (s : Setup) (cs :
   abbrev revocation_names : List Name
   revocation_names = map (λ id. name o.epoch word Revocation id) (setup_list s word ++ added_list s cs word)
 
-  -- the label of the list is looked up, that of the addition behind the last one, and the number of each listed pair
+  -- the label of the list is looked up, that of the addition after the last one, and the number of each listed pair
   pub label_looked_up : Contains names (name o.epoch word ListLabel 0)
   label_looked_up = is_looked_up (name o.epoch word ListLabel 0) (Contains-head (name o.epoch word ListLabel 0) (plus_names ++ revocation_names))
 
@@ -137,7 +137,7 @@ module _ (f : KeyedFn) (keys : ℕ → List ℕ) (o : Offsets) (s : Setup) (cs :
     at_last : finmap.get additions (t (name o.epoch word PlusLabel (counter s cs word))) ≡ None
     at_last =
         held.missing (t (name o.epoch word PlusLabel (counter s cs word))) (λ w c below same.
-        let one = free (name o.epoch word PlusLabel (counter s cs word)) (name o.epoch w PlusLabel c) next_looked_up (is_drawn (name o.epoch w PlusLabel c) (counted_is_drawn o s w c cs below)) refl refl same in
+        let one = free (name o.epoch word PlusLabel (counter s cs word)) (name o.epoch w PlusLabel c) next_looked_up (is_drawn (name o.epoch w PlusLabel c) (counted_is_drawn o s w c cs below)) refl refl refl same in
         omega (arith, below, ap (λ (n : Name). n.number) one, ap (λ (n : Name). counter s cs n.word) one))
 
     decrypted : (c id : ℕ) (later : Option (List ℕ)) → IsIdentifier id
@@ -179,7 +179,7 @@ module _ (f : KeyedFn) (keys : ℕ → List ℕ) (o : Offsets) (s : Setup) (cs :
         (false_from_ne_true (set.contains revoked (t (name o.epoch word Revocation id))) (λ inside.
         let pair = held.only (t (name o.epoch word Revocation id)) inside in
         let one = free (name o.epoch word Revocation id) (name o.epoch pair.word Revocation pair.id) (number_looked_up id within)
-        (is_drawn (name o.epoch pair.word Revocation pair.id) (sent_is_drawn o s pair.word pair.id cs accepted (listed_dead_was_sent s pair.word pair.id cs pair.listed pair.dead))) refl refl pair.same in
+        (is_drawn (name o.epoch pair.word Revocation pair.id) (sent_is_drawn o s pair.word pair.id cs accepted (listed_dead_was_sent s pair.word pair.id cs pair.listed pair.dead))) refl refl refl pair.same in
         true≢false (sym living ∙ ap (λ (n : Name). is_live_with s cs n.word n.number) one ∙ pair.dead)))
         ∙ sym living)
         (λ (dead : is_live_with s cs word id ≡ false).
@@ -187,8 +187,8 @@ module _ (f : KeyedFn) (keys : ℕ → List ℕ) (o : Offsets) (s : Setup) (cs :
         (cases_Bool (is_live_with s cs word id))
 
     -- what a server shows of the listed identifiers is what is live
-    pub shown-held : shown f word_keys (set.contains revoked) (setup_list s word ++ added_list s cs word) ≡ live.shown s cs word
-    shown-held =
+    pub unrevoked-held : unrevoked f word_keys (set.contains revoked) (setup_list s word ++ added_list s cs word) ≡ live.shown s cs word
+    unrevoked-held =
         filter-alike (λ id. not (set.contains revoked (revocation f word_keys.revocation_key id))) (is_live_with s cs word) (setup_list s word ++ added_list s cs word)
         (AllByRecursion-from_members (λ id. not (set.contains revoked (t (name o.epoch word Revocation id))) ≡ is_live_with s cs word id) (setup_list s word ++ added_list s cs word) alike)
 
@@ -198,7 +198,7 @@ module _ (f : KeyedFn) (keys : ℕ → List ℕ) (o : Offsets) (s : Setup) (cs :
       → HoldsAdditions t o.epoch s cs additions → HoldsRevoked t o.epoch s cs revoked
       → searched f word_keys cell array (finmap.get additions) (finmap.len additions) (set.contains revoked) ≡ Some (live.shown s cs word)
   searched-held cell array additions revoked setup added dead =
-      let all = λ (first later : List ℕ). shown f word_keys (set.contains revoked) (first ++ later) in
+      let all = λ (first later : List ℕ). unrevoked f word_keys (set.contains revoked) (first ++ later) in
       ap (option_and_then (λ first. option_map (all first) (added_from f word_keys (finmap.get additions) 0 (finmap.len additions)))) setup
       ∙ ap (option_map (all (setup_list s word))) (added_from-held additions added (finmap.len additions) 0 (omega arith) (omega (arith, added.enough word)))
-      ∙ ap (λ ids. Some ids) (shown-held revoked dead)
+      ∙ ap (λ ids. Some ids) (unrevoked-held revoked dead)

@@ -22,16 +22,16 @@ use Rattle.server_core.proofs.Laws.{with_entries-append}
 use Rattle.server_core.specs.declared.stage.Stage.TheVariants.{Filling, Ready}
 use Rattle.server_tables.specs.Contents.{CellMap}
 use Rattle.server_core.specs.Refusal.{clash_at}
-use Rattle.server_core.specs.State.{ServerState, at_first}
+use Rattle.server_core.specs.State.{ServerState}
 use Rattle.server_core.specs.Step.{with_entries}
 use Rattle.sse_model.proofs.Counts.{length-numbered}
 use Rattle.sse_agreement.proofs.Taking.{takes-none, takes-cons, takes-both}
-use Rattle.sse_agreement.specs.Taking.{IsInOrder, Takes}
+use Rattle.sse_agreement.specs.Taking.{Expects, IsInOrder, Takes}
 use Rattle.sse_agreement.proofs.Dictionary.{AreNew, AreNew-parts, first_known-new, len-new, AreNew-by_bytes}
 
 -- Frames by their number.
 
--- frames and others behind them, numbered
+-- frames and others after them, numbered
 pub numbered-append : {X : Type 0} (q : ℕ) (fs gs : List (ℕ → X)) → numbered q (fs ++ gs) ≡ numbered q fs ++ numbered (q + length fs) gs
 numbered-append q [] gs = let e : q ≡ q + 0 = omega arith in ap (λ n. numbered n gs) e
 numbered-append q (f ∷ fs) gs =
@@ -138,7 +138,7 @@ array_in_order shape words blocks next m array part full fits = record {
   clash = refl;
 }
 
--- so are the parts of an array, behind a whole dictionary
+-- so are the parts of an array, after a whole dictionary
 arrays_taken : (f : KeyedFn) (shape : Shape) (words blocks : ℕ) (m : CellMap) (list : List (List Entry)) (next : ℕ) (array : List (List ℕ))
     → finmap.len m ≡ words → length array + length (flat_map (λ part. part) list) ≤ blocks
     → Takes f (filling shape words blocks next m array) (numbered next (map (array_part shape) list))
@@ -161,8 +161,8 @@ arrays_taken f shape words blocks m (part ∷ list) next array full fits =
 
 -- The whole setup.
 
-begin_in_order : (q b big m a : ℕ) → IsInOrder (record at_first { next = q }) (SetupBegin q b big m a)
-begin_in_order q b big m a = record { next = nat_eq_equiv.refl q; stage = refl; clash = refl }
+begin_in_order : (s : ServerState) (q b big m a : ℕ) → Expects q s → IsInOrder s (SetupBegin q b big m a)
+begin_in_order s q b big m a expects = record { next = is_number q s.next (sym expects.next); stage = expects.stage; clash = refl }
 
 end_in_order : (shape : Shape) (words blocks q : ℕ) (m : CellMap) (array : List (List ℕ)) → finmap.len m ≡ words → length array ≡ blocks → IsInOrder (filling shape words blocks q m array) (SetupEnd q)
 end_in_order shape words blocks q m array full whole = record {
@@ -171,17 +171,17 @@ end_in_order shape words blocks q m array full whole = record {
   clash = refl;
 }
 
--- a server that expects the first frame of a setup takes all its frames: its dictionary has the entries, its array the
--- blocks by rising label
-pub setup_taken : (f : KeyedFn) (q : ℕ) (shape : Shape) (entries blocks : List Entry) → AllDiffer (labels_of entries)
-    → Takes f (record at_first { next = q }) (setup_frames q shape entries blocks)
+-- a server that expects the first frame of a setup takes all its frames, whatever it held: its dictionary has the entries, its
+-- array the blocks by rising label
+pub setup_taken : (f : KeyedFn) (start : ServerState) (q : ℕ) (shape : Shape) (entries blocks : List Entry) → Expects q start → AllDiffer (labels_of entries)
+    → Takes f start (setup_frames q shape entries blocks)
     (filled shape (length entries) (length blocks) (q + length (setup_frames q shape entries blocks)) (with_entries finmap.empty (by_bytes (λ entry. entry.label) entries)) (map (λ block. block.text) (by_bytes (λ block. block.label) blocks)))
     (took_each q (length (setup_frames q shape entries blocks)))
-setup_taken f q shape entries blocks differ =
+setup_taken f start q shape entries blocks expects differ =
     subst (λ (m : ℕ). Takes f start (setup_frames q shape entries blocks) (filled shape words count (q + m) dictionary array) (took_each q m)) (sym length_is)
     (subst (λ fs. Takes f start (SetupBegin q shape.b shape.big words count ∷ fs) (filled shape words count (q + suc (n + k + 1)) dictionary array) (took_each q (suc (n + k + 1)))) (sym frames)
     (takes-cons f start (filling shape words count (q + 1) finmap.empty []) (filled shape words count (q + suc (n + k + 1)) dictionary array) (SetupBegin q shape.b shape.big words count)
-    (numbered (q + 1) dicts ++ numbered (q + 1 + n) arrays ++ SetupEnd (q + 1 + n + k) ∷ []) (Took q ∷ []) (took_each (q + 1) (n + k + 1)) (begin_in_order q shape.b shape.big words count) refl refl
+    (numbered (q + 1) dicts ++ numbered (q + 1 + n) arrays ++ SetupEnd (q + 1 + n + k) ∷ []) (Took q ∷ []) (took_each (q + 1) (n + k + 1)) (begin_in_order start q shape.b shape.big words count expects) (ap (λ next. filling shape words count (next + 1) finmap.empty []) expects.next) refl
     (subst (Takes f (filling shape words count (q + 1) finmap.empty []) (numbered (q + 1) dicts ++ numbered (q + 1 + n) arrays ++ SetupEnd (q + 1 + n + k) ∷ []) (filled shape words count (q + suc (n + k + 1)) dictionary array))
     (sym (took_each-push (q + 1) (n + k)))
     (takes-both f (filling shape words count (q + 1) finmap.empty []) (filling shape words count (q + 1 + n + k) dictionary array) (filled shape words count (q + suc (n + k + 1)) dictionary array)
@@ -284,9 +284,6 @@ setup_taken f q shape entries blocks differ =
     in_array =
         subst (λ es. Takes f (filling shape words count (q + 1 + n) dictionary []) (numbered (q + 1 + n) arrays) (filling shape words count (q + 1 + n + k) dictionary (texts es)) (took_each (q + 1 + n) k)) whole_blocks
         (arrays_taken f shape words count dictionary array_list (q + 1 + n) [] full (omega (arith, size_blocks, ap length whole_blocks)))
-
-    start : ServerState
-    start = record at_first { next = q }
 
     tables : Takes f (filling shape words count (q + 1) finmap.empty []) (numbered (q + 1) dicts ++ numbered (q + 1 + n) arrays) (filling shape words count (q + 1 + n + k) dictionary array) (took_each (q + 1) (n + k))
     tables =

@@ -20,16 +20,12 @@ use Rattle.sse_model.proofs.SameName.{same_name-Decides}
 use Rattle.sse_model.proofs.SealedEntries.{AllDiffer-words}
 use Rattle.sse_model.proofs.SentNumbers.{set_up_is_drawn}
 use Rattle.sse_model.proofs.SetupNames.{IsDistinct-names_of_setup}
-use Rattle.sse_model.specs.Drawn.{names_of, drawn, is_compared}
+use Rattle.sse_model.specs.Drawn.{names_of, drawn, is_compared, AreToldApart}
 use Rattle.sse_model.specs.Names.{PlaceTag, ListLabel, ListPad, Name, name, same_kind, same_name, class_at, class_of, PlaceTags, Table}
 use Rattle.sse_model.specs.Positions.{Position, word_blocks, block_position, entries_from, blocks_from, entry_positions, block_positions, entry_position, sealed}
 use Rattle.sse_model.specs.Wire.{labels_in}
 use Rattle.sse_agreement.proofs.SetupHeld.{entries_in, blocks_in, laid_out}
 use Rattle.sse_agreement.specs.Held.{ranks_in}
-
--- a table gives different values to different ones of these names, where they are of one compared class
-abbrev pub AreToldApart : Table → List Name → Type 0
-AreToldApart t names = (x y : Name) → Contains names x → Contains names y → class_of x ≡ class_of y → is_compared (class_of x) ≡ true → t x ≡ t y → x ≡ y
 
 sealed_differ : (t : Table) (ranks : List ℕ) (positions : List Position) → AllDiffer (labels_in t positions) → AllDiffer (labels_of (map (sealed t ranks) positions))
 sealed_differ t ranks positions = subst AllDiffer (sym (map-map (λ (e : Entry). e.label) (sealed t ranks) positions))
@@ -53,7 +49,7 @@ labels_differ t o run apart =
     let s = run.setup in
     subst AllDiffer (sym (labels_from t o.epoch s (setup_words s) 0))
     (AllDiffer-words (λ w. t (name o.epoch w ListLabel 0)) (setup_words s) (IsDistinct-first_seen (all_words s.documents))
-    (λ v w here there same. ap (λ (n : Name). n.word) (apart (name o.epoch v ListLabel 0) (name o.epoch w ListLabel 0) (label_is_drawn o run v here) (label_is_drawn o run w there) refl refl same)))
+    (λ v w here there same. ap (λ (n : Name). n.word) (apart (name o.epoch v ListLabel 0) (name o.epoch w ListLabel 0) (label_is_drawn o run v here) (label_is_drawn o run w there) refl refl refl same)))
 
 -- and so do those of its entries
 pub entries_differ : (t : Table) (o : Offsets) (run : Run) → AreToldApart t (joined (drawn o run)) → AllDiffer (labels_of (entries_in t o.epoch run.setup))
@@ -64,26 +60,26 @@ entries_differ t o run apart = sealed_differ t (ranks_in t o.epoch run.setup) (e
 abbrev is_tag : Name → Bool
 is_tag n = same_kind n.kind PlaceTag
 
--- a position of a block: a tag, and a pad of another kind
-abbrev IsBlock : Position → Type 0
-IsBlock p = (p.label.kind ≡ PlaceTag) × (p.pad.kind ≡ ListPad)
+-- a position of a block of an epoch: a tag, and a pad of another kind
+abbrev IsBlock : ℕ → Position → Type 0
+IsBlock epoch p = (p.label.kind ≡ PlaceTag) × (p.pad.kind ≡ ListPad) × (p.label.epoch ≡ epoch)
 
-are_blocks : (epoch : ℕ) (s : Setup) (first : ℕ) (words : List (List ℕ)) → AllByRecursion IsBlock (blocks_from epoch s first words)
+are_blocks : (epoch : ℕ) (s : Setup) (first : ℕ) (words : List (List ℕ)) → AllByRecursion (IsBlock epoch) (blocks_from epoch s first words)
 are_blocks epoch s first [] = tt
 are_blocks epoch s first (word ∷ words) =
-    AllByRecursion-append IsBlock (map (block_position epoch s first word) (range_with_len 0 (word_blocks s word))) (blocks_from epoch s (first + word_blocks s word) words)
-    (AllByRecursion-each IsBlock (block_position epoch s first word) (λ i. (refl, refl)) (range_with_len 0 (word_blocks s word)))
+    AllByRecursion-append (IsBlock epoch) (map (block_position epoch s first word) (range_with_len 0 (word_blocks s word))) (blocks_from epoch s (first + word_blocks s word) words)
+    (AllByRecursion-each (IsBlock epoch) (block_position epoch s first word) (λ i. (refl, refl, refl)) (range_with_len 0 (word_blocks s word)))
     (are_blocks epoch s (first + word_blocks s word) words)
 
 no_tags : (epoch : ℕ) (s : Setup) (first : ℕ) (words : List (List ℕ)) → filter is_tag (names_of (entries_from epoch s first words)) ≡ []
 no_tags epoch s first [] = refl
 no_tags epoch s first (word ∷ words) = no_tags epoch s (first + word_blocks s word) words
 
-tags_of : (ps : List Position) → AllByRecursion IsBlock ps → filter is_tag (names_of ps) ≡ map (λ p. p.label) ps
-tags_of [] are = refl
-tags_of (p ∷ ps) are =
+tags_of : (epoch : ℕ) (ps : List Position) → AllByRecursion (IsBlock epoch) ps → filter is_tag (names_of ps) ≡ map (λ p. p.label) ps
+tags_of epoch [] are = refl
+tags_of epoch (p ∷ ps) are =
     (λ i. filter_two (same_kind (are.0.0 i) PlaceTag) (same_kind (are.0.1 i) PlaceTag) (filter is_tag (names_of ps)))
-    ∙ ap (λ rest. p.label ∷ rest) (tags_of ps are.1)
+    ∙ ap (λ rest. p.label ∷ rest) (tags_of epoch ps are.1)
   where
     filter_two : Bool → Bool → List Name → List Name
     filter_two b c rest = cond b (p.label ∷ cond c (p.pad ∷ rest) rest) (cond c (p.pad ∷ rest) rest)
@@ -92,36 +88,36 @@ tags_distinct : (epoch : ℕ) (s : Setup) → IsDistinct same_name (map (λ p. p
 tags_distinct epoch s =
     subst (IsDistinct same_name)
     (filter-append is_tag (names_of (entry_positions epoch s)) (names_of (block_positions epoch s))
-    ∙ (λ i. no_tags epoch s 0 (setup_words s) i ++ tags_of (block_positions epoch s) (are_blocks epoch s 0 (setup_words s)) i))
+    ∙ (λ i. no_tags epoch s 0 (setup_words s) i ++ tags_of epoch (block_positions epoch s) (are_blocks epoch s 0 (setup_words s)) i))
     (IsDistinct-filter same_name same_name-Decides is_tag (names_of_setup epoch s) (IsDistinct-names_of_setup epoch s))
 
 tag_class : (n : Name) → n.kind ≡ PlaceTag → class_of n ≡ PlaceTags
 tag_class n is = ap (λ kind. class_at kind n.number) is
 
 module _ (t : Table) (names : List Name) (apart : AreToldApart t names) where
-  differs : (x : Name) (ps : List Position) → Contains names x → x.kind ≡ PlaceTag → AllByRecursion IsBlock ps → ((p : Position) → Contains ps p → Contains names p.label)
+  differs : (x : Name) (ps : List Position) → Contains names x → x.kind ≡ PlaceTag → AllByRecursion (IsBlock x.epoch) ps → ((p : Position) → Contains ps p → Contains names p.label)
       → AllByRecursion (λ y. same_name x y ≡ false) (map (λ p. p.label) ps) → AllByRecursion (λ v. t x ≢ v) (map (λ p. t p.label) ps)
   differs x [] here tag are drawn others = tt
   differs x (p ∷ ps) here tag are drawn others = (
     λ same.
         true≢false (sym ((same_name-Decides x p.label).1
-        (apart x p.label here (drawn p (Contains-head p ps)) (tag_class x tag ∙ sym (tag_class p.label are.0.0)) (ap is_compared (tag_class x tag)) same)) ∙ others.0),
+        (apart x p.label here (drawn p (Contains-head p ps)) (sym are.0.2) (tag_class x tag ∙ sym (tag_class p.label are.0.0)) (ap is_compared (tag_class x tag)) same)) ∙ others.0),
     differs x ps here tag are.1 (λ q within. drawn q (Contains-cons p ps q within)) others.1,
   )
 
-  all_differ : (ps : List Position) → AllByRecursion IsBlock ps → ((p : Position) → Contains ps p → Contains names p.label) → IsDistinct same_name (map (λ p. p.label) ps) → AllDiffer (map (λ p. t p.label) ps)
+  all_differ : (epoch : ℕ) (ps : List Position) → AllByRecursion (IsBlock epoch) ps → ((p : Position) → Contains ps p → Contains names p.label) → IsDistinct same_name (map (λ p. p.label) ps) → AllDiffer (map (λ p. t p.label) ps)
   unfolding IsDistinct
-  all_differ [] are drawn distinct = tt
-  all_differ (p ∷ ps) are drawn distinct = (
-    differs p.label ps (drawn p (Contains-head p ps)) are.0.0 are.1 (λ q within. drawn q (Contains-cons p ps q within)) distinct.0,
-    all_differ ps are.1 (λ q within. drawn q (Contains-cons p ps q within)) distinct.1,
+  all_differ epoch [] are drawn distinct = tt
+  all_differ epoch (p ∷ ps) are drawn distinct = (
+    differs p.label ps (drawn p (Contains-head p ps)) are.0.0 (subst (λ e. AllByRecursion (IsBlock e) ps) (sym are.0.2) are.1) (λ q within. drawn q (Contains-cons p ps q within)) distinct.0,
+    all_differ epoch ps are.1 (λ q within. drawn q (Contains-cons p ps q within)) distinct.1,
   )
 
 -- the tags of a setup differ where the drawn names are told apart
 pub tags_differ : (t : Table) (o : Offsets) (run : Run) → AreToldApart t (joined (drawn o run)) → AllDiffer (labels_in t (block_positions o.epoch run.setup))
 tags_differ t o run apart =
     let s = run.setup in
-    all_differ t (joined (drawn o run)) apart (block_positions o.epoch s) (are_blocks o.epoch s 0 (setup_words s))
+    all_differ t (joined (drawn o run)) apart o.epoch (block_positions o.epoch s) (are_blocks o.epoch s 0 (setup_words s))
     (λ p within. (set_up_is_drawn o s run.later p (Contains-append_right (entry_positions o.epoch s) (block_positions o.epoch s) p within)).0)
     (tags_distinct o.epoch s)
 

@@ -19,14 +19,14 @@ use Rattle.sse_model.proofs.Prefixes.{run_of, frames_by}
 use Rattle.sse_model.specs.Drawn.{IsCollisionFree}
 use Rattle.sse_model.specs.Names.{Table, table}
 use Rattle.sse_model.specs.Wire.{frames_of_setup, replies_of}
-use Rattle.sse_agreement.proofs.Commands.{told, frame_of, frames_by-one, found-held, has_next, is_fitting, has_no_clash, holds-taken, answers-held}
+use Rattle.sse_agreement.proofs.Commands.{told, frame_of, frames_by-one, search_result-held, has_next, is_fitting, has_no_clash, holds-taken, answers-held}
 use Rattle.sse_agreement.proofs.Adding.{HoldsAdditions-setup}
 use Rattle.sse_agreement.proofs.Revoking.{HoldsRevoked-setup}
 use Rattle.sse_agreement.proofs.SetupTaken.{filled, took_each, setup_taken}
 use Rattle.sse_agreement.proofs.Tags.{entries_differ, blocks_differ}
 use Rattle.sse_agreement.proofs.Taking.{takes-none, takes-cons, step-taken}
-use Rattle.sse_agreement.specs.Taking.{IsInOrder, Takes}
-use Rattle.sse_agreement.specs.Agreement.{expecting, search_for}
+use Rattle.sse_agreement.specs.Taking.{Expects, IsInOrder, Takes}
+use Rattle.sse_agreement.specs.Agreement.{search_for}
 use Rattle.sse_agreement.specs.Held.{Holds}
 use Rattle.sse_agreement.proofs.SetupHeld.{entries_in, blocks_in, dictionary_of, array_of, HoldsSetup-made}
 use Rattle.sse_model.proofs.Collisions.{joined}
@@ -38,9 +38,9 @@ module _ (f : KeyedFn) (laws : IsKeyedFn f) (keys : ℕ → List ℕ) (o : Offse
   t = table f s.shape keys
 
   -- a server that expects the first frame of a setup takes all of them, and holds its tables
-  pub setup_held : IsCollisionFree t o (run_of s [])
-      → (state : ServerState) × Takes f (expecting o) (frames_of_setup t o s) state (took_each o.frame (frames_needed s)) × Holds t o s [] state
-  setup_held free = (after (frames_needed s), takes, held)
+  pub setup_held : (start : ServerState) → Expects o.frame start → IsCollisionFree t o (run_of s [])
+      → (state : ServerState) × Takes f start (frames_of_setup t o s) state (took_each o.frame (frames_needed s)) × Holds t o s [] state
+  setup_held start expects free = (after (frames_needed s), takes, held)
     where
       entries : List Entry
       entries = entries_in t o.epoch s
@@ -57,8 +57,8 @@ module _ (f : KeyedFn) (laws : IsKeyedFn f) (keys : ℕ → List ℕ) (o : Offse
       differ : AllDiffer (labels_of entries)
       differ = entries_differ t o (run_of s []) names.apart
 
-      takes : Takes f (expecting o) (frames_of_setup t o s) (after (frames_needed s)) (took_each o.frame (frames_needed s))
-      takes = subst (λ (n : ℕ). Takes f (expecting o) (frames_of_setup t o s) (after n) (took_each o.frame n)) (length-frames_of_setup t o s) (setup_taken f o.frame s.shape entries blocks differ)
+      takes : Takes f start (frames_of_setup t o s) (after (frames_needed s)) (took_each o.frame (frames_needed s))
+      takes = subst (λ (n : ℕ). Takes f start (frames_of_setup t o s) (after n) (took_each o.frame n)) (length-frames_of_setup t o s) (setup_taken f start o.frame s.shape entries blocks expects differ)
 
       held : Holds t o s [] (after (frames_needed s))
       held = record {
@@ -94,4 +94,4 @@ module _ (f : KeyedFn) (laws : IsKeyedFn f) (keys : ℕ → List ℕ) (o : Offse
       → step f state (search_for t o word) ≡ (state, pages (live.shown s past word))
   search_held past word state history free held =
       step-taken f state (search_for t o word) (record { next = refl; stage = ap is_ready held.ready; clash = refl })
-      ∙ ap (λ ids. (state, option_map_or pages ids (BadList ∷ []))) (found-held f laws keys o s past word state history free held)
+      ∙ ap (λ ids. (state, option_map_or pages ids (BadList ∷ []))) (search_result-held f laws keys o s past word state history free held)

@@ -1,4 +1,4 @@
--- Frames that are in order, one behind another; and a server that takes frames of theirs steps through them.
+-- Frames that are in order, one after another; and a server that takes frames of theirs steps through them.
 use Rattle.std.proofs.Common.{◌≡◌, Bool, true, List, [], ◌∷◌, ◌++◌, Option, None, Some, refl, sym, ap, ◌∙◌, subst}
 use Rattle.std.specs.Prelude.{if◌then◌else◌}
 use Rattle.keyed_fn.specs.KeyedFn.{KeyedFn}
@@ -13,7 +13,7 @@ use Rattle.sse_agreement.specs.Taking.{IsInOrder, AreInOrder, taken_all, Takes}
 pub takes-none : (f : KeyedFn) (s : ServerState) → Takes f s [] s []
 takes-none f s = record { each = tt; leaves = refl }
 
--- a frame and others behind it
+-- a frame and others after it
 pub takes-cons : (f : KeyedFn) (s now end : ServerState) (x : FrameText) (xs : List FrameText) (r : List ReplyText) (rs : List (List ReplyText))
     → IsInOrder s x → taken s x ≡ now → answers f s x ≡ r → Takes f now xs end rs → Takes f s (x ∷ xs) end (r ∷ rs)
 takes-cons f s now end x xs r rs one leaves replies later = record {
@@ -29,7 +29,7 @@ taken_all-append : (f : KeyedFn) (s : ServerState) (xs ys : List FrameText) → 
 taken_all-append f s [] ys = refl
 taken_all-append f s (x ∷ xs) ys = ap (λ r. (r.0, answers f s x ∷ r.1)) (taken_all-append f (taken s x) xs ys)
 
--- frames and others behind them
+-- frames and others after them
 pub takes-both : (f : KeyedFn) (s now end : ServerState) (xs ys : List FrameText) (rs ts : List (List ReplyText)) → Takes f s xs now rs → Takes f now ys end ts → Takes f s (xs ++ ys) end (rs ++ ts)
 takes-both f s now end xs ys rs ts first later = record {
   each = AreInOrder-append f s xs ys first.each (subst (λ state. AreInOrder state ys) (sym (ap (λ p. p.0) first.leaves)) later.each);

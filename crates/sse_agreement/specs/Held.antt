@@ -1,4 +1,4 @@
--- What a server holds behind a run's commands, by what it looks up: the setup's cells and blocks, the additions of each
+-- What a server holds after a run's commands, by what it looks up: the setup's cells and blocks, the additions of each
 -- word from 0 to its counter, and the numbers of the pairs that are listed and not live.
 use Rattle.std.specs.Prelude.{◌≡◌, ◌≢◌, ℕ, ◌<◌, ◌≤◌, true, false, List, length, slice_index, slice_index_or, slice_get, Contains, Some, None}
 use Rattle.std.specs.FinMap as finmap
@@ -47,7 +47,7 @@ pub record HoldsRevoked (t : Table) (epoch : ℕ) (s : Setup) (cs : List Command
   pub there : (word : List ℕ) (id : ℕ) → is_listed s cs word id ≡ true → is_live_with s cs word id ≡ false → set.contains revoked (t (name epoch word Revocation id)) ≡ true
   pub only : (number : List ℕ) → set.contains revoked number ≡ true → IsOfDeadPair t epoch s cs number
 
--- a server that was sent a setup and these commands: it is ready, expects the update behind them, and holds the setup's
+-- a server that was sent a setup and these commands: it is ready, expects the update after them, and holds the setup's
 -- lists, and the additions and revoked numbers of the commands
 pub record Holds (t : Table) (o : Offsets) (s : Setup) (cs : List Command) (state : ServerState) : Type 0 where
   pub ready : state.stage ≡ Ready

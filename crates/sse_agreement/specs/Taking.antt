@@ -1,11 +1,17 @@
--- Frames that a server takes one after another: what they leave, and what they are answered.
-use Rattle.std.specs.Prelude.{◌≡◌, List, [], ◌∷◌, true, None}
+-- Frames that a server takes one after another: what they leave, and what they are answered; and a server that takes a setup.
+use Rattle.std.specs.Prelude.{◌≡◌, ℕ, List, [], ◌∷◌, true, None}
 use Rattle.keyed_fn.specs.KeyedFn.{KeyedFn}
 use Rattle.sse_frames.specs.Frames.{FrameText}
 use Rattle.sse_frames.specs.Replies.{ReplyText}
 use Rattle.server_core.specs.Refusal.{is_next, in_place, clash}
-use Rattle.server_core.specs.State.{ServerState}
+use Rattle.server_core.specs.State.{ServerState, is_empty}
 use Rattle.server_core.specs.Step.{taken, answers}
+
+-- a server that takes the frames of a setup, the first of which has this number, whatever its tables hold: SetupBegin
+-- overwrites all but the number
+pub record Expects (q : ℕ) (s : ServerState) : Type 0 where
+  pub next : s.next ≡ q
+  pub stage : is_empty s.stage ≡ true
 
 -- a frame has the number that the server expects, if it has one, fits the stage, and collides with nothing that it holds
 pub record IsInOrder (s : ServerState) (frame : FrameText) : Type 0 where
@@ -13,7 +19,7 @@ pub record IsInOrder (s : ServerState) (frame : FrameText) : Type 0 where
   pub stage : in_place s frame ≡ true
   pub clash : clash s frame ≡ None
 
--- so has each of these, behind those before it
+-- so has each of these, after those before it
 abbrev pub AreInOrder : ServerState → List FrameText → Type 0
 AreInOrder s [] = Unit {0}
 AreInOrder s (frame ∷ frames) = IsInOrder s frame × AreInOrder (taken s frame) frames

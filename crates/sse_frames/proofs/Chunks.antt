@@ -5,7 +5,7 @@ use Rattle.std.specs.Simd.{first_chunks}
 use Rattle.std.proofs.lemmas.List.{take-append-drop, take-take, drop-take, length-take, length-drop, length-map, nil_from_length}
 use Rattle.std.proofs.Math.Nat.{mul-div_cancel}
 use Rattle.sse_frames.specs.Frames.{IsBytes, IsEntry, entry_bytes, joined}
-use Rattle.sse_frames.specs.Seen.{items_in, entry_in, entries_in}
+use Rattle.sse_frames.specs.FrameViews.{items_in, entry_in, entries_in}
 use Rattle.sse_frames.specs.Sizes.{AreItems}
 use Rattle.sse_frames.proofs.Cut.{AreBytes, AreBytes-take, AreBytes-drop}
 

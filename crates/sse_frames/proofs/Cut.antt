@@ -1,4 +1,4 @@
--- A body is its fields, one behind the other: each cut gives a field's bytes and those after it.
+-- A body is its fields, one after the other: each cut gives a field's bytes and those after it.
 use Rattle.std.proofs.Common.{◌≡◌, ℕ, ◌+◌, ◌<◌, ◌≤◌, List, [], ◌∷◌, ◌++◌, length, get_or, take, drop, refl, sym, ap, ◌∙◌, arith}
 use Rattle.std.specs.Int.{w16, w32, w64}
 use Rattle.std.proofs.lemmas.List.{append-nil, take-append-drop, drop-drop, drop_more, drop_all, length-take, length-drop, get_or-drop, get_or-take, get_or_past}

@@ -4,7 +4,7 @@ use Rattle.std.specs.List.{flat_map}
 use Rattle.sse_frames.specs.declared.frame.Frame.{Frame}
 use Rattle.sse_frames.specs.declared.frame.Frame.TheVariants as frames
 use Rattle.sse_frames.specs.Frames.{FrameText, Hello, SetupBegin, SetupDict, SetupArray, SetupEnd, AddFrame, DeleteFrame, SearchFrame, be32, entry_bytes, joined, body_of, frame_bytes, InGrammar}
-use Rattle.sse_frames.specs.Seen.{seen}
+use Rattle.sse_frames.specs.FrameViews.{frame_view}
 use Rattle.sse_frames.specs.Sizes.{HasSizes}
 use Rattle.sse_frames.specs.Heads.{head_of, lists_of, lists_in}
 use Rattle.sse_frames.proofs.Joined.{sizes_of, length-joined}
@@ -38,25 +38,25 @@ frame_bytes-is (SearchFrame token) is =
     let len : length body ≡ 161 = omega (arith, is.size_is) in
     ap (λ (n : ℕ). be32 n ++ body) len
 
-lists_of-seen : (frame : Frame) → InGrammar (seen frame) → HasSizes frame → lists_of (seen frame) ≡ lists_in frame
-lists_of-seen frames.Hello is sizes = refl
-lists_of-seen (frames.SetupBegin q b big m a) is sizes = refl
-lists_of-seen (frames.SetupDict q width entries) is sizes = entry_bytes-entries_in width entries.now sizes
-lists_of-seen (frames.SetupArray q width blocks) is sizes = joined-items_in width blocks.now (omega (arith, is.block.1, is.block.3)) sizes
-lists_of-seen (frames.SetupEnd q) is sizes = refl
-lists_of-seen (frames.Add q entries numbers) is sizes =
+lists_of-frame_view : (frame : Frame) → InGrammar (frame_view frame) → HasSizes frame → lists_of (frame_view frame) ≡ lists_in frame
+lists_of-frame_view frames.Hello is sizes = refl
+lists_of-frame_view (frames.SetupBegin q b big m a) is sizes = refl
+lists_of-frame_view (frames.SetupDict q width entries) is sizes = entry_bytes-entries_in width entries.now sizes
+lists_of-frame_view (frames.SetupArray q width blocks) is sizes = joined-items_in width blocks.now (omega (arith, is.block.1, is.block.3)) sizes
+lists_of-frame_view (frames.SetupEnd q) is sizes = refl
+lists_of-frame_view (frames.Add q entries numbers) is sizes =
     let first = entry_bytes-entries_in 8 entries.now sizes.whole_entries in
     let second = joined-items_in 16 numbers.now (omega arith) sizes.whole_numbers in
     λ i. first i ++ second i
-lists_of-seen (frames.Delete q numbers) is sizes = joined-items_in 16 numbers.now (omega arith) sizes
-lists_of-seen (frames.Search token) is sizes = refl
+lists_of-frame_view (frames.Delete q numbers) is sizes = joined-items_in 16 numbers.now (omega arith) sizes
+lists_of-frame_view (frames.Search token) is sizes = refl
 
 -- a head and two lists that are written for a frame of the code
-pub written : (frame : Frame) (head first second : List ℕ) → InGrammar (seen frame) → HasSizes frame → head ≡ head_of (seen frame) → first ++ second ≡ lists_in frame → head ++ (first ++ second) ≡ frame_bytes (seen frame)
+pub written : (frame : Frame) (head first second : List ℕ) → InGrammar (frame_view frame) → HasSizes frame → head ≡ head_of (frame_view frame) → first ++ second ≡ lists_in frame → head ++ (first ++ second) ≡ frame_bytes (frame_view frame)
 written frame head first second is sizes head_is lists_are =
     ap (λ (x : List ℕ). x ++ (first ++ second)) head_is
-    ∙ ap (λ (x : List ℕ). head_of (seen frame) ++ x) (lists_are ∙ sym (lists_of-seen frame is sizes))
-    ∙ sym (frame_bytes-is (seen frame) is)
+    ∙ ap (λ (x : List ℕ). head_of (frame_view frame) ++ x) (lists_are ∙ sym (lists_of-frame_view frame is sizes))
+    ∙ sym (frame_bytes-is (frame_view frame) is)
 
 -- a frame of the grammar has at most 541,709 bytes
 pub length-frame_bytes : (text : FrameText) → InGrammar text → length (frame_bytes text) ≤ 541709

@@ -10,7 +10,7 @@ use Rattle.sse_frames.specs.Fields.{number_at}
 use Rattle.sse_frames.specs.Reading.{front, is_bad_length}
 use Rattle.sse_frames.proofs.Spelling.{back32}
 
--- a length in range is that of the body behind it
+-- a length in range is that of the body after it
 front_is : (limit n : ℕ) (bytes : List ℕ) → number_at w32 0 bytes ≡ n → 1 ≤ n → n ≤ limit → 4 + n ≤ length bytes → front limit bytes ≡ Ok (Some (take n (drop 4 bytes)))
 front_is limit n bytes is some most inside =
     let few : nat_lt (length bytes) 4 ≡ false = le-ltb _ _ (omega arith) in
@@ -18,7 +18,7 @@ front_is limit n bytes is some most inside =
     let whole : nat_lt (length bytes - 4) (number_at w32 0 bytes) ≡ false = ap (nat_lt (length bytes - 4)) is ∙ le-ltb _ _ (omega arith) in
     rw (few, good, whole) (ap (λ (k : ℕ). let read : Result (Option (List ℕ)) FrameFault = Ok (Some (take k (drop 4 bytes))) in read) is)
 
--- a body behind its length, whatever follows
+-- a body after its length, whatever follows
 pub front-spelled : (limit : ℕ) (body rest : List ℕ) → 1 ≤ length body → length body ≤ limit → limit < 2 ^ 32
     → front limit (be32 (length body) ++ body ++ rest) ≡ Ok (Some body)
 unfolding number_at

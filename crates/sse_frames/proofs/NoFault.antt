@@ -65,7 +65,7 @@ array_no_fault q width blocks body is body_is q_is w_is n_is =
     (no_fault-append (block_fields width (length blocks) 9) (end_field (9 + length blocks * width) ∷ []) body listed ends))) in
     ap (λ (w : ℕ). first_fault (setup_array_fields w (number_at w16 7 body)) body) w_is ∙ ap (λ (n : ℕ). first_fault (setup_array_fields width n) body) n_is ∙ all
 
--- the fields behind the number of an addition of so many entries and revocation numbers
+-- the fields after the number of an addition of so many entries and revocation numbers
 abbrev added_fields : (e r : ℕ) → List Field
 added_fields e r = entry_fields true 8 e 9 ++ (number_fields true r (9 + e * 24) ++ end_field (9 + e * 24 + r * 16) ∷ [])
 

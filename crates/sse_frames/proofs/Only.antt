@@ -9,7 +9,7 @@ use Rattle.sse_frames.specs.declared.frame.Frame.{Frame}
 use Rattle.sse_frames.specs.declared.reply.Reply.{Reply}
 use Rattle.sse_frames.specs.Frames.{FrameText, InGrammar, body_of, frame_bytes}
 use Rattle.sse_frames.specs.Replies.{ReplyText, InReplies, reply_bytes}
-use Rattle.sse_frames.specs.Seen.{seen, seen_reply}
+use Rattle.sse_frames.specs.FrameViews.{frame_view, reply_view}
 use Rattle.sse_frames.specs.Tables.{frame_fields}
 use Rattle.sse_frames.specs.Reading.{body_fault, is_bad_length, frame_outcome, reply_outcome, answered, IfRead, IsRead, IsFrameOf, IsFront, IsReplyFront}
 use Rattle.sse_frames.proofs.Spelling.{one_body, one_frame, length-body_of}
@@ -20,27 +20,27 @@ use Rattle.sse_frames.proofs.ReplyNoFault.{reply_outcome-reply_bytes}
 -- a frame that stands in front is the one that is read there
 pub frame_is_read : (r : Result (Option (Frame × ℕ)) FrameFault) (bytes : List ℕ) → answered r ≡ frame_outcome bytes → IfRead r (λ frame n. IsFront frame n bytes)
     → (text : FrameText) (rest : List ℕ) → InGrammar text → bytes ≡ frame_bytes text ++ rest
-    → IsRead r (λ frame n. (seen frame ≡ text) × (n ≡ length (frame_bytes text)))
+    → IsRead r (λ frame n. (frame_view frame ≡ text) × (n ≡ length (frame_bytes text)))
 frame_is_read (Err fault) bytes outcome found text rest is e =
     let whole = outcome ∙ ap frame_outcome e ∙ frame_outcome-frame_bytes text rest is in absurd cc
 frame_is_read (Ok None) bytes outcome found text rest is e =
     let whole = outcome ∙ ap frame_outcome e ∙ frame_outcome-frame_bytes text rest is in absurd cc
 frame_is_read (Ok (Some (frame, n))) bytes outcome found text rest is e =
-    let split : frame_bytes (seen frame) ++ drop n bytes ≡ frame_bytes text ++ rest = ap (λ (front : List ℕ). front ++ drop n bytes) (sym found.spelled) ∙ take-append-drop n bytes ∙ e in
-    let same = one_frame (seen frame) text (drop n bytes) rest found.grammar is split in
+    let split : frame_bytes (frame_view frame) ++ drop n bytes ≡ frame_bytes text ++ rest = ap (λ (front : List ℕ). front ++ drop n bytes) (sym found.spelled) ∙ take-append-drop n bytes ∙ e in
+    let same = one_frame (frame_view frame) text (drop n bytes) rest found.grammar is split in
     (same.0, sym (length-take-le n bytes found.inside) ∙ ap length found.spelled ∙ ap (λ (f : FrameText). length (frame_bytes f)) same.0)
 
 -- a reply that stands in front is the one that is read there
 pub reply_is_read : (r : Result (Option (Reply × ℕ)) FrameFault) (bytes : List ℕ) → answered r ≡ reply_outcome bytes → IfRead r (λ reply n. IsReplyFront reply n bytes)
     → (text : ReplyText) (rest : List ℕ) → InReplies text → bytes ≡ reply_bytes text ++ rest
-    → IsRead r (λ reply n. (seen_reply reply ≡ text) × (n ≡ length (reply_bytes text)))
+    → IsRead r (λ reply n. (reply_view reply ≡ text) × (n ≡ length (reply_bytes text)))
 reply_is_read (Err fault) bytes outcome found text rest is e =
     let whole = outcome ∙ ap reply_outcome e ∙ reply_outcome-reply_bytes text rest is in absurd cc
 reply_is_read (Ok None) bytes outcome found text rest is e =
     let whole = outcome ∙ ap reply_outcome e ∙ reply_outcome-reply_bytes text rest is in absurd cc
 reply_is_read (Ok (Some (reply, n))) bytes outcome found text rest is e =
-    let split : reply_bytes (seen_reply reply) ++ drop n bytes ≡ reply_bytes text ++ rest = ap (λ (front : List ℕ). front ++ drop n bytes) (sym found.spelled) ∙ take-append-drop n bytes ∙ e in
-    let same = one_reply (seen_reply reply) text (drop n bytes) rest found.grammar is split in
+    let split : reply_bytes (reply_view reply) ++ drop n bytes ≡ reply_bytes text ++ rest = ap (λ (front : List ℕ). front ++ drop n bytes) (sym found.spelled) ∙ take-append-drop n bytes ∙ e in
+    let same = one_reply (reply_view reply) text (drop n bytes) rest found.grammar is split in
     (same.0, sym (length-take-le n bytes found.inside) ∙ ap length found.spelled ∙ ap (λ (f : ReplyText). length (reply_bytes f)) same.0)
 
 body_no_fault : (text : FrameText) → InGrammar text → body_fault 0x100000 frame_fields (body_of text) ≡ None
@@ -51,10 +51,10 @@ body_no_fault text is =
 
 -- a frame that has this body is the one that is read from it
 pub body_is_read : (r : Result Frame FrameFault) (body : List ℕ) → result_err r ≡ body_fault 0x100000 frame_fields body → IfOk r (λ frame. IsFrameOf frame body)
-    → (text : FrameText) → InGrammar text → body ≡ body_of text → IsOkAnd r (λ frame. seen frame ≡ text)
+    → (text : FrameText) → InGrammar text → body ≡ body_of text → IsOkAnd r (λ frame. frame_view frame ≡ text)
 body_is_read (Err e) body fault found text is same =
     let none = fault ∙ ap (body_fault 0x100000 frame_fields) same ∙ body_no_fault text is in absurd cc
-body_is_read (Ok frame) body fault found text is same = one_body (seen frame) text found.grammar is (sym found.spelled ∙ same)
+body_is_read (Ok frame) body fault found text is same = one_body (frame_view frame) text found.grammar is (sym found.spelled ∙ same)
 
 -- what was read where something was
 pub read_some : (o : Option (Reply × ℕ)) (reply : Reply) (n : ℕ) (P : Reply → ℕ → Type 0) → o ≡ Some (reply, n) → IsRead (Ok o) P → P reply n

@@ -7,7 +7,7 @@ use Rattle.std.proofs.lemmas.List.{length-drop, nil_from_length}
 use Rattle.std.proofs.Math.Nat.{mul-div_cancel}
 use Rattle.sse_frames.specs.Frames.{be16, be32, be64}
 use Rattle.sse_frames.specs.Replies.{Page, reply_bytes, page_head}
-use Rattle.sse_frames.specs.Seen.{numbers_in}
+use Rattle.sse_frames.specs.FrameViews.{numbers_in}
 use Rattle.sse_frames.specs.Sizes.{AreIds}
 use Rattle.sse_frames.proofs.Cut.{AreBytes, then64}
 use Rattle.sse_frames.proofs.Ids.{ids_at, ids_at-suc, length-ids_at}

@@ -1,9 +1,9 @@
--- Bytes that are written one behind the other at the front of a buffer.
+-- Bytes that are written one after the other at the front of a buffer.
 use Rattle.std.proofs.Common.{◌≡◌, ℕ, ◌+◌, ◌-◌, ◌≤◌, List, [], ◌++◌, length, take, drop, refl, sym, ap, ◌∙◌, append_assoc, length-append, arith}
 use Rattle.std.proofs.lemmas.List.{take_at, drop_at, take_all, drop_all, drop-drop, append-nil, length-drop}
 use borrow.Rule.Slice.PartMut.{put_mid}
 
--- a write at the front of what lies behind a place
+-- a write at the front of what lies after a place
 pub put_behind : (place size : ℕ) (bytes out buf : List ℕ) → place + size ≤ length out → buf ≡ bytes ++ drop size (take (length out - place) (drop place out))
     → put_mid place (length out - place) out buf ≡ take place out ++ bytes ++ drop (place + size) out
 put_behind place size bytes out buf inside e =
@@ -15,7 +15,7 @@ put_behind place size bytes out buf inside e =
     ∙ ap (λ (x : List ℕ). take place out ++ x) (append-nil buf ∙ is)
     ∙ sym (append_assoc (take place out) bytes (drop (place + size) out))
 
--- bytes written behind those that are done
+-- bytes written after those that are done
 pub put_next : (size : ℕ) (done bytes out now next : List ℕ) → length bytes ≡ size → now ≡ done ++ drop (length done) out → next ≡ take (length done) now ++ bytes ++ drop (length done + size) now
     → next ≡ done ++ bytes ++ drop (length done + size) out
 put_next size done bytes out now next len so_far e =

@@ -6,7 +6,7 @@ use Rattle.std.specs.List.{flat_map}
 use Rattle.std.proofs.lemmas.List.{length-drop}
 use Rattle.sse_frames.specs.Frames.{be16, be32, be64}
 use Rattle.sse_frames.specs.Replies.{Page, reply_body}
-use Rattle.sse_frames.specs.Seen.{numbers_in}
+use Rattle.sse_frames.specs.FrameViews.{numbers_in}
 use Rattle.sse_frames.specs.Fields.{number_at}
 use Rattle.sse_frames.specs.Tables.{least_ids}
 use Rattle.sse_frames.proofs.Cut.{AreBytes, then16, then32, then_kind, then_byte, at_end}

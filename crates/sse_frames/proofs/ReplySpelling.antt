@@ -6,7 +6,7 @@ use Rattle.std.specs.List.{flat_map, AllByRecursion}
 use Rattle.std.proofs.lemmas.Nat.{from_be_bytes-to_be_bytes_8}
 use Rattle.sse_frames.specs.Frames.{be32, be64, joined}
 use Rattle.sse_frames.specs.Replies.{ReplyText, Next, Took, Number, Clash, Page, BadList, NoMemory, StoreFault, BadFrame, OutOfPlace, reply_body, reply_bytes, IsIdentifier, InReplies}
-use Rattle.sse_frames.specs.Seen.{numbers_in}
+use Rattle.sse_frames.specs.FrameViews.{numbers_in}
 use Rattle.sse_frames.specs.Fields.{number_at}
 use Rattle.sse_frames.proofs.Joined.{EachHas, items_in-joined}
 use Rattle.sse_frames.proofs.Pages.{length-be64s}

@@ -10,7 +10,7 @@ use Rattle.std.specs.declared.cmp.Ordering.TheVariants.{Less, Equal, Greater}
 use Rattle.std.proofs.lemmas.Bool.{and_parts}
 use Rattle.std.proofs.lemmas.List.{take-take, take_all, drop-drop}
 use Rattle.sse_frames.specs.Frames.{IsBytes, Rises, labels_of}
-use Rattle.sse_frames.specs.Seen.{items_in, entry_in, entries_in}
+use Rattle.sse_frames.specs.FrameViews.{items_in, entry_in, entries_in}
 use Rattle.sse_frames.specs.Fields.{bytes_at, is_whole, is_above, rising_field, bytes_field, entry_fields, number_fields, first_fault}
 use Rattle.sse_frames.proofs.Faults.{stands_first}
 

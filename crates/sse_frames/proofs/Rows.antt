@@ -35,7 +35,7 @@ setup_row : map frame_bytes (setup_frames 0 (record { b = 1; big = 1 }) (entry (
     ∷ hex (codes "00000005 05 00000002") ∷ []
 setup_row = refl
 
--- a list of two identifiers over cells of one and blocks of two: one block behind the dictionary
+-- a list of two identifiers over cells of one and blocks of two: one block after the dictionary
 block_row : map frame_bytes (setup_frames 0 (record { b = 1; big = 2 })
     (entry (hex (codes "c3c5c7c9cbcdcfd1d3d5d7d9dbdddfe1")) (hex (codes "c5c5c6c7c8c9cacbcd")) ∷ [])
     (entry (hex (codes "c8caccced0d2d4d6d8dadcdee0e2e4e6")) (hex (codes "c5c6c7c8c9cacbcdcdcecfd0d1d2d3d6")) ∷ []))

@@ -9,7 +9,7 @@ use Rattle.std.proofs.lemmas.List.{take_at, drop_at, length-map, get_or_append_l
 use Rattle.std.proofs.lemmas.Nat.{from_be_bytes-to_be_bytes_2, from_be_bytes-to_be_bytes_4}
 use Rattle.std.proofs.Math.Nat.{mul-le-mul}
 use Rattle.sse_frames.specs.Frames.{Entry, FrameText, Hello, SetupBegin, SetupDict, SetupArray, SetupEnd, AddFrame, DeleteFrame, SearchFrame, be16, be32, entry_bytes, joined, body_of, frame_bytes, IsBytes, IsEntry, InGrammar}
-use Rattle.sse_frames.specs.Seen.{items_in, entry_in, entries_in}
+use Rattle.sse_frames.specs.FrameViews.{items_in, entry_in, entries_in}
 use Rattle.sse_frames.specs.Fields.{number_at}
 use Rattle.sse_frames.proofs.Cut.{AreBytes}
 use Rattle.sse_frames.proofs.Joined.{sizes_of, length-joined, items_in-joined}

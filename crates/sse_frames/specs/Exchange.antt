@@ -1,5 +1,5 @@
--- What passes between a client and a server: frames, each with its replies; and the replies that frames are to have, whatever
--- the searches among them find.
+-- What passes between a client and a server: the greeting, which opens a session, and frames, each with its replies; and the
+-- replies that frames after the greeting are to have, whatever the searches among them find.
 use Rattle.std.specs.Prelude.{ℕ, ◌+◌, List, [], ◌∷◌, ◌++◌, map, drop}
 use Rattle.sse_frames.specs.Frames.{FrameText, Hello, SetupBegin, SetupDict, SetupArray, SetupEnd, AddFrame, DeleteFrame, SearchFrame}
 use Rattle.sse_frames.specs.Replies.{ReplyText, Next, Took}
@@ -10,16 +10,16 @@ pub data Passed : Type 0 where
   Sent : FrameText → Passed
   Received : ReplyText → Passed
 
--- frames with replies: one behind each frame, and behind the last frame all that are left
+-- frames with replies: one after each frame, and after the last frame all that are left
 abbrev pub exchanged : List FrameText → List ReplyText → List Passed
 exchanged [] rs = map Received rs
 exchanged (frame ∷ []) rs = Sent frame ∷ map Received rs
 exchanged (frame ∷ next ∷ frames) [] = Sent frame ∷ exchanged (next ∷ frames) []
 exchanged (frame ∷ next ∷ frames) (r ∷ rs) = Sent frame ∷ Received r ∷ exchanged (next ∷ frames) rs
 
--- what opens a session with a server that has taken nothing: the number that it expects
-abbrev pub greeting : List Passed
-greeting = Sent Hello ∷ Received (Next 0) ∷ []
+-- what opens a session: Hello, and the number of the update that the server expects
+abbrev pub greeting : (next : ℕ) → List Passed
+greeting next = Sent Hello ∷ Received (Next next) ∷ []
 
 -- the frames among these
 abbrev pub sent_among : List Passed → List FrameText
@@ -27,7 +27,7 @@ sent_among [] = []
 sent_among (Sent frame ∷ later) = frame ∷ sent_among later
 sent_among (Received reply ∷ later) = sent_among later
 
--- Replies that are to come.
+-- Replies that are to come, after the greeting.
 
 -- what a frame asks of a server: the number of the update that it expects, to take the update of this number, or an answer
 pub data Asked : Type 0 where
@@ -45,9 +45,10 @@ asked (AddFrame q entries numbers) = ForTook q
 asked (DeleteFrame q numbers) = ForTook q
 asked (SearchFrame token) = ForAnswer
 
--- the replies that are to come: that a server has taken nothing, that it took an update, or the pages of an answer
+-- the replies that are to come: that a server took an update, or the pages of an answer. None after the greeting is Hello's,
+-- whose reply the greeting has
 abbrev pub expected : List ℕ → Asked → List ReplyText
-expected ids ForNext = Next 0 ∷ []
+expected ids ForNext = []
 expected ids (ForTook q) = Took q ∷ []
 expected ids ForAnswer = pages ids
 
@@ -56,7 +57,7 @@ abbrev pub first_answer : List (List ℕ) → List ℕ
 first_answer [] = []
 first_answer (ids ∷ answers) = ids
 
--- the answers behind a frame: a search has taken the first
+-- the answers after a frame: a search has taken the first
 abbrev pub answers_behind : Asked → List (List ℕ) → List (List ℕ)
 answers_behind ForAnswer answers = drop 1 answers
 answers_behind asks answers = answers
@@ -66,7 +67,7 @@ abbrev pub replied : List (List ℕ) → List FrameText → List (List ReplyText
 replied answers [] = []
 replied answers (frame ∷ frames) = expected (first_answer answers) (asked frame) ∷ replied (answers_behind (asked frame) answers) frames
 
--- each of these frames with its replies
+-- each of these frames with its replies, after the greeting
 abbrev pub exchange : List (List ℕ) → List FrameText → List Passed
 exchange answers [] = []
 exchange answers (frame ∷ frames) =

@@ -36,7 +36,7 @@ be64 n = to_be_bytes w64 n
 abbrev pub entry_bytes : Entry → List ℕ
 entry_bytes entry = entry.label ++ entry.text
 
--- byte strings, one behind the other
+-- byte strings, one after the other
 abbrev pub joined : List (List ℕ) → List ℕ
 joined items = flat_map (λ item. item) items
 

@@ -1,6 +1,6 @@
 pub mod Frames
 pub mod Replies
-pub mod Seen
+pub mod FrameViews
 pub mod Sizes
 pub mod Heads
 pub mod Fields

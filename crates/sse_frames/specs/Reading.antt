@@ -8,7 +8,7 @@ use Rattle.sse_frames.specs.declared.frame.Frame.{Frame}
 use Rattle.sse_frames.specs.declared.reply.Reply.{Reply}
 use Rattle.sse_frames.specs.Replies.{ReplyText, InReplies, reply_body, reply_bytes}
 use Rattle.sse_frames.specs.Frames.{be32, InGrammar, body_of, frame_bytes}
-use Rattle.sse_frames.specs.Seen.{seen, seen_reply}
+use Rattle.sse_frames.specs.FrameViews.{frame_view, reply_view}
 use Rattle.sse_frames.specs.Sizes.{HasSizes, HasReplySizes}
 use Rattle.sse_frames.specs.Fields.{Field, number_at, first_fault}
 use Rattle.sse_frames.specs.Tables.{frame_fields, reply_fields}
@@ -35,7 +35,7 @@ front limit bytes =
     else if nat_lt (length bytes - 4) (number_at w32 0 bytes) then Ok None
     else Ok (Some (take (number_at w32 0 bytes) (drop 4 bytes)))
 
--- the body stands behind its length in front of the bytes
+-- the body stands after its length in front of the bytes
 pub record IsBehind (bytes body : List ℕ) : Type 0 where
   pub some : 1 ≤ length body
   pub inside : 4 + length body ≤ length bytes
@@ -85,28 +85,28 @@ IsRead (Err fault) P = ⊥
 
 -- the frame of a body
 pub record IsFrameOf (frame : Frame) (body : List ℕ) : Type 0 where
-  pub grammar : InGrammar (seen frame)
-  pub spelled : body ≡ body_of (seen frame)
+  pub grammar : InGrammar (frame_view frame)
+  pub spelled : body ≡ body_of (frame_view frame)
   pub sizes : HasSizes frame
 
 -- the frame that so many bytes in front are
 pub record IsFront (frame : Frame) (n : ℕ) (bytes : List ℕ) : Type 0 where
-  pub grammar : InGrammar (seen frame)
-  pub spelled : take n bytes ≡ frame_bytes (seen frame)
+  pub grammar : InGrammar (frame_view frame)
+  pub spelled : take n bytes ≡ frame_bytes (frame_view frame)
   pub sizes : HasSizes frame
   pub some : 5 ≤ n
   pub inside : n ≤ length bytes
 
 -- the reply of a body
 pub record IsReplyOf (reply : Reply) (body : List ℕ) : Type 0 where
-  pub grammar : InReplies (seen_reply reply)
-  pub spelled : body ≡ reply_body (seen_reply reply)
+  pub grammar : InReplies (reply_view reply)
+  pub spelled : body ≡ reply_body (reply_view reply)
   pub sizes : HasReplySizes reply
 
 -- the reply that so many bytes in front are
 pub record IsReplyFront (reply : Reply) (n : ℕ) (bytes : List ℕ) : Type 0 where
-  pub grammar : InReplies (seen_reply reply)
-  pub spelled : take n bytes ≡ reply_bytes (seen_reply reply)
+  pub grammar : InReplies (reply_view reply)
+  pub spelled : take n bytes ≡ reply_bytes (reply_view reply)
   pub sizes : HasReplySizes reply
   pub some : 5 ≤ n
   pub inside : n ≤ length bytes

@@ -1,4 +1,4 @@
--- That the joined bytes of a frame or a reply are whole items, so that nothing stands behind the last one.
+-- That the joined bytes of a frame or a reply are whole items, so that nothing stands after the last one.
 use Rattle.std.specs.Prelude.{◌≡◌, ℕ, ◌+◌, ◌*◌, ◌≤◌, Bool, false, List, length}
 use Rattle.sse_frames.specs.declared.frame.Frame.{Frame}
 use Rattle.sse_frames.specs.declared.frame.Frame.TheVariants as frames

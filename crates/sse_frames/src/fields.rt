@@ -114,7 +114,7 @@ fn read_rising(body: &[u8], place: usize, back: usize, is_first: bool) -> Result
     Err(FrameFault::BadBody(place as u64))
 }
 
-/// The place behind `count` entries that begin at `place` of the body, each a label and `width` bytes.
+/// The place after `count` entries that begin at `place` of the body, each a label and `width` bytes.
 pub(crate) fn pass_entries(
     body: &[u8],
     place: usize,
@@ -156,7 +156,7 @@ pub(crate) fn read_entries(
     Ok(entries)
 }
 
-/// The place behind `count` blocks of `width` bytes that begin at `place` of the body.
+/// The place after `count` blocks of `width` bytes that begin at `place` of the body.
 fn pass_blocks(body: &[u8], place: usize, count: u16, width: u16) -> Result<usize, FrameFault>
     requires { place ≤ length body.now }
     ensures fault { result_err result ≡ first_fault (block_fields width count place) body.now }
@@ -190,7 +190,7 @@ pub(crate) fn read_blocks(
     Ok(blocks)
 }
 
-/// The place behind `count` revocation numbers that begin at `place` of the body.
+/// The place after `count` revocation numbers that begin at `place` of the body.
 fn pass_numbers(body: &[u8], place: usize, count: u16) -> Result<usize, FrameFault>
     requires { place ≤ length body.now }
     ensures fault { result_err result ≡ first_fault (number_fields true count place) body.now }
@@ -234,7 +234,7 @@ fn read_id(body: &[u8], place: usize) -> Result<u64, FrameFault>
     Ok(id)
 }
 
-/// The place behind `count` identifiers that begin at `place` of the body.
+/// The place after `count` identifiers that begin at `place` of the body.
 fn pass_ids(body: &[u8], place: usize, count: u16) -> Result<usize, FrameFault>
     requires { place ≤ length body.now }
     ensures fault { result_err result ≡ first_fault (id_fields count place) body.now }

@@ -1,10 +1,10 @@
 ghost use Rattle.std.specs.Prelude.{◌≡◌};
 ghost use Rattle.sse_frames.specs.Frames as frames;
-ghost use Rattle.sse_frames.specs.Seen.{seen};
+ghost use Rattle.sse_frames.specs.FrameViews.{frame_view};
 
 /// What a client sends. A list is the joined bytes of its items, so its count is its length divided by
 /// the size of one item.
-#[derive(Clone, Copy, Debug, PartialEq, Eq)]
+#[derive(Clone, Copy)]
 pub enum Frame<'a> {
     /// Asks which number the server expects next.
     Hello,
@@ -53,7 +53,7 @@ pub enum Frame<'a> {
 impl Frame<'_> {
     /// The number of an update frame, which all are but Hello and Search.
     pub fn update_number(&self) -> Option<u32>
-        ensures { result ≡ frames.update_number (seen self.now) }
+        ensures { result ≡ frames.update_number (frame_view self.now) }
     {
         match *self {
             Frame::SetupBegin { q, .. }

@@ -2,7 +2,7 @@ ghost use Rattle.std.specs.Prelude.{◌≡◌, ℕ, ◌+◌, ◌*◌, ◌<◌, �
 ghost use Rattle.std.specs.Result.{result_err};
 ghost use Rattle.std.specs.Int.{w16};
 ghost use Rattle.sse_frames.specs.Frames.{FrameText, InGrammar, body_of, frame_bytes};
-ghost use Rattle.sse_frames.specs.Seen.{seen};
+ghost use Rattle.sse_frames.specs.FrameViews.{frame_view};
 ghost use Rattle.sse_frames.specs.Fields.{number_at, entry_fields, number_fields, end_field, first_fault};
 ghost use Rattle.sse_frames.specs.Tables.{hello_fields, setup_begin_fields, setup_dict_fields, setup_array_fields, setup_end_fields, add_fields, delete_fields, search_fields, frame_fields};
 ghost use Rattle.sse_frames.specs.Reading.{IsFrameOf, IsFront, IfRead, IsRead, fault_in, body_fault, frame_outcome, answered};
@@ -91,7 +91,7 @@ fn setup_end(body: &[u8]) -> Result<Frame<'_>, FrameFault>
     Ok(Frame::SetupEnd { q })
 }
 
-/// The entries and the revocation numbers of an Add, so many of each: they are its body behind the first nine bytes.
+/// The entries and the revocation numbers of an Add, so many of each: they are its body after the first nine bytes.
 #[tactic(auto, using(crate::proofs::Faults::appended))]
 fn added(body: &[u8], e: u16, r: u16) -> Result<(&[u8], &[u8]), FrameFault>
     requires { 9 ≤ length body.now }
@@ -189,7 +189,7 @@ fn whole_body(bytes: &[u8]) -> Result<Frame<'_>, FrameFault>
 pub fn read_body(bytes: &[u8]) -> Result<Frame<'_>, FrameFault>
     // What is read is in the grammar and has this body, and a frame of the grammar with this body is read.
     ensures found { IfOk result (λ frame. IsFrameOf frame bytes.now) }
-    ensures only { (text : FrameText) → InGrammar text → bytes.now ≡ body_of text → IsOkAnd result (λ frame. seen frame ≡ text) }
+    ensures only { (text : FrameText) → InGrammar text → bytes.now ≡ body_of text → IsOkAnd result (λ frame. frame_view frame ≡ text) }
 
     // There is no fault, or it is this one.
     ensures fault { result_err result ≡ body_fault 0x100000 frame_fields bytes.now }
@@ -220,7 +220,7 @@ pub fn read_frame(bytes: &[u8]) -> Result<Option<(Frame<'_>, usize)>, FrameFault
     // What is read is in the grammar and stands in front, and a frame of the grammar that stands there is read.
     ensures found { IfRead result (λ frame n. IsFront frame n bytes.now) }
     ensures only { (text : FrameText) (rest : List ℕ) → InGrammar text → bytes.now ≡ frame_bytes text ++ rest →
-        IsRead result (λ frame n. (seen frame ≡ text) × (n ≡ length (frame_bytes text))) }
+        IsRead result (λ frame n. (frame_view frame ≡ text) × (n ≡ length (frame_bytes text))) }
 
     // Whether it is whole, or which fault is the first.
     ensures outcome { answered result ≡ frame_outcome bytes.now }

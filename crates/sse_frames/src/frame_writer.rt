@@ -1,6 +1,6 @@
 ghost use Rattle.std.specs.Prelude.{◌≡◌, ◌+◌, ◌*◌, ◌<◌, ◌≤◌, ◌^◌, ◌∷◌, ◌++◌, length, drop, OnOk, OnErr};
 ghost use Rattle.sse_frames.specs.Frames.{InGrammar, SearchFrame, be16, be32, frame_bytes};
-ghost use Rattle.sse_frames.specs.Seen.{seen, items_in};
+ghost use Rattle.sse_frames.specs.FrameViews.{frame_view, items_in};
 ghost use Rattle.sse_frames.specs.Sizes.{HasSizes};
 ghost use Rattle.sse_frames.specs.Heads as heads;
 ghost use Rattle.sse_frames.specs.Heads.{lists_in};
@@ -65,8 +65,8 @@ fn delete_head(q: u32, numbers: &[u8]) -> Head
 
 /// What stands before the lists of a frame.
 fn head_of(frame: &Frame<'_>) -> Head
-    requires { InGrammar (seen frame.now) }
-    ensures { result ≡ heads.head_of (seen frame.now) }
+    requires { InGrammar (frame_view frame.now) }
+    ensures { result ≡ heads.head_of (frame_view frame.now) }
 {
     match *frame {
         Frame::Hello => Head::new(1, HELLO),
@@ -113,11 +113,11 @@ fn lists_of<'a>(frame: &Frame<'a>) -> (&'a [u8], &'a [u8])
 
 /// Appends the frame to the bytes. Without memory they are as before.
 ///
-/// The frame is one of the grammar, and its lists have no bytes behind their last whole item.
+/// The frame is one of the grammar, and its lists have no bytes after their last whole item.
 pub fn write_frame(frame: &Frame<'_>, out: &mut Vec<u8>) -> Result<(), AllocError>
-    requires grammar { InGrammar (seen frame.now) }
+    requires grammar { InGrammar (frame_view frame.now) }
     requires sizes { HasSizes frame.now }
-    ensures ok { OnOk result (out.new.items ≡ out.old.items ++ frame_bytes (seen frame.now)) }
+    ensures ok { OnOk result (out.new.items ≡ out.old.items ++ frame_bytes (frame_view frame.now)) }
     ensures err { OnErr result (out.new.items ≡ out.old.items) }
 {
     let head = head_of(frame);
@@ -141,11 +141,11 @@ fn append(out: &mut Vec<u8>, head: &[u8], first: &[u8], second: &[u8]) -> Result
 ///
 /// The frame is one that `write_frame` takes, and `out` has room for it: no frame has more than 541,709 bytes.
 pub fn write_frame_into(frame: &Frame<'_>, out: &mut [u8]) -> usize
-    requires grammar { InGrammar (seen frame.now) }
+    requires grammar { InGrammar (frame_view frame.now) }
     requires sizes { HasSizes frame.now }
-    requires room { length (frame_bytes (seen frame.now)) ≤ length out.old }
-    ensures len { result ≡ length (frame_bytes (seen frame.now)) }
-    ensures bytes { out.new ≡ frame_bytes (seen frame.now) ++ drop result out.old }
+    requires room { length (frame_bytes (frame_view frame.now)) ≤ length out.old }
+    ensures len { result ≡ length (frame_bytes (frame_view frame.now)) }
+    ensures bytes { out.new ≡ frame_bytes (frame_view frame.now) ++ drop result out.old }
     ensures least { 5 ≤ result }
     ensures most { result ≤ 541709 }
 {

@@ -1,5 +1,5 @@
 //! What client and server send each other: all frames and replies as values, their bytes, and reading them
-//! with the first fault from the left. It stands on no crate that knows a word or a key, so the client, the server
+//! with the first fault from the left. It depends on no crate that knows a word or a key, so the client, the server
 //! and the link share it. A reader's value is in the grammar and spelled as the bytes in
 //! front of it; a writer takes a value of the grammar and writes the bytes of specs/Frames.antt and
 //! specs/Replies.antt. What a frame does is `server_core`; where bytes go is `sse_link`.
@@ -34,6 +34,3 @@ pub use reply::Reply;
 pub use reply_reader::{read_reply, read_whole_reply};
 pub use reply_writer::{write_page, write_reply};
 pub use std::alloc::AllocError as NoMemory;
-
-#[cfg(test)]
-mod tests;

@@ -4,7 +4,7 @@ ghost use Rattle.sse_frames.specs.Frames.{be16, be32, be64};
 
 use byteorder::{BigEndian, ByteOrder};
 
-/// Writes the bytes at a place, and gives the place behind them.
+/// Writes the bytes at a place, and gives the place after them.
 pub(crate) fn put(out: &mut [u8], place: usize, bytes: &[u8]) -> usize
     requires { place + length bytes.now ≤ length out.old }
     ensures place { result ≡ place + length bytes.now }
@@ -31,7 +31,7 @@ pub(crate) fn put_u32(out: &mut [u8], place: usize, n: u32)
     BigEndian::write_u32(&mut out[place..], n);
 }
 
-/// Writes the numbers at a place, one behind the other.
+/// Writes the numbers at a place, one after the other.
 pub(crate) fn put_u64s(out: &mut [u8], place: usize, numbers: &[u64])
     requires { place + length numbers.now * 8 ≤ length out.old }
     ensures { out.new ≡ take place out.old ++ flat_map be64 numbers.now ++ drop (place + length numbers.now * 8) out.old }

@@ -1,5 +1,5 @@
 /// What a server answers.
-#[derive(Clone, Copy, Debug, PartialEq, Eq)]
+#[derive(Clone, Copy)]
 pub enum Reply<'a> {
     /// To Hello: the number that the server expects next.
     Next(u32),

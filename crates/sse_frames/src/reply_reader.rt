@@ -2,7 +2,7 @@ ghost use Rattle.std.specs.Prelude.{◌≡◌, ℕ, ◌<◌, List, ◌++◌, len
 ghost use Rattle.std.specs.Result.{result_err};
 ghost use Rattle.std.specs.Int.{w16};
 ghost use Rattle.sse_frames.specs.Replies.{ReplyText, InReplies, reply_bytes};
-ghost use Rattle.sse_frames.specs.Seen.{seen_reply};
+ghost use Rattle.sse_frames.specs.FrameViews.{reply_view};
 ghost use Rattle.sse_frames.specs.Fields.{number_at, first_fault};
 ghost use Rattle.sse_frames.specs.Tables as tables;
 ghost use Rattle.sse_frames.specs.Tables.{next_fields, took_fields, clash_fields, page_fields, bad_frame_fields, bare_fields, reply_fields};
@@ -157,7 +157,7 @@ pub fn read_reply(bytes: &[u8]) -> Result<Option<(Reply<'_>, usize)>, FrameFault
     // What is read is in the grammar and stands in front, and a reply of the grammar that stands there is read.
     ensures found { IfRead result (λ reply n. IsReplyFront reply n bytes.now) }
     ensures only { (text : ReplyText) (rest : List ℕ) → InReplies text → bytes.now ≡ reply_bytes text ++ rest →
-        IsRead result (λ reply n. (seen_reply reply ≡ text) × (n ≡ length (reply_bytes text))) }
+        IsRead result (λ reply n. (reply_view reply ≡ text) × (n ≡ length (reply_bytes text))) }
 
     // Whether it is whole, or which fault is the first.
     ensures outcome { answered result ≡ reply_outcome bytes.now }
@@ -167,9 +167,9 @@ pub fn read_reply(bytes: &[u8]) -> Result<Option<(Reply<'_>, usize)>, FrameFault
 
 /// The reply that all of these bytes are, if any.
 pub fn read_whole_reply(bytes: &[u8]) -> Option<Reply<'_>>
-    ensures found { IfSome result (λ reply. IsReply (seen_reply reply) bytes.now) }
+    ensures found { IfSome result (λ reply. IsReply (reply_view reply) bytes.now) }
     ensures sizes { IfSome result (λ reply. HasReplySizes reply) }
-    ensures only { (text : ReplyText) → IsReply text bytes.now → IsSomeAnd result (λ reply. seen_reply reply ≡ text) }
+    ensures only { (text : ReplyText) → IsReply text bytes.now → IsSomeAnd result (λ reply. reply_view reply ≡ text) }
 {
     match read_reply(bytes) {
         Ok(found) => match found {

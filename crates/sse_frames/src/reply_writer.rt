@@ -2,7 +2,7 @@ ghost use Rattle.std.specs.Prelude.{◌≡◌, ◌+◌, ◌*◌, ◌≤◌, ◌�
 ghost use Rattle.std.specs.List.{flat_map};
 ghost use Rattle.sse_frames.specs.Frames.{be32, be64};
 ghost use Rattle.sse_frames.specs.Replies.{Page, IsPage, InReplies, reply_bytes, page_head};
-ghost use Rattle.sse_frames.specs.Seen.{seen_reply, numbers_in};
+ghost use Rattle.sse_frames.specs.FrameViews.{reply_view, numbers_in};
 ghost use Rattle.sse_frames.specs.Sizes.{AreIds, HasReplySizes};
 
 use crate::head::Head;
@@ -59,11 +59,11 @@ fn put_page(out: &mut [u8], last: bool, ids: &[u8]) -> usize
 
 /// Writes the reply at the front of `out`, and says how many bytes it has.
 pub fn write_reply(reply: &Reply<'_>, out: &mut [u8]) -> usize
-    requires grammar { InReplies (seen_reply reply.now) }
+    requires grammar { InReplies (reply_view reply.now) }
     requires sizes { HasReplySizes reply.now }
     requires room { 65544 ≤ length out.old }
-    ensures len { result ≡ length (reply_bytes (seen_reply reply.now)) }
-    ensures bytes { out.new ≡ reply_bytes (seen_reply reply.now) ++ drop result out.old }
+    ensures len { result ≡ length (reply_bytes (reply_view reply.now)) }
+    ensures bytes { out.new ≡ reply_bytes (reply_view reply.now) ++ drop result out.old }
     ensures least { 5 ≤ result }
     ensures most { result ≤ 65544 }
 {

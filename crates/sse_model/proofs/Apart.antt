@@ -1,4 +1,4 @@
--- Lists without repeats: filtered, one behind another, and made of parts that have owners.
+-- Lists without repeats: filtered, one after another, and made of parts that have owners.
 use Rattle.std.proofs.Common.{◌≡◌, ◌≢◌, Bool, true, false, List, [], ◌∷◌, ◌++◌, filter, sym, ap, ◌∙◌}
 use Rattle.std.specs.Bool.{Decides}
 use Rattle.std.specs.Prelude.{All, flat_map}
@@ -23,7 +23,7 @@ module _ {X : Type 0} (eq : X → X → Bool) (same : (a b : X) → Decides (eq 
   pub IsDistinct-filter : (p : X → Bool) (xs : List X) → IsDistinct eq xs → IsDistinct eq (filter p xs)
   IsDistinct-filter p xs d = IsDistinct-from_AllPairs same (filter p xs) (AllPairs-filter (λ x y. x ≢ y) p xs (AllPairs-from_IsDistinct same xs d))
 
-  -- different values behind others are different, where a test tells the ones from the others
+  -- different values after others are different, where a test tells the ones from the others
   pub IsDistinct-append : (p : X → Bool) (xs ys : List X) → All (λ x. p x ≡ true) xs → All (λ y. p y ≡ false) ys → IsDistinct eq xs → IsDistinct eq ys → IsDistinct eq (xs ++ ys)
   IsDistinct-append p [] ys ones others front rest = rest
   IsDistinct-append p (x ∷ xs) ys ones others front rest =

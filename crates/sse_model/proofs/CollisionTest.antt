@@ -1,8 +1,9 @@
 -- Whether a run has a collision can be computed, for a given table.
 use Rattle.std.proofs.Common.{◌≡◌, Bool, true, false, not, ◌&&◌, ◌||◌, List, [], ◌∷◌, ◌++◌, refl, sym, ap, ◌∙◌, subst, ⊎_elim}
-use Rattle.std.specs.Prelude.{Contains, flat_map, bytes_eq}
+use Rattle.std.specs.Prelude.{Contains, flat_map, bytes_eq, ◌==◌}
 use Rattle.std.specs.List.{list_all}
 use Rattle.std.proofs.lemmas.Bool.{true≢false, and_parts}
+use Rattle.std.proofs.lemmas.Cmp.{nat_eq_equiv}
 use Rattle.std.proofs.lemmas.Slice.Eq.{bytes_eq-Decides}
 use Rattle.client_registry.specs.Run.{Run, Offsets}
 use Rattle.sse_model.proofs.Members.{Contains-nil, Contains-cases}
@@ -31,9 +32,10 @@ same_class-refl PlusPads = refl
 same_class-refl Revocations = refl
 same_class-refl PlaceTags = refl
 
--- whether two names are one, or are of different classes or of one that isn't compared, or have different values
+-- whether two names are one, or are of different epochs, of different classes or of one that isn't compared, or have
+-- different values
 abbrev pub is_apart : Table → Name → Name → Bool
-is_apart t x y = same_name x y || not (is_compared (class_of x) && same_class (class_of x) (class_of y) && bytes_eq (t x) (t y))
+is_apart t x y = same_name x y || not (x.epoch == y.epoch && is_compared (class_of x) && same_class (class_of x) (class_of y) && bytes_eq (t x) (t y))
 
 abbrev pub are_apart : Table → List Name → Bool
 are_apart t names = list_all (λ x. list_all (is_apart t x) names) names
@@ -50,18 +52,19 @@ passes {X} p (y ∷ ys) x all within =
 
 -- a run that passes the test has no collision
 pub IsCollisionFree-from_test : (t : Table) (o : Offsets) (run : Run) → is_collision_free t o run ≡ true → IsCollisionFree t o run
-IsCollisionFree-from_test t o run all x y x_in y_in classes compared values =
+IsCollisionFree-from_test t o run all x y x_in y_in epochs classes compared values =
     by (same_name x y) refl (passes (is_apart t x) names y (passes (λ x. list_all (is_apart t x) names) names x all x_in) y_in)
   where
     names : List Name
     names = flat_map (λ n. n) (drawn o run ++ probed o run)
 
-    together : (is_compared (class_of x) && same_class (class_of x) (class_of y) && bytes_eq (t x) (t y)) ≡ true
+    together : (x.epoch == y.epoch && is_compared (class_of x) && same_class (class_of x) (class_of y) && bytes_eq (t x) (t y)) ≡ true
     together =
-        ap (λ b. b && same_class (class_of x) (class_of y) && bytes_eq (t x) (t y)) compared
+        ap (λ b. b && is_compared (class_of x) && same_class (class_of x) (class_of y) && bytes_eq (t x) (t y)) (ap (λ n. n == y.epoch) epochs ∙ nat_eq_equiv.refl y.epoch)
+        ∙ ap (λ b. b && same_class (class_of x) (class_of y) && bytes_eq (t x) (t y)) compared
         ∙ ap (λ b. b && bytes_eq (t x) (t y)) (subst (λ c. same_class (class_of x) c ≡ true) classes (same_class-refl (class_of x)))
         ∙ (bytes_eq-Decides (t x) (t y)).1 values
 
-    by : (b : Bool) → same_name x y ≡ b → (b || not (is_compared (class_of x) && same_class (class_of x) (class_of y) && bytes_eq (t x) (t y))) ≡ true → x ≡ y
+    by : (b : Bool) → same_name x y ≡ b → (b || not (x.epoch == y.epoch && is_compared (class_of x) && same_class (class_of x) (class_of y) && bytes_eq (t x) (t y))) ≡ true → x ≡ y
     by true e h = (same_name-Decides x y).0 e
     by false e h = absurd (true≢false (sym h ∙ ap not together))

@@ -89,7 +89,7 @@ length-frames_of_setup t o s =
     length-setup_frames o.frame s.shape entries blocks
     ∙ (λ i. 2 + div_ceil (m i) 1024 + div_ceil (a i) 256)
 
--- numbers one after another, and others behind them
+-- numbers one after another, and others after them
 range_with_len-add : (a m n : ℕ) → range_with_len a (m + n) ≡ range_with_len a m ++ range_with_len (a + m) n
 range_with_len-add a zero n = let e : a + 0 ≡ a = omega arith in (λ i. range_with_len (sym e i) (zero-add n i))
 range_with_len-add a (suc m) n =

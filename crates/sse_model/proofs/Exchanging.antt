@@ -1,5 +1,5 @@
 -- Laws of frames with their replies: of some frames and then others, of a setup's and of commands'; and all that passes for
--- a history is the exchange of its frames, with what its searches show for answers.
+-- a history is the greeting and the exchange of its frames, with what its searches show for answers.
 use Rattle.std.proofs.Common.{◌≡◌, ℕ, ◌+◌, ◌*◌, ◌≤◌, List, [], ◌∷◌, ◌++◌, length, map, true, Some, None, refl, sym, ap, ◌∙◌, arith, append_assoc}
 use Rattle.std.specs.Prelude.{flat_map}
 use Rattle.std.specs.List.{AllByRecursion, range_with_len}
@@ -19,9 +19,8 @@ use Rattle.sse_frames.specs.Order.{by_bytes}
 use Rattle.sse_frames.specs.Replies.{Took}
 use Rattle.sse_frames.specs.Sending.{numbered, dict_frames, array_frames}
 use Rattle.sse_model.proofs.Counts.{AllByRecursion-append, AllByRecursion-each, length-frames_of_setup, length-numbered}
-use Rattle.sse_model.proofs.HistoryLaws.{frames_sent-run}
 use Rattle.sse_model.proofs.Prefixes.{frames_by, exchanged_by, exchanged_setup}
-use Rattle.sse_model.specs.Histories.{table_of, frames_sent, frames_behind}
+use Rattle.sse_model.specs.Histories.{table_of, frames_sent, frames_of_next}
 use Rattle.sse_model.specs.Names.{Table}
 use Rattle.sse_model.specs.Positions.{entry_positions, block_positions, sealed, ranks_of}
 use Rattle.sse_model.specs.Transcript.{session}
@@ -47,7 +46,7 @@ length-answers_behind (ForTook q) xs enough = omega arith
 length-answers_behind ForAnswer [] enough = absurd (omega (arith, enough))
 length-answers_behind ForAnswer (ids ∷ xs) enough = omega arith
 
--- the first frames take the first answers, and the others those behind
+-- the first frames take the first answers, and the others those after
 pub exchange-append : (frames more : List FrameText) (xs ys : List (List ℕ)) → length xs ≡ searches frames → exchange (xs ++ ys) (frames ++ more) ≡ exchange xs frames ++ exchange ys more
 exchange-append [] more [] ys count = refl
 exchange-append [] more (ids ∷ xs) ys count = absurd (omega (arith, count))
@@ -168,13 +167,12 @@ module _ (t : Table) (o : Offsets) (s : Setup) where
 -- Histories.
 
 module _ (f : KeyedFn) (keys : ℕ → List ℕ) where
-  -- all that passes for a history is the exchange of its frames, with what its searches show
-  pub session-exchange : (h : History) → session f keys h ≡ exchange (shown_in_turn h) (frames_sent f keys h)
+  -- all that passes for a history is the greeting, and then the exchange of its frames, with what its searches show
+  pub session-exchange : (h : History) → session f keys h ≡ greeting 0 ++ exchange (shown_in_turn h) (frames_sent f keys h)
   session-exchange None = refl
   session-exchange (Some run) =
       let t : Table = table_of f keys run in
-      sym (ap (exchange (shown_in_turn (Some run))) (frames_sent-run f keys run)
-      ∙ ap (λ passed. greeting ++ passed)
+      sym (ap (λ passed. greeting 0 ++ passed)
       (exchange-setup t at_first run.setup (shown_in_turn (Some run)) (frames_sent_by t at_first run.setup [] run.later)
       ∙ ap (λ passed. exchanged_setup t at_first run.setup ++ passed) (exchange-commands t at_first run.setup [] run.later)))
 
@@ -185,14 +183,13 @@ module _ (f : KeyedFn) (keys : ℕ → List ℕ) where
       let t : Table = table_of f keys run in
       omega (
         arith,
-        ap searches (frames_sent-run f keys run),
         searches-append (frames_of_setup t at_first run.setup) (frames_sent_by t at_first run.setup [] run.later),
         searches-setup t at_first run.setup,
         searches-commands t at_first run.setup [] run.later,
       )
 
-  -- none among the frames of an update behind a history, whose one search is a search's
-  pub searches_behind-update : (h : History) (c : Command) → is_update c ≡ true → searches (frames_behind f keys h (c ∷ [])) ≡ 0
+  -- none among the frames of an update after a history, whose one search is a search's
+  pub searches_behind-update : (h : History) (c : Command) → is_update c ≡ true → searches (frames_of_next f keys h (c ∷ [])) ≡ 0
   searches_behind-update None c update = refl
   searches_behind-update (Some run) (Add d) update = refl
   searches_behind-update (Some run) (Delete id) update = refl

@@ -24,9 +24,9 @@ use Rattle.sse_model.proofs.Collisions.{IsCollisionFree-first}
 use Rattle.sse_model.proofs.Grammar.{wire_of_keys_in_grammar}
 use Rattle.sse_model.proofs.Prefixes.{run_of, first, frames_by, exchanged_by, exchanged_setup, wire-append}
 use Rattle.sse_model.specs.Drawn.{IsCollisionFree}
-use Rattle.sse_model.specs.Histories.{table_of, frames_sent, frames_of_first, frames_behind, collision_behind, HasNoCollision}
+use Rattle.sse_model.specs.Histories.{table_of, frames_sent, frames_of_first, frames_of_next, collision_of_next, HasNoCollision}
 use Rattle.sse_model.specs.Names.{Table}
-use Rattle.sse_model.specs.Transcript.{transcript}
+use Rattle.sse_model.specs.Transcript.{transcript, session}
 use Rattle.sse_model.specs.Wire.{frames_of_setup, wire, acknowledgements, replies_of}
 
 -- The frames of a transcript.
@@ -63,49 +63,47 @@ sent_among-transcript t o run =
     ∙ (λ i. sent_among-exchanged (frames_of_setup t o run.setup) (acknowledgements o.frame (frames_needed run.setup)) i ++ sent_among-over t o run.setup [] run.later i)
 
 module _ (f : KeyedFn) (keys : ℕ → List ℕ) where
-  -- a session sends Hello, and then its run's wire
-  pub frames_sent-run : (run : Run) → frames_sent f keys (Some run) ≡ Hello ∷ flat_map (λ frames. frames) (wire (table_of f keys run) at_first run)
-  frames_sent-run run = ap (λ frames. Hello ∷ frames) (sent_among-transcript (table_of f keys run) at_first run)
+  -- the frames of a session are Hello, and then those of its history
+  pub sent_among-session : (h : History) → sent_among (session f keys h) ≡ Hello ∷ frames_sent f keys h
+  sent_among-session None = refl
+  sent_among-session (Some run) = ap (λ frames. Hello ∷ frames) (sent_among-transcript (table_of f keys run) at_first run)
 
   -- Command by command.
 
-  -- a setup sends its frames behind Hello
+  -- a history that is set up alone sends the setup's frames
   pub frames_sent-begun : (s : Setup) → frames_sent f keys (begun_by s) ≡ frames_sent f keys empty ++ frames_of_first f keys s
-  frames_sent-begun s = frames_sent-run (run_of s []) ∙ ap (λ frames. Hello ∷ frames) (append-nil (frames_of_first f keys s))
+  frames_sent-begun s = append-nil (frames_of_first f keys s)
 
-  -- commands send theirs behind those of the history
-  pub frames_sent-longer : (h : History) (commands : List Command) → frames_sent f keys (longer commands h) ≡ frames_sent f keys h ++ frames_behind f keys h commands
+  -- commands send theirs after those of the history
+  pub frames_sent-longer : (h : History) (commands : List Command) → frames_sent f keys (longer commands h) ≡ frames_sent f keys h ++ frames_of_next f keys h commands
   frames_sent-longer None commands = refl
   frames_sent-longer (Some run) commands =
-      frames_sent-run (run_of run.setup (run.later ++ commands))
-      ∙ ap (λ frames. Hello ∷ flat_map (λ frames. frames) frames) (wire-append (table_of f keys run) at_first run.setup run.later commands)
-      ∙ ap (λ frames. Hello ∷ frames) (flat_map-append (λ frames. frames) (wire (table_of f keys run) at_first run) (over (frames_by (table_of f keys run) at_first run.setup) run.later commands))
-      ∙ ap (λ frames. frames ++ frames_behind f keys (Some run) commands) (sym (frames_sent-run run))
+      ap (flat_map (λ frames. frames)) (wire-append (table_of f keys run) at_first run.setup run.later commands)
+      ∙ flat_map-append (λ frames. frames) (wire (table_of f keys run) at_first run) (over (frames_by (table_of f keys run) at_first run.setup) run.later commands)
 
-  -- a history that isn't set up sends Hello alone
+  -- a history that isn't set up sends nothing
   pub frames_sent-before : (h : History) → is_set_up h ≡ false → frames_sent f keys h ≡ frames_sent f keys empty
   frames_sent-before None e = refl
   frames_sent-before (Some run) e = absurd (true≢false e)
 
   -- the frames of the first part of a history are the first
   pub frames_sent-first : (part whole : History) → IsFirstOf part whole → (more : List FrameText) × (frames_sent f keys whole ≡ frames_sent f keys part ++ more)
-  frames_sent-first None None p = ([], sym (append-nil (frames_sent f keys None)))
-  frames_sent-first None (Some run) p = (flat_map (λ frames. frames) (wire (table_of f keys run) at_first run), frames_sent-run run)
+  frames_sent-first None whole p = (frames_sent f keys whole, refl)
   frames_sent-first (Some run) None p = absurd p
   frames_sent-first (Some run) (Some whole) p =
-      (frames_behind f keys (Some run) p.1.0, ap (λ r. frames_sent f keys (Some r)) (whole_run run whole p) ∙ frames_sent-longer (Some run) p.1.0)
+      (frames_of_next f keys (Some run) p.1.0, ap (λ r. frames_sent f keys (Some r)) (whole_run run whole p) ∙ frames_sent-longer (Some run) p.1.0)
 
   -- a search sends one frame, with the word's token
-  pub frames_behind-search : (h : History) (word : List ℕ) → is_set_up h ≡ true → frames_behind f keys h (Search word ∷ []) ≡ SearchFrame (token_of f (keys 0) word) ∷ []
-  frames_behind-search None word up = absurd (true≢false (sym up))
-  frames_behind-search (Some run) word up = refl
+  pub frames_of_next-search : (h : History) (word : List ℕ) → is_set_up h ≡ true → frames_of_next f keys h (Search word ∷ []) ≡ SearchFrame (token_of f (keys 0) word) ∷ []
+  frames_of_next-search None word up = absurd (true≢false (sym up))
+  frames_of_next-search (Some run) word up = refl
 
   -- Collisions.
 
   -- no values of a search are compared
-  pub collision_behind-search : (h : History) (word : List ℕ) → collision_behind f keys h (Search word ∷ []) ≡ None
-  collision_behind-search None word = refl
-  collision_behind-search (Some run) word = refl
+  pub collision_of_next-search : (h : History) (word : List ℕ) → collision_of_next f keys h (Search word ∷ []) ≡ None
+  collision_of_next-search None word = refl
+  collision_of_next-search (Some run) word = refl
 
   -- the first part of a history without collisions has none
   pub HasNoCollision-first : (part whole : History) → IsFirstOf part whole → HasNoCollision f keys whole → HasNoCollision f keys part
@@ -117,7 +115,6 @@ module _ (f : KeyedFn) (keys : ℕ → List ℕ) where
 
   -- the frames of a history without collisions that keeps its rules are in the grammar
   pub frames_sent-in_grammar : (h : History) → IsKeyedFn f → IsKept h → HasNoCollision f keys h → AllByRecursion InGrammar (frames_sent f keys h)
-  frames_sent-in_grammar None laws kept free = (tt, tt)
+  frames_sent-in_grammar None laws kept free = tt
   frames_sent-in_grammar (Some run) laws kept free =
-      subst (AllByRecursion InGrammar) (sym (frames_sent-run run))
-      (tt, recursion_from_All InGrammar (flat_map (λ fs. fs) (wire (table_of f keys run) at_first run)) (wire_of_keys_in_grammar f laws keys at_first run kept.0 (omega (arith, kept.1)) free))
+      recursion_from_All InGrammar (flat_map (λ fs. fs) (wire (table_of f keys run) at_first run)) (wire_of_keys_in_grammar f laws keys at_first run kept.0 (omega (arith, kept.1)) free)

@@ -39,7 +39,7 @@ abbrev pub names_of_setup : ℕ → Setup → List Name
 names_of_setup epoch s = names_of (entry_positions epoch s) ++ names_of (block_positions epoch s)
 
 module _ (t : Table) (o : Offsets) (s : Setup) (xs ys : List Command) where
-  -- the wire of commands and others behind them is that of the commands, and then the frames of the others
+  -- the wire of commands and others after them is that of the commands, and then the frames of the others
   pub wire-append : wire t o (run_of s (xs ++ ys)) ≡ wire t o (run_of s xs) ++ over (frames_by t o s) xs ys
   wire-append = ap (λ rest. frames_of_setup t o s ∷ rest) (over-append (frames_by t o s) [] xs ys)
 

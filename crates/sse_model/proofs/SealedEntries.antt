@@ -15,15 +15,15 @@ use Rattle.sse_model.proofs.Collisions.{joined}
 use Rattle.sse_model.proofs.Counts.{AllByRecursion-append}
 use Rattle.sse_model.proofs.Members.{Contains-head, Contains-cons}
 use Rattle.sse_model.proofs.Texts.{HasText, IsBytes-xored}
-use Rattle.sse_model.specs.Drawn.{drawn, probed, is_compared, IsCollisionFree}
+use Rattle.sse_model.specs.Drawn.{drawn, probed, is_compared, AreToldApart, IsCollisionFree}
 use Rattle.sse_model.specs.Names.{Name, name, Kind, Table, class_of, size_at, cell_size, block_size}
 use Rattle.sse_model.specs.Positions.{Position, word_blocks, sealed, entries_from, blocks_from, block_position, entry_positions, block_positions}
 use Rattle.sse_model.specs.Values.{IsValue}
 
--- the table gives these names values of their sizes, different ones to different names of one compared class
+-- the table gives these names values of their sizes, different ones to different names of one epoch and one compared class
 pub record IsTold (s : Shape) (t : Table) (names : List Name) : Type 0 where
   pub values : (n : Name) → Contains names n → IsValue s t n
-  pub apart : (x y : Name) → Contains names x → Contains names y → class_of x ≡ class_of y → is_compared (class_of x) ≡ true → t x ≡ t y → x ≡ y
+  pub apart : AreToldApart t names
 
 -- so does the table of a collision-free run, for what it draws
 pub IsTold-drawn : (t : Table) (o : Offsets) (run : Run) → IsCollisionFree t o run
@@ -107,4 +107,4 @@ pub AllDiffer-names : (s : Shape) (t : Table) (names : List Name) (epoch : ℕ) 
 AllDiffer-names s t names epoch kind number words told class compared distinct drawn =
     AllDiffer-words (λ w. t (name epoch w kind (number w))) words distinct
     (λ v w here there same. ap (λ (n : Name). n.word)
-    (told.apart (name epoch v kind (number v)) (name epoch w kind (number w)) (drawn v here) (drawn w there) (class v w) (compared v) same))
+    (told.apart (name epoch v kind (number v)) (name epoch w kind (number w)) (drawn v here) (drawn w there) refl (class v w) (compared v) same))

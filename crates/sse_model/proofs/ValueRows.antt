@@ -7,7 +7,7 @@ use Rattle.client_registry.specs.Setup.{Setup, setup_of}
 use Rattle.client_registry.specs.Acceptance.{blocks_of}
 use Rattle.client_registry.specs.Command.{Search}
 use Rattle.client_registry.specs.FirstClash.{first_clash}
-use Rattle.client_registry.specs.Live.{counter, found}
+use Rattle.client_registry.specs.Live.{counter, matching_ids}
 use Rattle.client_registry.specs.Run.{at_first}
 use Rattle.sse_frames.specs.Frames.{Entry}
 use Rattle.sse_model.specs.Names.{Kind, name, Token, ListLabel, ListPad, PlusLabel, Revocation, PlaceTag}
@@ -108,7 +108,7 @@ many_kinds : map (λ n. flat_map (take 1) (take 1 (plaintexts (of_many (a ∷ []
 many_kinds = refl
 
 -- and all of them are found
-many_found : map (λ n. found (of_many (a ∷ []) n) [] a) (2 ∷ 3 ∷ 8 ∷ [])
+many_found : map (λ n. matching_ids (of_many (a ∷ []) n) [] a) (2 ∷ 3 ∷ 8 ∷ [])
     ≡ (1 ∷ 2 ∷ []) ∷ (1 ∷ 2 ∷ 3 ∷ []) ∷ (1 ∷ 2 ∷ 3 ∷ 4 ∷ 5 ∷ 6 ∷ 7 ∷ 8 ∷ []) ∷ []
 many_found = refl
 

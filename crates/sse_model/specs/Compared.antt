@@ -37,7 +37,7 @@ abbrev pub collision_of_numbers : Table → (epoch id : ℕ) → (List ℕ → B
 collision_of_numbers t epoch id keep words =
     option_map (λ places. Numbers places.0 places.1) (equal_among keep (λ word. t (name epoch word Revocation id)) words)
 
--- of a command behind these others: the labels of an addition's new entries, and the numbers that an addition or a
+-- of a command after these others: the labels of an addition's new entries, and the numbers that an addition or a
 -- deletion sends
 abbrev pub collision_of : Table → (epoch : ℕ) → Setup → List Command → Command → Option Collision
 collision_of t epoch s past (Add d) = option_or

@@ -67,9 +67,12 @@ is_compared Revocations = true
 is_compared PlaceTags = true
 is_compared _ = false
 
--- no two different names of one compared class, drawn or looked up, have equal values
-abbrev pub IsCollisionFree : Table → Offsets → Run → Type 0
-IsCollisionFree t o run =
-    let names = flat_map (λ n. n) (drawn o run ++ probed o run) in
+-- a table gives different values to different ones of these names, where they are of one epoch and of one compared class
+abbrev pub AreToldApart : Table → List Name → Type 0
+AreToldApart t names =
     (x y : Name) → Contains names x → Contains names y →
-    class_of x ≡ class_of y → is_compared (class_of x) ≡ true → t x ≡ t y → x ≡ y
+    x.epoch ≡ y.epoch → class_of x ≡ class_of y → is_compared (class_of x) ≡ true → t x ≡ t y → x ≡ y
+
+-- no two different names of one epoch and one compared class, drawn or looked up, have equal values
+abbrev pub IsCollisionFree : Table → Offsets → Run → Type 0
+IsCollisionFree t o run = AreToldApart t (flat_map (λ n. n) (drawn o run ++ probed o run))

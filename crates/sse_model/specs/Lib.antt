@@ -5,4 +5,5 @@ pub mod Transcript
 pub mod Drawn
 pub mod Values
 pub mod Compared
+pub mod Epochs
 pub mod Histories

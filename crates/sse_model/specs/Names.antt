@@ -66,7 +66,7 @@ class_of n = class_at n.kind n.number
 abbrev pub Table : Type 0
 Table = Name → List ℕ
 
--- the bytes of a cell of b numbers behind its kind byte, and of a block of B numbers
+-- the bytes of a cell of b numbers after its kind byte, and of a block of B numbers
 abbrev pub cell_size : Shape → ℕ
 cell_size s = 1 + 8 * s.b
 

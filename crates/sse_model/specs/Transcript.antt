@@ -1,4 +1,4 @@
--- All that passes between a client and a server for a history: each frame, and behind it its replies.
+-- All that passes between a client and a server for a history: each frame, and after it its replies.
 use Rattle.std.specs.Prelude.{ℕ, List, [], ◌∷◌, ◌++◌, flat_map, None, Some}
 use Rattle.keyed_fn.specs.KeyedFn.{KeyedFn}
 use Rattle.client_registry.specs.Acceptance.{frames_needed}
@@ -14,7 +14,7 @@ transcript t o run =
     exchanged (frames_of_setup t o run.setup) (acknowledgements o.frame (frames_needed run.setup))
     ∷ over (λ past c. exchanged (frames_of t o.epoch run.setup (next_number o run.setup past) past c) (replies_of o run.setup past c)) [] run.later
 
--- all that passes for a history under the keys of its epochs
+-- all that passes for a history under the keys of its epochs, from a server that has taken nothing
 abbrev pub session : KeyedFn → (ℕ → List ℕ) → History → List Passed
-session f keys None = greeting
-session f keys (Some run) = greeting ++ flat_map (λ passed. passed) (transcript (table f run.setup.shape keys) at_first run)
+session f keys None = greeting at_first.frame
+session f keys (Some run) = greeting at_first.frame ++ flat_map (λ passed. passed) (transcript (table f run.setup.shape keys) at_first run)

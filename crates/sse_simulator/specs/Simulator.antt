@@ -3,8 +3,8 @@
 use Rattle.std.specs.Prelude.{ℕ, zero, suc, ◌+◌, Bool, true, false, List, [], ◌∷◌, ◌++◌, length, filter, drop, flat_map, Option, None, Some, option_map}
 use Rattle.std.specs.List.{slice_get}
 use Rattle.std.specs.Option.{option_and_then}
-use Rattle.sse_frames.specs.Exchange.{Passed, exchange}
-use Rattle.sse_frames.specs.Frames.{Entry, FrameText, Hello, AddFrame, DeleteFrame, SearchFrame}
+use Rattle.sse_frames.specs.Exchange.{Passed, exchange, greeting}
+use Rattle.sse_frames.specs.Frames.{Entry, FrameText, AddFrame, DeleteFrame, SearchFrame}
 use Rattle.sse_frames.specs.Order.{by_bytes}
 use Rattle.sse_frames.specs.Sending.{setup_frames}
 use Rattle.sse_simulator.specs.Leaks.{Origin, NewEntry, Fresh, Again, WordLeak, Leak, SetupLeak, AddLeak, DeleteLeak, SearchLeak, Draw, EntryDraw, BlockDraw, NumberDraw, TokenDraw}
@@ -105,7 +105,7 @@ abbrev pub token_shown : List Kept → Option ℕ → List Draw → Option (List
 token_shown kept None draws = option_and_then as_token (slice_get draws 0)
 token_shown kept (Some earlier) draws = token_kept kept earlier
 
--- the frames of a command behind those of which this is kept, the next update frame having the number q; None where it names
+-- the frames of a command after those of which this is kept, the next update frame having the number q; None where it names
 -- a command, a place or a draw that isn't there
 abbrev pub frames_simulated : List Kept → (q : ℕ) → Leak → List Draw → Option (List FrameText)
 frames_simulated kept q (SetupLeak shape words blocks) draws =
@@ -151,7 +151,7 @@ pub record Sim : Type 0 where
 abbrev pub sim_at_first : Sim
 sim_at_first = record { kept = []; next = 0 }
 
--- behind a command with these frames
+-- after a command with these frames
 abbrev pub sim_after : Sim → Leak → List Draw → List FrameText → Sim
 sim_after sim leak draws frames = record {
   kept = sim.kept ++ kept_of leak draws ∷ [];
@@ -166,8 +166,8 @@ simulated_from sim (leak ∷ leaks) (draws ∷ drawn) =
     option_and_then (λ frames. before (Some frames) (simulated_from (sim_after sim leak draws frames) leaks drawn))
     (frames_simulated sim.kept sim.next leak draws)
 
--- all that passes: the greeting, then each frame with its replies, those to the searches being pages of the answers that the
+-- all that passes, from a server that has taken nothing: the greeting, then each frame with its replies, those to the searches being pages of the answers that the
 -- leakage tells
 abbrev pub simulated : List Leak → List (List Draw) → Option (List Passed)
 simulated leaks drawn =
-    option_map (λ frames. exchange (flat_map answer_of leaks) (Hello ∷ flat_map (λ fs. fs) frames)) (simulated_from sim_at_first leaks drawn)
+    option_map (λ frames. greeting sim_at_first.next ++ exchange (flat_map answer_of leaks) (flat_map (λ fs. fs) frames)) (simulated_from sim_at_first leaks drawn)

@@ -3,7 +3,7 @@ use Rattle.std.specs.List.{flat_map, AllByRecursion}
 use Rattle.std.specs.Simd.{first_chunks}
 use Rattle.std.proofs.lemmas.List.{length-drop, length-take, drop-drop, take-append-drop}
 use Rattle.sse_frames.specs.Frames.{IsBytes, entry_bytes, joined}
-use Rattle.sse_frames.specs.Seen.{items_in, entries_in}
+use Rattle.sse_frames.specs.FrameViews.{items_in, entries_in}
 use Rattle.sse_frames.specs.Sizes.{AreItems}
 use Rattle.sse_frames.proofs.Cut.{AreBytes, AreBytes-take, AreBytes-drop}
 use Rattle.sse_frames.proofs.Numbers.{stands16, stands32}

@@ -3,7 +3,7 @@ use Rattle.std.specs.List.{AllByRecursion}
 use Rattle.std.specs.Simd.{first_chunks}
 use Rattle.std.proofs.lemmas.List.{length-drop}
 use Rattle.sse_frames.specs.Frames.{IsBytes, joined}
-use Rattle.sse_frames.specs.Seen.{items_in}
+use Rattle.sse_frames.specs.FrameViews.{items_in}
 use Rattle.sse_frames.specs.Sizes.{AreItems}
 use Rattle.sse_frames.proofs.Cut.{AreBytes, AreBytes-drop}
 use Rattle.sse_frames.proofs.Numbers.{stands16, stands32}

@@ -3,7 +3,7 @@ use Rattle.std.specs.Int.{w16}
 use Rattle.std.proofs.lemmas.Bool.{and_parts}
 use Rattle.std.proofs.lemmas.List.{length-drop}
 use Rattle.sse_frames.specs.Frames.{joined}
-use Rattle.sse_frames.specs.Seen.{items_in}
+use Rattle.sse_frames.specs.FrameViews.{items_in}
 use Rattle.sse_frames.specs.Sizes.{AreItems}
 use Rattle.sse_frames.specs.Fields.{is_whole, is_block_width, number_at}
 use Rattle.sse_frames.proofs.Cut.{AreBytes, AreBytes-drop}

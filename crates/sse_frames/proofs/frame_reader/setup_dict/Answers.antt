@@ -5,7 +5,7 @@ use Rattle.std.specs.Simd.{first_chunks}
 use Rattle.std.proofs.lemmas.Bool.{and_parts}
 use Rattle.std.proofs.lemmas.List.{length-drop}
 use Rattle.sse_frames.specs.Frames.{entry_bytes}
-use Rattle.sse_frames.specs.Seen.{items_in, entries_in}
+use Rattle.sse_frames.specs.FrameViews.{items_in, entries_in}
 use Rattle.sse_frames.specs.Sizes.{AreItems}
 use Rattle.sse_frames.specs.Fields.{is_whole, is_cell_width, number_at}
 use Rattle.sse_frames.proofs.Cut.{AreBytes, AreBytes-drop}

@@ -1,5 +1,5 @@
 use Rattle.std.proofs.Common.{ℕ, ◌≤◌, List, ◌++◌, length, drop, sym, ap, subst, ◌∙◌, arith}
-use Rattle.sse_frames.specs.Seen.{seen}
+use Rattle.sse_frames.specs.FrameViews.{frame_view}
 use Rattle.sse_frames.proofs.Heads.{written, length-frame_bytes}
 use Rattle.sse_frames.proofs.Spelling.{length-body_of}
 use Rattle.sse_frames.proofs.frame_writer.write_frame_into.Goals as goal
@@ -21,8 +21,8 @@ returns-clause-bytes c =
 
 pub returns-clause-least : goal.returns-clause-least
 returns-clause-least c =
-    let some = (length-body_of (seen c.args.frame.now) c.requires.grammar).some in
+    let some = (length-body_of (frame_view c.args.frame.now) c.requires.grammar).some in
     omega (arith, returns-clause-len c, some)
 
 pub returns-clause-most : goal.returns-clause-most
-returns-clause-most c = omega (arith, returns-clause-len c, length-frame_bytes (seen c.args.frame.now) c.requires.grammar)
+returns-clause-most c = omega (arith, returns-clause-len c, length-frame_bytes (frame_view c.args.frame.now) c.requires.grammar)

@@ -2,7 +2,7 @@ use Rattle.std.proofs.Common.{◌≡◌, ◌+◌, ◌*◌, ◌≤◌, [], length
 use Rattle.std.specs.List.{flat_map}
 use Rattle.std.proofs.lemmas.List.{length-drop, append-nil}
 use Rattle.sse_frames.specs.Frames.{be64}
-use Rattle.sse_frames.specs.Seen.{numbers_in}
+use Rattle.sse_frames.specs.FrameViews.{numbers_in}
 use Rattle.sse_frames.specs.Tables.{least_ids}
 use Rattle.sse_frames.proofs.Cut.{AreBytes, at_end}
 use Rattle.sse_frames.proofs.Numbers.{stands8, stands16}

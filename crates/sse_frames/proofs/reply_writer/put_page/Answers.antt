@@ -2,7 +2,7 @@ use Rattle.std.proofs.Common.{◌≡◌, ℕ, ◌+◌, ◌/◌, List, ◌++◌, 
 use Rattle.std.specs.List.{flat_map}
 use Rattle.sse_frames.specs.Frames.{be64}
 use Rattle.sse_frames.specs.Replies.{page_head, Page, reply_bytes}
-use Rattle.sse_frames.specs.Seen.{numbers_in}
+use Rattle.sse_frames.specs.FrameViews.{numbers_in}
 use Rattle.sse_frames.proofs.Cut.{AreBytes}
 use Rattle.sse_frames.proofs.Puts.{put_next}
 use Rattle.sse_frames.proofs.Pages.{page_spelled, be64-numbers_in, length-numbers_in}

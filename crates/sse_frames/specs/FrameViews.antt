@@ -26,25 +26,25 @@ abbrev pub numbers_in : List ℕ → List ℕ
 numbers_in bytes = map (from_be_bytes w64) (items_in 8 bytes)
 
 -- a frame of the code as a value
-abbrev pub seen : Frame → FrameText
-seen frames.Hello = Hello
-seen (frames.SetupBegin q b big m a) = SetupBegin q b big m a
-seen (frames.SetupDict q width entries) = SetupDict q width (entries_in width entries.now)
-seen (frames.SetupArray q width blocks) = SetupArray q width (items_in width blocks.now)
-seen (frames.SetupEnd q) = SetupEnd q
-seen (frames.Add q entries numbers) = AddFrame q (entries_in 8 entries.now) (items_in 16 numbers.now)
-seen (frames.Delete q numbers) = DeleteFrame q (items_in 16 numbers.now)
-seen (frames.Search token) = SearchFrame token.now
+abbrev pub frame_view : Frame → FrameText
+frame_view frames.Hello = Hello
+frame_view (frames.SetupBegin q b big m a) = SetupBegin q b big m a
+frame_view (frames.SetupDict q width entries) = SetupDict q width (entries_in width entries.now)
+frame_view (frames.SetupArray q width blocks) = SetupArray q width (items_in width blocks.now)
+frame_view (frames.SetupEnd q) = SetupEnd q
+frame_view (frames.Add q entries numbers) = AddFrame q (entries_in 8 entries.now) (items_in 16 numbers.now)
+frame_view (frames.Delete q numbers) = DeleteFrame q (items_in 16 numbers.now)
+frame_view (frames.Search token) = SearchFrame token.now
 
 -- a reply of the code as a value
-abbrev pub seen_reply : Reply → ReplyText
-seen_reply (replies.Next q) = Next q
-seen_reply (replies.Took q) = Took q
-seen_reply (replies.Number q) = Number q
-seen_reply (replies.Clash what place) = Clash what place
-seen_reply (replies.Page last ids) = Page last (numbers_in ids.now)
-seen_reply replies.BadList = BadList
-seen_reply replies.NoMemory = NoMemory
-seen_reply replies.StoreFault = StoreFault
-seen_reply (replies.BadFrame reason) = BadFrame reason
-seen_reply replies.OutOfPlace = OutOfPlace
+abbrev pub reply_view : Reply → ReplyText
+reply_view (replies.Next q) = Next q
+reply_view (replies.Took q) = Took q
+reply_view (replies.Number q) = Number q
+reply_view (replies.Clash what place) = Clash what place
+reply_view (replies.Page last ids) = Page last (numbers_in ids.now)
+reply_view replies.BadList = BadList
+reply_view replies.NoMemory = NoMemory
+reply_view replies.StoreFault = StoreFault
+reply_view (replies.BadFrame reason) = BadFrame reason
+reply_view replies.OutOfPlace = OutOfPlace
