@@ -66,7 +66,7 @@ IsHonest-split f before after xs ys begins all =
     let parts = IsServed-split f (idle before) (idle after) xs ys all in
     (parts.0.state, IsServed-dropped f (idle before) parts.0 xs parts.1, IsServed-fresh f parts.0 (idle after) ys begins parts.2)
 
--- The state behind events.
+-- The state after events.
 
 -- a frame of the grammar was answered as its mark says
 pub Serves-frame : (f : KeyedFn) (before : ServerState) (frame : FrameText) (mark : Mark) (after : Served) → InGrammar frame → Serves f before (frame_bytes frame) mark after
@@ -82,7 +82,7 @@ one_state f a b frame Unknown after after' replies replies' known same one other
 one_state f a b frame Stepped after after' replies replies' known same one other = one.state ∙ ap (λ s. (step f s frame).0) same ∙ sym other.state
 one_state f a b frame LackedMemory after after' replies replies' known same one other = one.state ∙ same ∙ sym other.state
 
--- so the state behind events with known marks is a function of them
+-- so the state after events with known marks is a function of them
 pub IsServed-state : (f : KeyedFn) (start start' end end' : Served) (events : List Event) → AreKnown events → start.state ≡ start'.state → IsServed f start events end → IsServed f start' events end' → end.state ≡ end'.state
 IsServed-state f start start' end end' [] known same one other = sym one.0 ∙ same ∙ other.0
 IsServed-state f start start' end end' (Sent bytes mark ∷ events) known same one other =

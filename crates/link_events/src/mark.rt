@@ -1,5 +1,5 @@
 /// What a link knows of how the server answered a frame.
-#[derive(Clone, Copy, Debug, PartialEq, Eq)]
+#[derive(Clone, Copy)]
 pub enum Mark {
     /// Nothing.
     Unknown,

@@ -1,7 +1,7 @@
 use crate::Mark;
 
 /// What passed over a link: the bytes of a frame or of a reply, with its four length bytes.
-#[derive(Debug, Drop)]
+#[derive(Drop)]
 pub enum Passed {
     /// A frame that was sent, and what the link knows of its answer.
     Sent { bytes: Vec<u8>, mark: Mark },

@@ -13,7 +13,7 @@ use Rattle.std.proofs.lemmas.Cmp.{nat_list_cmp_total}
 use Rattle.std.proofs.lemmas.Nat.{div-mul-add, div-add-mod'}
 use Rattle.std.proofs.lemmas.List.{length-map, length-drop, drop-drop, drop-take, take-take}
 use Rattle.sse_frames.specs.Frames.{Entry, Rises, labels_of}
-use Rattle.sse_frames.specs.Seen.{entry_in, entries_in, items_in}
+use Rattle.sse_frames.specs.FrameViews.{entry_in, entries_in, items_in}
 use Rattle.server_tables.specs.Contents.{CellMap, NumberSet}
 use Rattle.server_core.specs.Refusal.{first_known}
 use Rattle.server_tables.proofs.Places.{turned}
@@ -32,7 +32,7 @@ div_none n k lt = let none : n ≡ 0 * k + n = omega arith in ap (λ m. m / k) n
 pub items_in-few : (size : ℕ) (bytes : List ℕ) → length bytes < size → items_in size bytes ≡ []
 items_in-few size bytes few = ap (λ n. first_chunks size n bytes) (div_none (length bytes) size few)
 
--- the first item, and those behind it
+-- the first item, and those after it
 pub items_in-more : (size : ℕ) (bytes : List ℕ) → 0 < size → size ≤ length bytes → items_in size bytes ≡ take size bytes ∷ items_in size (drop size bytes)
 items_in-more size bytes some enough =
     let one_less = div_less (length bytes) size some enough ∙ ap (λ n. suc (n / size)) (sym (length-drop size bytes)) in
@@ -44,7 +44,7 @@ entries_in-few width bytes few = ap (map entry_in) (items_in-few (16 + width) by
 pub entries_in-more : (width : ℕ) (bytes : List ℕ) → 16 + width ≤ length bytes → entries_in width bytes ≡ entry_in (take (16 + width) bytes) ∷ entries_in width (drop (16 + width) bytes)
 entries_in-more width bytes enough = ap (map entry_in) (items_in-more (16 + width) bytes (omega arith) enough)
 
--- the first entry as its label, its cell and the bytes behind it
+-- the first entry as its label, its cell and the bytes after it
 pub entries_in-parts : (width : ℕ) (bytes label behind cell rest : List ℕ) → 16 ≤ length bytes → label ≡ take 16 bytes → behind ≡ drop 16 bytes → width ≤ length behind → cell ≡ take width behind → rest ≡ drop width behind → entries_in width bytes ≡ record { label = label; text = cell } ∷ entries_in width rest
 entries_in-parts width bytes label behind cell rest whole is_label is_behind enough is_cell is_rest =
     let long : 16 + width ≤ length bytes = omega (arith, ap length is_behind, length-drop 16 bytes) in
@@ -68,7 +68,7 @@ none_from t u i j (x ∷ xs) less none =
     let parts = none_known t i x xs none in
     ap (λ b. cond b (Some j) (position_from u (j + 1) xs)) (less 0 x (omega arith) parts.0) ∙ none_from t u (i + 1) (j + 1) xs (λ k d lt. less (suc k) d (omega arith)) parts.1
 
--- a label is below all those that rise behind it
+-- a label is below all those that rise after it
 below_later : (label : List ℕ) (es : List Entry) → AllByRecursion (λ y. slice_cmp nat_cmp label y ≡ Less) (labels_of es) → (k : ℕ) (d : Entry) → k < length es → slice_cmp nat_cmp label (get_or es k d).label ≡ Less
 below_later label [] below k d lt = absurd (omega arith)
 below_later label (e ∷ es) below zero d lt = below.0
@@ -78,7 +78,7 @@ rises_apart : (x : List ℕ) (xs : List (List ℕ)) → Rises (x ∷ xs) → All
 unfolding IsStrictlySortedBy
 rises_apart x xs rises = rises
 
--- a number differs from all those that rise behind it
+-- a number differs from all those that rise after it
 apart_later : (n : List ℕ) (ns : List (List ℕ)) → AllByRecursion (λ y. slice_cmp nat_cmp n y ≡ Less) ns → (k : ℕ) (d : List ℕ) → k < length ns → eq_by_cmp (slice_cmp nat_cmp) (get_or ns k d) n ≡ false
 apart_later n [] below k d lt = absurd (omega arith)
 apart_later n (x ∷ xs) below zero d lt = ap is_eq (turned nat_list_cmp_total n x Less below.0)

@@ -7,7 +7,7 @@ use Rattle.two_level.specs.Opened.{numbers_of, leading, kind_of, joined}
 use Rattle.server_core.specs.Coming.{pointers_in, pointers_behind}
 use Rattle.server_core.specs.Opening.{IsRead}
 
--- a cell's first byte and the bytes behind it
+-- a cell's first byte and the bytes after it
 pub cell_parts : (clear : List ℕ) → 0 < length clear → clear ≡ slice_index clear 0 ∷ drop 1 clear
 cell_parts [] some = absurd (omega arith)
 cell_parts (kind ∷ rest) some = refl
@@ -33,7 +33,7 @@ pub front_of_one : (xs : List ℕ) (n : ℕ) → 0 < length xs → take 1 (set x
 front_of_one [] n some = absurd (omega arith)
 front_of_one (x ∷ xs) n some = refl
 
--- behind a group's last pointer come those of the next one
+-- after a group's last pointer come those of the next one
 pub next_group : (g : List ℕ → Option (List ℕ)) (xs : List ℕ) (o later : Option (List ℕ)) (at : ℕ) → o ≡ joined (Some xs) later → length xs ≤ at → option_and_then (λ ps. g (drop at ps)) o ≡ option_and_then (λ ps. g (drop (at - length xs) ps)) later
 next_group g xs o None at is past = ap (option_and_then (λ ps. g (drop at ps))) is
 next_group g xs o (Some ys) at is past =

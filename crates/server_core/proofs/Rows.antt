@@ -11,7 +11,7 @@ use Rattle.sse_frames.specs.Replies.{Next, Took, Number, Clash, Page, OutOfPlace
 use Rattle.search_token.specs.TokenKeys.{keys_of_bytes}
 use Rattle.server_core.specs.declared.stage.Stage.TheVariants.{Filling, Ready}
 use Rattle.server_core.specs.State.{ServerState, at_first}
-use Rattle.server_core.specs.Search.{listed, found}
+use Rattle.server_core.specs.Search.{listed, search_result}
 use Rattle.server_core.specs.Refusal.{clash}
 use Rattle.server_core.specs.Step.{step, taken}
 
@@ -100,7 +100,7 @@ more_row = simp (map.gets)
 clash_row : step toy (record filled { words = 2 }) (SetupDict 2 9 (entry ∷ [])) ≡ (record filled { words = 2 }, Clash 1 0 ∷ [])
 clash_row = simp (map.gets)
 
--- a cell of identifiers; one with a number behind a zero; one of an unknown kind; pointers without blocks, and none
+-- a cell of identifiers; one with a number after a zero; one of an unknown kind; pointers without blocks, and none
 abbrev no_block : (number pointer : ℕ) → Option (List ℕ)
 no_block number pointer = None
 
@@ -127,7 +127,7 @@ with_block = record whole {
   array = hex (codes "c5c6c7c8c9cacbcdcdcecfd0d1d2d3d6") ∷ [];
 }
 
-block_row : found toy with_block (keys_of_bytes of_a) ≡ Some (1 ∷ 2 ∷ [])
+block_row : search_result toy with_block (keys_of_bytes of_a) ≡ Some (1 ∷ 2 ∷ [])
 block_row = simp (map.gets, set.members)
 
 -- document 5 with the word `a` is added, deleted, and added again with `a` and `c`
@@ -158,16 +158,16 @@ delete_row = simp (map.gets, set.members)
 add_again_row : step toy deleted (AddFrame 5 (other_addition ∷ []) (number ∷ [])) ≡ (added_again, Took 5 ∷ [])
 add_again_row = simp (map.gets, set.members)
 
-added_row : found toy added (keys_of_bytes of_a) ≡ Some (1 ∷ 5 ∷ [])
+added_row : search_result toy added (keys_of_bytes of_a) ≡ Some (1 ∷ 5 ∷ [])
 added_row = simp (map.gets, set.members)
 
-deleted_row : found toy deleted (keys_of_bytes of_a) ≡ Some (1 ∷ [])
+deleted_row : search_result toy deleted (keys_of_bytes of_a) ≡ Some (1 ∷ [])
 deleted_row = simp (map.gets, set.members)
 
-added_again_row : found toy added_again (keys_of_bytes of_a) ≡ Some (1 ∷ 5 ∷ [])
+added_again_row : search_result toy added_again (keys_of_bytes of_a) ≡ Some (1 ∷ 5 ∷ [])
 added_again_row = simp (map.gets, set.members)
 
-other_word_row : found toy added_again (keys_of_bytes of_c) ≡ Some (5 ∷ [])
+other_word_row : search_result toy added_again (keys_of_bytes of_c) ≡ Some (5 ∷ [])
 other_word_row = simp (map.gets, set.members)
 
 -- an addition whose label is there, a number to be taken out that isn't there, and one to be put in that is

@@ -12,14 +12,14 @@ use Rattle.search_token.specs.TokenKeys.{TokenKeys}
 use Rattle.server_tables.specs.Contents.{Contents}
 use Rattle.server_core.specs.declared.spot.Spot.{Spot}
 use Rattle.server_core.specs.declared.spot.Spot.TheVariants.{Cell, Blocks, Added}
-use Rattle.server_core.specs.Search.{block_at, setup_ids, added_from, shown}
+use Rattle.server_core.specs.Search.{block_at, setup_ids, added_from, unrevoked}
 
 -- the word's cell, decrypted
 abbrev pub cell_at : KeyedFn → TokenKeys → Contents → Option (List ℕ)
 cell_at f keys c =
     option_map (λ text. xored text (cell_pad f keys.pad_key (length text))) (map.get c.dictionary (list_label f keys.label_key))
 
--- the pointers to blocks of identifiers behind a cell's numbers, from group `top` on: the numbers of a cell of such
+-- the pointers to blocks of identifiers of a cell's numbers, from group `top` on: the numbers of a cell of such
 -- pointers are one group, and each block of pointers is one
 abbrev pub pointers_in : (block : (number pointer : ℕ) → Option (List ℕ)) → CellKind → (top : ℕ) → (numbers : List ℕ) → Option (List ℕ)
 pointers_in block Identifiers top numbers = Some []
@@ -27,7 +27,7 @@ pointers_in block DataPointers zero numbers = Some numbers
 pointers_in block DataPointers (suc top) numbers = Some []
 pointers_in block BlockPointers top numbers = followed block top (drop top numbers)
 
--- the same behind a decrypted cell
+-- the same after a decrypted cell
 abbrev pub pointers_behind : (block : (number pointer : ℕ) → Option (List ℕ)) → (clear : List ℕ) → (top : ℕ) → Option (List ℕ)
 pointers_behind block [] top = None
 pointers_behind block (kind ∷ bytes) top =
@@ -50,7 +50,7 @@ ids_from f keys c (Added n) = additions_from f keys c n
 
 -- what a search still gives that stands here and has passed so many identifiers of this place
 abbrev pub coming : KeyedFn → TokenKeys → Contents → Spot → (within : ℕ) → Option (List ℕ)
-coming f keys c spot within = option_map (λ ids. shown f keys (set.contains c.revoked) (drop within ids)) (ids_from f keys c spot)
+coming f keys c spot within = option_map (λ ids. unrevoked f keys (set.contains c.revoked) (drop within ids)) (ids_from f keys c spot)
 
 -- the numbers of a block that the code counts fit 32 bits
 abbrev pub InRange : Spot → Type 0

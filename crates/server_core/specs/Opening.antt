@@ -31,7 +31,7 @@ pub record IsGroup (f : KeyedFn) (keys : TokenKeys) (c : Contents) (top : ℕ) (
   pub last : is_last ≡ true → pointers_from f keys c (top + 1) ≡ Some []
   pub more : is_last ≡ false → top + 1 < 64
 
--- one place: its identifiers, and where the search goes on behind it
+-- one place: its identifiers, and where the search goes on after it
 pub record IsPlace (f : KeyedFn) (keys : TokenKeys) (c : Contents) (spot : Spot) (ids : List ℕ) (behind : Spot) : Type 0 where
   pub ids_then : ids_from f keys c spot ≡ joined (Some ids) (ids_from f keys c behind)
   pub in_range : InRange behind

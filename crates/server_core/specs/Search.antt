@@ -39,14 +39,14 @@ added_from f keys plus c zero = Some []
 added_from f keys plus c (suc most) = added_at f keys c (plus (plus_label f keys.plus_label_key c)) (added_from f keys plus (c + 1) most)
 
 -- the identifiers whose revocation numbers aren't in the set
-abbrev pub shown : KeyedFn → TokenKeys → (List ℕ → Bool) → List ℕ → List ℕ
-shown f keys is_revoked ids = filter (λ id. not (is_revoked (revocation f keys.revocation_key id))) ids
+abbrev pub unrevoked : KeyedFn → TokenKeys → (List ℕ → Bool) → List ℕ → List ℕ
+unrevoked f keys is_revoked ids = filter (λ id. not (is_revoked (revocation f keys.revocation_key id))) ids
 
 -- what a search gives, by the look-ups in the dictionary and the array, in the additions, of which there are so many,
 -- and in the revoked numbers; None where what it opens is no list
 abbrev pub searched : KeyedFn → TokenKeys → (cell : List ℕ → Option (List ℕ)) → (array : List (List ℕ)) → (plus : List ℕ → Option (List ℕ)) → (additions : ℕ) → (is_revoked : List ℕ → Bool) → Option (List ℕ)
 searched f keys cell array plus additions is_revoked =
-    option_and_then (λ first. option_map (λ later. shown f keys is_revoked (first ++ later)) (added_from f keys plus 0 additions)) (setup_ids f keys cell array)
+    option_and_then (λ first. option_map (λ later. unrevoked f keys is_revoked (first ++ later)) (added_from f keys plus 0 additions)) (setup_ids f keys cell array)
 
-abbrev pub found : KeyedFn → ServerState → TokenKeys → Option (List ℕ)
-found f s keys = searched f keys (map.get s.dictionary) s.array (map.get s.additions) (map.len s.additions) (set.contains s.revoked)
+abbrev pub search_result : KeyedFn → ServerState → TokenKeys → Option (List ℕ)
+search_result f s keys = searched f keys (map.get s.dictionary) s.array (map.get s.additions) (map.len s.additions) (set.contains s.revoked)

@@ -11,7 +11,7 @@ use Rattle.search_token.specs.TokenKeys.{keys_of_bytes}
 use Rattle.server_core.specs.declared.stage.Stage.TheVariants.{Filling, Ready}
 use Rattle.server_tables.specs.Contents.{CellMap, NumberSet}
 use Rattle.server_core.specs.Refusal.{refusal}
-use Rattle.server_core.specs.Search.{found}
+use Rattle.server_core.specs.Search.{search_result}
 use Rattle.server_core.specs.State.{ServerState}
 
 -- the map with these entries too
@@ -57,13 +57,13 @@ answers f s (SetupArray q width blocks) = Took q ∷ []
 answers f s (SetupEnd q) = Took q ∷ []
 answers f s (AddFrame q entries numbers) = Took q ∷ []
 answers f s (DeleteFrame q numbers) = Took q ∷ []
-answers f s (SearchFrame token) = option_map_or pages (found f s (keys_of_bytes token)) (BadList ∷ [])
+answers f s (SearchFrame token) = option_map_or pages (search_result f s (keys_of_bytes token)) (BadList ∷ [])
 
 -- the server's step: a frame that is refused changes nothing
 abbrev pub step : KeyedFn → ServerState → FrameText → ServerState × List ReplyText
 step f s frame = option_map_or (λ reply. (s, reply ∷ [])) (refusal s frame) (taken s frame, answers f s frame)
 
--- the steps of several frames, in order: the state behind them, and the replies to each
+-- the steps of several frames, in order: the state after them, and the replies to each
 abbrev pub steps : KeyedFn → ServerState → List FrameText → ServerState × List (List ReplyText)
 steps f s [] = (s, [])
 steps f s (frame ∷ frames) =

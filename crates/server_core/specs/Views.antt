@@ -39,7 +39,7 @@ answer_replies f s answers.BadList page = replies.BadList ∷ []
 answer_replies f s answers.NoMemory page = replies.NoMemory ∷ []
 answer_replies f s answers.OutOfPlace page = replies.OutOfPlace ∷ []
 
--- where a search was begun, its walk goes on behind the page
+-- where a search was begun, its walk goes on after the page
 abbrev pub HasBegun : KeyedFn → ServerState → Answer → (page : List ℕ) → Type 0
 HasBegun f s (answers.Found count walk) page = HasPage f (contents_of s) count walk page
 HasBegun f s _ page = Unit {0}

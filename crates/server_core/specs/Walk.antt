@@ -28,7 +28,7 @@ pub record IsFront (count : ℕ) (is_over : Bool) (page : List ℕ) : Type 0 whe
   pub full : is_over ≡ false → count ≡ length page
   pub ids : All (λ id. 0 < id) (take count page)
 
--- and a walk goes on behind them
+-- and a walk goes on after them
 pub record HasPage (f : KeyedFn) (c : Contents) (count : ℕ) (walk : Walk) (page : List ℕ) : Type 0 where
   pub front : IsFront count walk.is_over page
   pub walk_is : IsWalk f c walk

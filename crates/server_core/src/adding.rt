@@ -1,6 +1,6 @@
 ghost use Rattle.std.specs.Prelude.{◌≡◌, ◌<◌, length, IfSome, None};
 ghost use Rattle.sse_frames.specs.Frames.{Rises, labels_of};
-ghost use Rattle.sse_frames.specs.Seen.{entries_in};
+ghost use Rattle.sse_frames.specs.FrameViews.{entries_in};
 ghost use Rattle.server_tables.specs.Room.{no_room, pieces, HasRoom};
 ghost use Rattle.server_core.specs.Refusal.{first_known};
 ghost use Rattle.server_core.specs.Step.{with_entries};

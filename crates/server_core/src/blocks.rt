@@ -18,7 +18,7 @@ pub struct NoList;
 /// Decrypts the list's block of this number at this pointer, which counts from 1, into the front of a buffer, and
 /// tells how many of its numbers come before its zeros.
 ///
-/// Errors: `NoList` where there is no such block, or it has a number behind a zero.
+/// Errors: `NoList` where there is no such block, or it has a number after a zero.
 pub fn open_block<K: Keyed, T: Tables>(
     tables: &T,
     keyed: &K,

@@ -1,8 +1,8 @@
 ghost use Rattle.std.specs.Prelude.{◌≡◌, ◌<◌, ◌^◌, ◌*◌, ◌+◌, [], ◌∷◌, length, MatchOption};
-ghost use Rattle.sse_frames.specs.Seen.{entries_in, items_in};
+ghost use Rattle.sse_frames.specs.FrameViews.{entries_in, items_in};
 
 /// The label and the cell of the first entry among joined ones whose cells have `width` bytes, and the
-/// bytes behind it. `None` where there isn't a whole entry.
+/// bytes after it. `None` where there isn't a whole entry.
 pub fn next_entry(bytes: &[u8], width: usize) -> Option<(&[u8; 16], &[u8], &[u8])>
     ensures entries { MatchOption result (entries_in width bytes.now ≡ [])
         (λ e. entries_in width bytes.now ≡ record { label = e.0.now; text = e.1.now } ∷ entries_in width e.2.now) }
@@ -26,7 +26,7 @@ pub fn entry_count(bytes: &[u8], width: u16) -> usize
     bytes.len() / (16 + usize::from(width))
 }
 
-/// The label and the encrypted identifier of the first addition among joined ones, and the bytes behind it. `None`
+/// The label and the encrypted identifier of the first addition among joined ones, and the bytes after it. `None`
 /// where there isn't a whole addition.
 pub fn next_addition(bytes: &[u8]) -> Option<(&[u8; 16], &[u8; 8], &[u8])>
     ensures entries { MatchOption result (entries_in 8 bytes.now ≡ [])
@@ -42,7 +42,7 @@ pub fn next_addition(bytes: &[u8]) -> Option<(&[u8; 16], &[u8; 8], &[u8])>
     Some((label, sealed, rest))
 }
 
-/// The first of the joined revocation numbers of 16 bytes, and the bytes behind it. `None` where there isn't a whole
+/// The first of the joined revocation numbers of 16 bytes, and the bytes after it. `None` where there isn't a whole
 /// one.
 pub fn next_revocation(bytes: &[u8]) -> Option<(&[u8; 16], &[u8])>
     ensures items { MatchOption result (items_in 16 bytes.now ≡ []) (λ e. items_in 16 bytes.now ≡ e.0.now ∷ items_in 16 e.1.now) }
@@ -54,7 +54,7 @@ pub fn next_revocation(bytes: &[u8]) -> Option<(&[u8; 16], &[u8])>
     Some((number, rest))
 }
 
-/// The first of the joined blocks of `width` bytes, and the bytes behind it. `None` where there isn't a whole one.
+/// The first of the joined blocks of `width` bytes, and the bytes after it. `None` where there isn't a whole one.
 pub fn next_block(bytes: &[u8], width: usize) -> Option<(&[u8], &[u8])>
     requires { 0 < width }
     ensures items { MatchOption result (items_in width bytes.now ≡ []) (λ e. items_in width bytes.now ≡ e.0.now ∷ items_in width e.1.now) }

@@ -1,6 +1,6 @@
 ghost use Rattle.std.specs.Prelude.{◌≡◌, ◌%◌, ◌≤◌, ◌<◌, ◌++◌, All, length, IfSome, None};
 ghost use Rattle.sse_frames.specs.Frames.{Rises, labels_of};
-ghost use Rattle.sse_frames.specs.Seen.{entries_in, items_in};
+ghost use Rattle.sse_frames.specs.FrameViews.{entries_in, items_in};
 ghost use Rattle.server_tables.specs.Room.{no_room, pieces, HasRoom};
 ghost use Rattle.server_core.specs.Holds.{HasCells, IsBlock};
 ghost use Rattle.server_core.specs.Refusal.{first_known};
@@ -43,7 +43,7 @@ pub fn put_all<T: Tables>(tables: &mut T, entries: &[u8], width: usize)
     }
 }
 
-/// Puts the blocks of a frame behind those of the array. Takes no memory.
+/// Puts the blocks of a frame after those of the array. Takes no memory.
 pub fn push_blocks<T: Tables>(tables: &mut T, blocks: &[u8], width: usize)
     requires room { HasRoom (T.room tables.old) (record no_room { blocks = pieces (length (items_in width blocks.now)) width }) }
     requires some { 0 < width }

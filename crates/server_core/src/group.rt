@@ -131,7 +131,7 @@ impl Group {
         }
     }
 
-    /// Opens group `top` behind an opened cell.
+    /// Opens group `top` after an opened cell.
     pub fn load<K: Keyed, T: Tables>(
         &mut self,
         tables: &T,

@@ -1,7 +1,7 @@
 ghost use Rattle.std.specs.Prelude.{◌≡◌, ◌+◌, ◌%◌, ◌<◌, [], ◌∷◌, length, MatchOption};
 ghost use Rattle.two_level.specs.Opened.{numbers_of};
 
-/// The first of the joined numbers of 8 bytes, and the bytes behind it.
+/// The first of the joined numbers of 8 bytes, and the bytes after it.
 pub fn next_number(bytes: &[u8]) -> Option<(u64, &[u8])>
     requires { length bytes.now % 8 ≡ 0 }
     ensures numbers { MatchOption result (numbers_of bytes.now ≡ []) (λ n. numbers_of bytes.now ≡ n.0 ∷ numbers_of n.1.now) }

@@ -4,7 +4,7 @@ ghost use Rattle.keyed_fn.specs.KeyedFn.{keyed_fn};
 ghost use Rattle.keyed_fn.specs.KeyFormulas.{revocation};
 ghost use Rattle.two_level.specs.Opened.{joined};
 ghost use Rattle.server_core.specs.Holds.{IsHeld};
-ghost use Rattle.server_core.specs.Search.{shown};
+ghost use Rattle.server_core.specs.Search.{unrevoked};
 ghost use Rattle.server_core.specs.Coming.{ids_from, coming, InRange};
 
 use crate::blocks::NoList;
@@ -33,7 +33,7 @@ fn is_shown<K: Keyed, T: Tables>(
     }
 }
 
-/// Hands out the shown ones of these identifiers behind the first `done` of `out`, up to one that finds no room: how
+/// Hands out the shown ones of these identifiers after the first `done` of `out`, up to one that finds no room: how
 /// many were passed, and how many `out` has.
 fn hand_out<K: Keyed, T: Tables>(
     tables: &T,
@@ -46,7 +46,7 @@ fn hand_out<K: Keyed, T: Tables>(
 ) -> (usize, usize)
     requires numbers { MatchOption numbers.now ((T.contents tables.now).revoked ≡ set.empty) (λ key. key ≡ token.now.revocation_key) }
     requires done { done ≤ length out.old }
-    ensures handed { take result.1 out.new ≡ take done out.old ++ shown (keyed_fn K.prf K.pad) token.now (set.contains (T.contents tables.now).revoked) (take result.0 ids.now) }
+    ensures handed { take result.1 out.new ≡ take done out.old ++ unrevoked (keyed_fn K.prf K.pad) token.now (set.contains (T.contents tables.now).revoked) (take result.0 ids.now) }
     ensures passed { result.0 ≤ length ids.now }
     ensures long { length out.new ≡ length out.old }
     ensures room { result.1 ≤ length out.old }
@@ -68,7 +68,7 @@ fn hand_out<K: Keyed, T: Tables>(
     (passed, filled)
 }
 
-/// What was handed out, and where the search stands: at the next identifier that is shown, or behind all.
+/// What was handed out, and where the search stands: at the next identifier that is shown, or after all.
 #[derive(Clone, Copy)]
 pub struct Filled {
     pub count: usize,

@@ -11,14 +11,14 @@ use keyed_fn::Keyed;
 use search_token::{PlusLabels, Token};
 use server_tables::Tables;
 
-/// The identifiers of one place are so many, and the search goes on behind it.
+/// The identifiers of one place are so many, and the search goes on after it.
 #[derive(Clone, Copy)]
-pub struct Place {
+pub struct IdsRead {
     pub count: usize,
     pub behind: Spot,
 }
 
-/// The identifiers at the next place, to the front of `ids`; `None` behind the last one.
+/// The identifiers at the next place, to the front of `ids`; `None` after the last one.
 pub fn next<K: Keyed, T: Tables>(
     tables: &T,
     keyed: &K,
@@ -27,7 +27,7 @@ pub fn next<K: Keyed, T: Tables>(
     group: &mut Group,
     spot: Spot,
     ids: &mut [u64; MOST],
-) -> Result<Option<Place>, NoList>
+) -> Result<Option<IdsRead>, NoList>
     requires held { IsHeld (T.contents tables.now) }
     requires labels { labels.now ≡ token.now.plus_label_key }
     requires range { InRange spot }
@@ -52,7 +52,7 @@ fn next_cell<K: Keyed, T: Tables>(
     token: &Token,
     group: &mut Group,
     ids: &mut [u64; MOST],
-) -> Result<Place, NoList>
+) -> Result<IdsRead, NoList>
     requires held { IsHeld (T.contents tables.now) }
     requires kept { IsKept (keyed_fn K.prf K.pad) token.now (T.contents tables.now) group.old }
     ensures kept { IsKept (keyed_fn K.prf K.pad) token.now (T.contents tables.now) group.new }
@@ -61,20 +61,20 @@ fn next_cell<K: Keyed, T: Tables>(
     ensures no_list { OnErr result (ids_from (keyed_fn K.prf K.pad) token.now (T.contents tables.now) Spot.Cell ≡ None) }
 {
     let Some(cell) = open_cell(tables, keyed, token, ids)? else {
-        return Ok(Place {
+        return Ok(IdsRead {
             count: 0,
             behind: Spot::Added { c: 0 },
         });
     };
     if cell.kind == 0 {
-        return Ok(Place {
+        return Ok(IdsRead {
             count: cell.count,
             behind: Spot::Added { c: 0 },
         });
     }
     group.load(tables, keyed, token, cell, ids, 0)?;
     let number = if cell.kind == 1 { 0 } else { cell.count as u32 };
-    Ok(Place {
+    Ok(IdsRead {
         count: 0,
         behind: Spot::Blocks {
             top: 0,
@@ -94,7 +94,7 @@ fn next_block<K: Keyed, T: Tables>(
     at: u32,
     number: u32,
     ids: &mut [u64; MOST],
-) -> Result<Place, NoList>
+) -> Result<IdsRead, NoList>
     requires held { IsHeld (T.contents tables.now) }
     requires range { InRange (Spot.Blocks top at number) }
     requires kept { IsKept (keyed_fn K.prf K.pad) token.now (T.contents tables.now) group.old }
@@ -107,7 +107,7 @@ fn next_block<K: Keyed, T: Tables>(
     let place = at as usize;
     if place < group.count {
         let count = numbers_at(tables, keyed, token, number, group.pointers[place], ids)?;
-        return Ok(Place {
+        return Ok(IdsRead {
             count,
             behind: Spot::Blocks {
                 top,
@@ -117,12 +117,12 @@ fn next_block<K: Keyed, T: Tables>(
         });
     }
     if group.is_last {
-        return Ok(Place {
+        return Ok(IdsRead {
             count: 0,
             behind: Spot::Added { c: 0 },
         });
     }
-    Ok(Place {
+    Ok(IdsRead {
         count: 0,
         behind: Spot::Blocks {
             top: top + 1,
@@ -140,7 +140,7 @@ fn next_added<K: Keyed, T: Tables>(
     labels: &PlusLabels<K>,
     c: u64,
     ids: &mut [u64; MOST],
-) -> Result<Option<Place>, NoList>
+) -> Result<Option<IdsRead>, NoList>
     requires labels { labels.now ≡ token.now.plus_label_key }
     ensures place { IfOk result (λ next. MatchOption next (ids_from (keyed_fn K.prf K.pad) token.now (T.contents tables.now) (Spot.Added c) ≡ Some []) (λ place. (place.count ≤ 256) × IsPlace (keyed_fn K.prf K.pad) token.now (T.contents tables.now) (Spot.Added c) (take place.count ids.new) place.behind)) }
     ensures no_list { OnErr result (ids_from (keyed_fn K.prf K.pad) token.now (T.contents tables.now) (Spot.Added c) ≡ None) }
@@ -157,7 +157,7 @@ fn next_added<K: Keyed, T: Tables>(
         return Err(NoList);
     }
     ids[0] = id;
-    Ok(Some(Place {
+    Ok(Some(IdsRead {
         count: 1,
         behind: Spot::Added { c: c + 1 },
     }))

@@ -6,7 +6,7 @@ use std::error::Error;
 use std::fmt;
 
 /// Why an update frame isn't taken: the first of these causes that stands.
-#[derive(Clone, Copy, Debug, PartialEq, Eq)]
+#[derive(Clone, Copy, Debug)]
 pub enum Refuse {
     /// The server expects another number, which this is.
     Number(u32),

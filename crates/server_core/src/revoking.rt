@@ -2,7 +2,7 @@ ghost use Rattle.std.specs.Prelude.{◌≡◌, ◌<◌, not, length, IfSome, Non
 ghost use Rattle.std.specs.FinSet as set;
 ghost use Rattle.std.specs.List.{position_from};
 ghost use Rattle.sse_frames.specs.Frames.{Rises};
-ghost use Rattle.sse_frames.specs.Seen.{items_in};
+ghost use Rattle.sse_frames.specs.FrameViews.{items_in};
 ghost use Rattle.server_tables.specs.Room.{no_room, pieces, HasRoom};
 ghost use Rattle.server_core.specs.Step.{with_numbers, without_numbers};
 

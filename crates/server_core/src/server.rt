@@ -2,10 +2,10 @@ ghost use Rattle.std.specs.Prelude.{◌≡◌, ◌≢◌, ℕ, List, ◌∷◌, 
 ghost use Rattle.std.specs.FinMap as map;
 ghost use Rattle.std.specs.Option.{option_map};
 ghost use Rattle.sse_frames.specs.Frames.{InGrammar, SearchFrame, update_number};
-ghost use Rattle.sse_frames.specs.Seen.{seen, entries_in, items_in};
+ghost use Rattle.sse_frames.specs.FrameViews.{frame_view, entries_in, items_in};
 ghost use Rattle.keyed_fn.specs.KeyedFn.{KeyedFn, keyed_fn};
 ghost use Rattle.server_tables.specs.Contents.{no_contents};
-ghost use Rattle.server_core.specs.Search.{found};
+ghost use Rattle.server_core.specs.Search.{search_result};
 ghost use Rattle.server_core.specs.State.{ServerState, at_first, is_ready};
 ghost use Rattle.server_core.specs.Refusal.{is_nil, in_place, clash, clash_at, refusal};
 ghost use Rattle.server_core.specs.Walk.{IsWalk, contents_of, rest_of};
@@ -86,14 +86,14 @@ impl<T: Tables> Server<T> {
     /// Errors, the first that stands: `Number`, `OutOfPlace`, `Clash`, and with none of these `NoMemory`
     /// where there is no memory, which never comes for a frame that begins or ends a setup.
     pub fn prepare(&mut self, frame: &Frame<'_>) -> Result<(), Refuse>
-        requires update { IsSome (update_number (seen frame.now)) }
-        requires grammar { InGrammar (seen frame.now) }
+        requires update { IsSome (update_number (frame_view frame.now)) }
+        requires grammar { InGrammar (frame_view frame.now) }
         ensures kept { self.new.state ≡ self.old.state }
-        ensures refused { IfSome (refusal self.old.state (seen frame.now)) (λ reply. IsErrAnd result (λ e. refuse_reply e ≡ reply)) }
-        ensures accepted { refusal self.old.state (seen frame.now) ≡ None → IsOkUnless result Refuse.NoMemory }
-        ensures no_memory { result ≡ Err Refuse.NoMemory → TakesMemory (seen frame.now) }
-        ensures memory_last { result ≡ Err Refuse.NoMemory → refusal self.old.state (seen frame.now) ≡ None }
-        ensures room { OnOk result (HasRoom self.new.room (seen frame.now)) }
+        ensures refused { IfSome (refusal self.old.state (frame_view frame.now)) (λ reply. IsErrAnd result (λ e. refuse_reply e ≡ reply)) }
+        ensures accepted { refusal self.old.state (frame_view frame.now) ≡ None → IsOkUnless result Refuse.NoMemory }
+        ensures no_memory { result ≡ Err Refuse.NoMemory → TakesMemory (frame_view frame.now) }
+        ensures memory_last { result ≡ Err Refuse.NoMemory → refusal self.old.state (frame_view frame.now) ≡ None }
+        ensures room { OnOk result (HasRoom self.new.room (frame_view frame.now)) }
     {
         if let Some(refuse) = self.refusal(frame) {
             return Err(refuse);
@@ -104,11 +104,11 @@ impl<T: Tables> Server<T> {
 
     /// Takes an update frame that `prepare` found to be in order. Takes no memory, and can't fail.
     pub fn apply(&mut self, frame: &Frame<'_>)
-        requires update { IsSome (update_number (seen frame.now)) }
-        requires grammar { InGrammar (seen frame.now) }
-        requires accepted { refusal self.old.state (seen frame.now) ≡ None }
-        requires room { HasRoom self.old.room (seen frame.now) }
-        ensures { self.new.state ≡ taken self.old.state (seen frame.now) }
+        requires update { IsSome (update_number (frame_view frame.now)) }
+        requires grammar { InGrammar (frame_view frame.now) }
+        requires accepted { refusal self.old.state (frame_view frame.now) ≡ None }
+        requires room { HasRoom self.old.room (frame_view frame.now) }
+        ensures { self.new.state ≡ taken self.old.state (frame_view frame.now) }
     {
         match *frame {
             Frame::SetupBegin { b, big, m, a, .. } => {
@@ -152,7 +152,7 @@ impl<T: Tables> Server<T> {
 
     /// Opens the whole way of a search, and hands out what it gives first, as many identifiers as fit the page: those of
     /// setup, in its order, then those added, in the order in which they came, without the deleted ones. The walk goes on
-    /// behind them. Over a page of no identifiers it only begins.
+    /// after them. Over a page of no identifiers it only begins.
     ///
     /// Errors: `OutOfPlace` before the setup is whole; `BadList` where what stands under the token's labels is no list.
     /// Takes no memory.
@@ -163,8 +163,8 @@ impl<T: Tables> Server<T> {
         page: &mut [u64],
     ) -> Result<First, WalkFault>
         ensures out_of_place { (result ≡ Err WalkFault.OutOfPlace) ↔ (is_ready self.now.state.stage ≡ false) }
-        ensures bad_list { result ≡ Err WalkFault.BadList → found (keyed_fn K.prf K.pad) self.now.state token.now ≡ None }
-        ensures first { IfOk result (λ first. found (keyed_fn K.prf K.pad) self.now.state token.now ≡ Some (take first.count page.new ++ rest_of (keyed_fn K.prf K.pad) (contents_of self.now.state) first.walk)) }
+        ensures bad_list { result ≡ Err WalkFault.BadList → search_result (keyed_fn K.prf K.pad) self.now.state token.now ≡ None }
+        ensures first { IfOk result (λ first. search_result (keyed_fn K.prf K.pad) self.now.state token.now ≡ Some (take first.count page.new ++ rest_of (keyed_fn K.prf K.pad) (contents_of self.now.state) first.walk)) }
         ensures walk { IfOk result (λ first. IsWalk (keyed_fn K.prf K.pad) (contents_of self.now.state) first.walk) }
         ensures room { IfOk result (λ first. first.count ≤ length page.new) }
         ensures full { IfOk result (λ first. first.walk.is_over ≡ false → first.count ≡ length page.new) }
@@ -201,12 +201,12 @@ impl<T: Tables> Server<T> {
     /// `NoMemory` where there is no memory, which comes only for an update frame that brings something to keep and isn't
     /// refused for another cause; the server's state is then as before. A search takes none.
     pub fn handle<K: Keyed>(&mut self, keyed: &K, frame: &Frame<'_>, page: &mut [u64]) -> Answer
-        requires { InGrammar (seen frame.now) }
-        ensures state { result ≢ Answer.NoMemory → self.new.state ≡ (step (keyed_fn K.prf K.pad) self.old.state (seen frame.now)).0 }
-        ensures replies { result ≢ Answer.NoMemory → answer_replies (keyed_fn K.prf K.pad) self.new.state result page.new ≡ (step (keyed_fn K.prf K.pad) self.old.state (seen frame.now)).1 }
+        requires { InGrammar (frame_view frame.now) }
+        ensures state { result ≢ Answer.NoMemory → self.new.state ≡ (step (keyed_fn K.prf K.pad) self.old.state (frame_view frame.now)).0 }
+        ensures replies { result ≢ Answer.NoMemory → answer_replies (keyed_fn K.prf K.pad) self.new.state result page.new ≡ (step (keyed_fn K.prf K.pad) self.old.state (frame_view frame.now)).1 }
         ensures begun { HasBegun (keyed_fn K.prf K.pad) self.new.state result page.new }
-        ensures no_memory { result ≡ Answer.NoMemory → (self.new.state ≡ self.old.state) × TakesMemory (seen frame.now) }
-        ensures memory_last { result ≡ Answer.NoMemory → refusal self.old.state (seen frame.now) ≡ None }
+        ensures no_memory { result ≡ Answer.NoMemory → (self.new.state ≡ self.old.state) × TakesMemory (frame_view frame.now) }
+        ensures memory_last { result ≡ Answer.NoMemory → refusal self.old.state (frame_view frame.now) ≡ None }
         ensures range { HasRange result }
         ensures long { length page.new ≡ length page.old }
     {
@@ -224,12 +224,12 @@ impl<T: Tables> Server<T> {
 
     /// The answer to an update frame: the refusal, or that it was taken.
     fn answer_update(&mut self, frame: &Frame<'_>) -> Answer
-        requires update { IsSome (update_number (seen frame.now)) }
-        requires grammar { InGrammar (seen frame.now) }
-        ensures refused { IfSome (refusal self.old.state (seen frame.now)) (λ reply. (self.new.state ≡ self.old.state) × ((f : KeyedFn) (s : ServerState) (page : List ℕ) → answer_replies f s result page ≡ reply ∷ [])) }
-        ensures taken { refusal self.old.state (seen frame.now) ≡ None → result ≢ Answer.NoMemory → (self.new.state ≡ taken self.old.state (seen frame.now)) × (Some self.old.state.next ≡ update_number (seen frame.now)) × (result ≡ Answer.Took self.old.state.next) }
-        ensures no_memory { result ≡ Answer.NoMemory → (self.new.state ≡ self.old.state) × TakesMemory (seen frame.now) }
-        ensures memory_last { result ≡ Answer.NoMemory → refusal self.old.state (seen frame.now) ≡ None }
+        requires update { IsSome (update_number (frame_view frame.now)) }
+        requires grammar { InGrammar (frame_view frame.now) }
+        ensures refused { IfSome (refusal self.old.state (frame_view frame.now)) (λ reply. (self.new.state ≡ self.old.state) × ((f : KeyedFn) (s : ServerState) (page : List ℕ) → answer_replies f s result page ≡ reply ∷ [])) }
+        ensures taken { refusal self.old.state (frame_view frame.now) ≡ None → result ≢ Answer.NoMemory → (self.new.state ≡ taken self.old.state (frame_view frame.now)) × (Some self.old.state.next ≡ update_number (frame_view frame.now)) × (result ≡ Answer.Took self.old.state.next) }
+        ensures no_memory { result ≡ Answer.NoMemory → (self.new.state ≡ self.old.state) × TakesMemory (frame_view frame.now) }
+        ensures memory_last { result ≡ Answer.NoMemory → refusal self.old.state (frame_view frame.now) ≡ None }
         ensures no_search { (f : KeyedFn) (s : ServerState) (page : List ℕ) → HasBegun f s result page }
         ensures range { HasRange result }
     {
@@ -265,8 +265,8 @@ impl<T: Tables> Server<T> {
 
     /// The first cause that stands, other than out of memory.
     fn refusal(&self, frame: &Frame<'_>) -> Option<Refuse>
-        requires { InGrammar (seen frame.now) }
-        ensures cause { option_map refuse_reply result ≡ refusal self.now.state (seen frame.now) }
+        requires { InGrammar (frame_view frame.now) }
+        ensures cause { option_map refuse_reply result ≡ refusal self.now.state (frame_view frame.now) }
         ensures no_memory { result ≢ Some Refuse.NoMemory }
     {
         if let Some(q) = frame.update_number()
@@ -282,8 +282,8 @@ impl<T: Tables> Server<T> {
 
     /// Whether the frame is one for this stage.
     fn is_in_place(&self, frame: &Frame<'_>) -> bool
-        requires { InGrammar (seen frame.now) }
-        ensures { result ≡ in_place self.now.state (seen frame.now) }
+        requires { InGrammar (frame_view frame.now) }
+        ensures { result ≡ in_place self.now.state (frame_view frame.now) }
     {
         match *frame {
             Frame::Hello => true,
@@ -339,9 +339,9 @@ impl<T: Tables> Server<T> {
 
     /// The first collision of a frame that is in place with what the server holds.
     fn clash(&self, frame: &Frame<'_>) -> Option<Refuse>
-        requires grammar { InGrammar (seen frame.now) }
-        requires placed { in_place self.now.state (seen frame.now) ≡ true }
-        ensures cause { option_map refuse_reply result ≡ clash self.now.state (seen frame.now) }
+        requires grammar { InGrammar (frame_view frame.now) }
+        requires placed { in_place self.now.state (frame_view frame.now) ≡ true }
+        ensures cause { option_map refuse_reply result ≡ clash self.now.state (frame_view frame.now) }
         ensures no_memory { result ≢ Some Refuse.NoMemory }
     {
         match *frame {
@@ -367,10 +367,10 @@ impl<T: Tables> Server<T> {
 
     /// Takes the memory that `apply` needs for a frame.
     fn make_room(&mut self, frame: &Frame<'_>) -> Result<(), AllocError>
-        requires { InGrammar (seen frame.now) }
+        requires { InGrammar (frame_view frame.now) }
         ensures kept { self.new.state ≡ self.old.state }
-        ensures room { OnOk result (HasRoom self.new.room (seen frame.now)) }
-        ensures err { OnErr result (TakesMemory (seen frame.now)) }
+        ensures room { OnOk result (HasRoom self.new.room (frame_view frame.now)) }
+        ensures err { OnErr result (TakesMemory (frame_view frame.now)) }
     {
         match *frame {
             Frame::SetupDict { width, entries, .. } => {

@@ -11,7 +11,7 @@ use keyed_fn::Keyed;
 use search_token::Token;
 use server_tables::Tables;
 
-/// A search under way: its token and where it stands, which is at the next identifier that it gives, or behind all. It
+/// A search under way: its token and where it stands, which is at the next identifier that it gives, or after all. It
 /// holds no reference and no memory, and isn't shown, as the token is secret.
 #[derive(Clone, Copy)]
 pub struct Walk {
@@ -30,7 +30,7 @@ impl Walk {
     }
 }
 
-/// What a search gives first: so many identifiers, which stand at the front of a page, and the walk behind them.
+/// What a search gives first: so many identifiers, which stand at the front of a page, and the walk after them.
 #[derive(Clone, Copy)]
 pub struct First {
     pub count: usize,

@@ -2,11 +2,11 @@ use std::error::Error;
 use std::fmt;
 
 /// Why a search gives no list.
-#[derive(Clone, Copy, Debug, PartialEq, Eq)]
+#[derive(Clone, Copy, Debug)]
 pub enum WalkFault {
     /// The setup isn't whole.
     OutOfPlace,
-    /// What stands under the word's labels is no list: a cell of an unknown kind, a pointer to no block, a number behind
+    /// What stands under the word's labels is no list: a cell of an unknown kind, a pointer to no block, a number after
     /// a zero, or an addition that is zero.
     BadList,
 }

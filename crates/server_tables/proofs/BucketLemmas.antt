@@ -1,4 +1,4 @@
--- The map behind the entries of a hash table: it is looked up alike, and a new entry, one that goes and no entries at
+-- The map of the entries of a hash table: it is looked up alike, and a new entry, one that goes and no entries at
 -- all are the insert, the remove and the empty map of it.
 use Rattle.std.proofs.Common.{◌≡◌, ◌+◌, Bool, false, cond, List, [], ◌∷◌, length, map, Some, None, nat_eq, refl, sym, ap, ◌∙◌, arith}
 use Rattle.std.specs.Option.{is_some}

@@ -1,4 +1,4 @@
--- The map behind slots by rising label: what a search among them finds, and what a slot more or less does to it.
+-- The map of slots by rising label: what a search among them finds, and what a slot more or less does to it.
 use Rattle.std.proofs.Common.{◌≡◌, ℕ, ◌<◌, ◌≤◌, Bool, true, false, List, [], ◌∷◌, cond, length, map, get_or, Some, None, refl, sym, ap, ◌∙◌, inl, inr, Result, Ok, Err, MatchResult, arith}
 use Rattle.std.specs.Prelude.{T}
 use Rattle.std.specs.List.{insert, HoldsAt}

@@ -1,4 +1,4 @@
--- Labels with what their values stand for, labels as a set, and pieces behind one another.
+-- Labels with what their values stand for, labels as a set, and pieces after one another.
 use Rattle.std.proofs.Common.{◌≡◌, ℕ, Bool, true, false, cond, ◌||◌, ◌&&◌, not, List, [], ◌∷◌, ◌++◌, length, map, Option, Some, None, Bor, refl, sym, ap, subst, ◌∙◌, arith}
 use Rattle.std.specs.Prelude.{T, ◌↔◌}
 use Rattle.std.specs.List.{All}
@@ -12,7 +12,7 @@ use Rattle.std.specs.FinSet as set
 use Rattle.std.proofs.lemmas.Cmp.{nat_list_cmp_total}
 use Rattle.std.proofs.lemmas.List.{length-map, map-append}
 use Rattle.std.proofs.lemmas.List.Elements.{All-append, All-cons, All-head, All-tail, All-weaker}
-use Rattle.server_tables.specs.declared.place.Place.{Place}
+use Rattle.server_tables.specs.declared.extent.Extent.{Extent}
 use Rattle.server_tables.specs.Labelled.{Labelled}
 use Rattle.server_tables.specs.Contents.{CellMap, NumberSet, no_contents}
 use Rattle.server_tables.specs.Places.{piece_at, IsPlace, IsAppended, ArePlaced, map_values, label_set}
@@ -125,42 +125,42 @@ label_set-none m = (none, some) where
       ∙ finmap.len-empty by_bytes (Unit {0})
 
 -- a piece more leaves what the labels stand for
-kept_pieces : (old new piece : List ℕ) (place : Place) → IsAppended old new piece place → (o : Option Place) → ForSome o (IsPlace (length old)) → option_map (piece_at new) o ≡ option_map (piece_at old) o
+kept_pieces : (old new piece : List ℕ) (place : Extent) → IsAppended old new piece place → (o : Option Extent) → ForSome o (IsPlace (length old)) → option_map (piece_at new) o ≡ option_map (piece_at old) o
 kept_pieces old new piece place appended None placed = refl
 kept_pieces old new piece place appended (Some p) placed = ap (λ bytes. Some bytes) (appended.kept p (placed p refl))
 
-still_placed : (old new piece : List ℕ) (place : Place) → IsAppended old new piece place → (b : Bool) (o : Option Place) → ForSome o (IsPlace (length old)) → ForSome (cond b (Some place) o) (IsPlace (length new))
+still_placed : (old new piece : List ℕ) (place : Extent) → IsAppended old new piece place → (b : Bool) (o : Option Extent) → ForSome o (IsPlace (length old)) → ForSome (cond b (Some place) o) (IsPlace (length new))
 still_placed old new piece place appended true o placed = λ p is. let same : place ≡ p = cc in subst (IsPlace (length new)) same appended.within
 still_placed old new piece place appended false o placed = λ p is. appended.still p (placed p is)
 
-module _ (old new piece : List ℕ) (place : Place) (appended : IsAppended old new piece place) where
+module _ (old new piece : List ℕ) (place : Extent) (appended : IsAppended old new piece place) where
   -- a cell at its place, and the label with the place
-  pub cell_placed : (blocks : ℕ) (labels after : Labelled Place) (places : List Place) (label : List ℕ) → ArePlaced (length old) blocks labels places → after ≡ finmap.insert labels label place → ArePlaced (length new) blocks after places
+  pub cell_placed : (blocks : ℕ) (labels after : Labelled Extent) (places : List Extent) (label : List ℕ) → ArePlaced (length old) blocks labels places → after ≡ finmap.insert labels label place → ArePlaced (length new) blocks after places
   cell_placed blocks labels after places label ok is = record {
     cells = λ q. subst (λ o. ForSome o (IsPlace (length new))) (sym (ap (λ m. finmap.get m q) is ∙ finmap.get-insert nat_list_cmp_total labels label place q)) (still_placed old new piece place appended (eq_by_cmp by_bytes q label) (finmap.get labels q) (ok.cells q));
     blocks = ok.blocks;
   }
 
-  pub cell_inserted : (blocks : ℕ) (labels after : Labelled Place) (places : List Place) (label : List ℕ) → ArePlaced (length old) blocks labels places → after ≡ finmap.insert labels label place → map_values (piece_at new) after ≡ finmap.insert (map_values (piece_at old) labels) label piece
+  pub cell_inserted : (blocks : ℕ) (labels after : Labelled Extent) (places : List Extent) (label : List ℕ) → ArePlaced (length old) blocks labels places → after ≡ finmap.insert labels label place → map_values (piece_at new) after ≡ finmap.insert (map_values (piece_at old) labels) label piece
   cell_inserted blocks labels after places label ok is =
       ap (map_values (piece_at new)) is
       ∙ map_values-insert (piece_at old) (piece_at new) labels label place piece appended.there (λ q. kept_pieces old new piece place appended (finmap.get labels q) (ok.cells q))
 
-  -- a block behind the others
-  pub block_placed : (cells : ℕ) (labels : Labelled Place) (places : List Place) → ArePlaced cells (length old) labels places → ArePlaced cells (length new) labels (places ++ place ∷ [])
+  -- a block after the others
+  pub block_placed : (cells : ℕ) (labels : Labelled Extent) (places : List Extent) → ArePlaced cells (length old) labels places → ArePlaced cells (length new) labels (places ++ place ∷ [])
   block_placed cells labels places ok = record {
     cells = ok.cells;
     blocks = All-append (IsPlace (length new)) places (place ∷ []) (All-weaker (IsPlace (length old)) (IsPlace (length new)) appended.still places ok.blocks) (All-cons (IsPlace (length new)) place [] appended.within (λ k d lt. absurd (omega arith)));
   }
 
-  same_pieces : (places : List Place) → All (IsPlace (length old)) places → map (piece_at new) places ≡ map (piece_at old) places
+  same_pieces : (places : List Extent) → All (IsPlace (length old)) places → map (piece_at new) places ≡ map (piece_at old) places
   same_pieces [] ok = refl
   same_pieces (p ∷ ps) ok = λ i. appended.kept p (All-head (IsPlace (length old)) p ps ok) i ∷ same_pieces ps (All-tail (IsPlace (length old)) p ps ok) i
 
-  pub block_pushed : (places : List Place) → All (IsPlace (length old)) places → map (piece_at new) (places ++ place ∷ []) ≡ map (piece_at old) places ++ piece ∷ []
+  pub block_pushed : (places : List Extent) → All (IsPlace (length old)) places → map (piece_at new) (places ++ place ∷ []) ≡ map (piece_at old) places ++ piece ∷ []
   block_pushed places ok = map-append (piece_at new) places (place ∷ []) ∙ (λ i. same_pieces places ok i ++ appended.there i ∷ [])
 
--- tables of which one part changes: what stands behind their fields, and what a contract says of it
+-- tables of which one part changes: what stands after their fields, and what a contract says of it
 module _ (dictionary additions : CellMap) (array : List (List ℕ)) (revoked : NumberSet) (room : Room) (view : TablesView) (is : record { contents = record { dictionary = dictionary; array = array; additions = additions; revoked = revoked }; room = room } ≡ view) where
   pub changed_dictionary : (f : CellMap → CellMap) (new : CellMap) → new ≡ f dictionary → record { dictionary = new; array = array; additions = additions; revoked = revoked } ≡ record view.contents { dictionary = f view.contents.dictionary }
   changed_dictionary f new new_is =
@@ -175,7 +175,7 @@ module _ (dictionary additions : CellMap) (array : List (List ℕ)) (revoked : N
       (λ i. record { dictionary = dictionary; array = array; additions = additions; revoked = new_is i }) ∙ ap (λ t. record t.contents { revoked = f t.contents.revoked }) is
 
 -- tables of nothing
-module _ (labels : Labelled Place) (places : List Place) (no_labels : labels ≡ finmap.empty) (no_places : places ≡ []) where
+module _ (labels : Labelled Extent) (places : List Extent) (no_labels : labels ≡ finmap.empty) (no_places : places ≡ []) where
   pub nothing_held : (cells blocks : List ℕ) (additions : CellMap) (revoked : Labelled (Unit {0})) → additions ≡ finmap.empty → revoked ≡ finmap.empty → record { dictionary = map_values (piece_at cells) labels; array = map (piece_at blocks) places; additions = additions; revoked = label_set revoked } ≡ no_contents
   nothing_held cells blocks additions revoked no_additions no_numbers =
       (λ i. record { dictionary = map_values (piece_at cells) (no_labels i); array = map (piece_at blocks) (no_places i); additions = no_additions i; revoked = label_set (no_numbers i) })
@@ -186,7 +186,7 @@ module _ (labels : Labelled Place) (places : List Place) (no_labels : labels ≡
     cells = λ q p there. absurd (some_none p (sym there ∙ ap (λ m. finmap.get m q) no_labels ∙ finmap.get-empty by_bytes q));
     blocks = subst (λ ps. All (IsPlace blocks) ps) (sym no_places) (λ k d lt. absurd (omega arith));
   } where
-    some_none : (p : Place) → Some p ≡ None → ⊥
+    some_none : (p : Extent) → Some p ≡ None → ⊥
     some_none p e = cc
 
 pub is_absent : {V : Type 0} (o : Option V) → is_some o ≡ false → o ≡ None

@@ -1,4 +1,4 @@
--- The map behind the entries of a hash table.
+-- The map of the entries of a hash table.
 use Rattle.std.specs.Prelude.{ℕ, List, map}
 use Rattle.std.specs.FinMap as finmap
 use Rattle.server_tables.specs.declared.key.Key.{Key}

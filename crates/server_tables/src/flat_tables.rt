@@ -1,8 +1,8 @@
 ghost use Rattle.std.specs.Prelude.{◌≡◌};
 ghost use Rattle.server_tables.specs.Contents.{no_contents};
 
-use crate::place::append;
-use crate::{LabelMap, Place, TableFault, Tables};
+use crate::extent::append;
+use crate::{Extent, LabelMap, TableFault, Tables};
 use std::alloc::{AllocError, Global};
 use std::marker::Model;
 
@@ -10,19 +10,19 @@ use std::marker::Model;
 /// that was put in is moved or copied again but where a vector grows.
 #[derive(Drop)]
 pub struct FlatTables<
-    C: LabelMap<Value = Place>,
+    C: LabelMap<Value = Extent>,
     P: LabelMap<Value = [u8; 8]>,
     R: LabelMap<Value = ()>,
 > {
     labels: C,
     cells: Vec<u8>,
-    places: Vec<Place>,
+    places: Vec<Extent>,
     blocks: Vec<u8>,
     additions: P,
     revoked: R,
 }
 
-impl<C: LabelMap<Value = Place>, P: LabelMap<Value = [u8; 8]>, R: LabelMap<Value = ()>> Model
+impl<C: LabelMap<Value = Extent>, P: LabelMap<Value = [u8; 8]>, R: LabelMap<Value = ()>> Model
     for FlatTables<C, P, R> {
     ghost use Rattle.std.specs.Prelude.{◌-◌, vec_len, vec_capacity, length, map};
     ghost use Rattle.server_tables.specs.TablesView.{TablesView, view_code};
@@ -52,7 +52,7 @@ impl<C: LabelMap<Value = Place>, P: LabelMap<Value = [u8; 8]>, R: LabelMap<Value
     ghost invariant = { λ t. ArePlaced (length t.cells.items) (length t.blocks.items) (C.entries t.labels) t.places.items };
 }
 
-impl<C: LabelMap<Value = Place>, P: LabelMap<Value = [u8; 8]>, R: LabelMap<Value = ()>> FlatTables<
+impl<C: LabelMap<Value = Extent>, P: LabelMap<Value = [u8; 8]>, R: LabelMap<Value = ()>> FlatTables<
     C,
     P,
     R,
@@ -72,7 +72,7 @@ impl<C: LabelMap<Value = Place>, P: LabelMap<Value = [u8; 8]>, R: LabelMap<Value
     }
 }
 
-impl<C: LabelMap<Value = Place>, P: LabelMap<Value = [u8; 8]>, R: LabelMap<Value = ()>> Tables
+impl<C: LabelMap<Value = Extent>, P: LabelMap<Value = [u8; 8]>, R: LabelMap<Value = ()>> Tables
     for FlatTables<C, P, R> {
     ghost contents = { λ t. t.contents };
 

@@ -5,28 +5,25 @@
 #![tactic(auto)]
 
 mod bucket_map;
+mod extent;
 mod flat_tables;
 mod key;
 mod label_map;
-mod place;
 mod sorted_map;
 mod table_fault;
 mod tables;
 
 pub use bucket_map::BucketMap;
+pub use extent::Extent;
 pub use flat_tables::FlatTables;
 pub use label_map::LabelMap;
-pub use place::Place;
 pub use sorted_map::SortedMap;
 pub use table_fault::TableFault;
 pub use tables::Tables;
 
-/// Tables whose labels stand in sorted vectors: a label that comes behind the others moves none of them, and any
-/// other moves those behind it.
-pub type SortedTables = FlatTables<SortedMap<Place>, SortedMap<[u8; 8]>, SortedMap<()>>;
+/// Tables whose labels stand in sorted vectors: a label that comes after the others moves none of them, and any
+/// other moves those after it.
+pub type SortedTables = FlatTables<SortedMap<Extent>, SortedMap<[u8; 8]>, SortedMap<()>>;
 
 /// Tables whose labels stand in the buckets of hash tables, which double when they are full.
-pub type BucketTables = FlatTables<BucketMap<Place>, BucketMap<[u8; 8]>, BucketMap<()>>;
-
-#[cfg(test)]
-mod tests;
+pub type BucketTables = FlatTables<BucketMap<Extent>, BucketMap<[u8; 8]>, BucketMap<()>>;

@@ -12,7 +12,7 @@ pub struct Slot<V> {
     pub value: V,
 }
 
-/// A map from labels as one vector by rising label: it is found by halves, and a label that comes behind the
+/// A map from labels as one vector by rising label: it is found by halves, and a label that comes after the
 /// others moves none of them.
 #[derive(Drop)]
 pub struct SortedMap<V> {

@@ -48,7 +48,7 @@ pub trait Tables: Drop {
     fn block(&self, place: u32) -> Option<&[u8]>
         ensures { option_copied result ≡ slice_get (contents self.now).array place };
 
-    /// Adds a block behind the others.
+    /// Adds a block after the others.
     ///
     /// Errors: where there is no memory.
     fn push_block(&mut self, block: &[u8]) -> Result<(), AllocError>

@@ -1,3 +1,4 @@
 pub mod Pages
+pub mod ReplySizes
 mod Handled
 mod Kept

@@ -49,7 +49,7 @@ pages_of_some (ids ∷ others) = pages_each_some ids others
 pub is_nil-pages : (ids : List ℕ) → is_nil (pages ids) ≡ false
 is_nil-pages ids = pages_of_some _
 
--- the kind byte of a page, and behind it the flag of one that isn't the last
+-- the kind byte of a page, and after it the flag of one that isn't the last
 abbrev has_open_flag : List ℕ → Bool
 has_open_flag reply = slice_index reply 4 == 0x85 && slice_index reply 5 == 0
 
@@ -92,7 +92,7 @@ CanWrite-waiting f s dues.Nothing page is some = absurd (true≢false (sym some)
 CanWrite-waiting f s (dues.Single reply) page is some = is
 CanWrite-waiting f s (dues.Pages count walk) page is some = is.front
 
--- behind the first reply wait the others
+-- after the first reply wait the others
 pub waiting-first : (f : KeyedFn) (s : ServerState) (due due' : Due) (page page' bytes : List ℕ) → length page ≡ 8192 → IsDue f s due page → CanWrite due page → IfSome (first_of due page) (λ reply. bytes ≡ reply_bytes reply)
     → waiting f s due' page' ≡ behind_first f s due → map reply_bytes (waiting f s due page) ≡ bytes ∷ map reply_bytes (waiting f s due' page')
 waiting-first f s dues.Nothing due' page page' bytes long is can first rest = absurd can

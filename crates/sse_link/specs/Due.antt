@@ -5,7 +5,7 @@ use Rattle.server_core.specs.State.{ServerState}
 use Rattle.server_core.specs.Walk.{contents_of, rest_of, IsFront, HasPage}
 use Rattle.sse_frames.specs.Replies.{ReplyText, Page, StoreFault, InReplies}
 use Rattle.sse_frames.specs.Reading.{IsReply}
-use Rattle.sse_frames.specs.Seen.{seen_reply}
+use Rattle.sse_frames.specs.FrameViews.{reply_view}
 use Rattle.sse_frames.specs.Sending.{pages}
 use Rattle.sse_link.specs.declared.due.Due.{Due}
 use Rattle.sse_link.specs.declared.due.Due.TheVariants as dues
@@ -15,7 +15,7 @@ abbrev pub leaves_more : ReplyText → Bool
 leaves_more (Page last ids) = not last
 leaves_more _ = false
 
--- these bytes are a page of the grammar that isn't the last; behind no others another reply is due
+-- these bytes are a page of the grammar that isn't the last; after no others another reply is due
 pub record IsOpenPage (reply : List ℕ) : Type 0 where
   pub ids : List ℕ
   pub is : IsReply (Page false ids) reply
@@ -24,13 +24,13 @@ pub record IsOpenPage (reply : List ℕ) : Type 0 where
 -- others
 abbrev pub waiting : KeyedFn → ServerState → Due → (page : List ℕ) → List ReplyText
 waiting f s dues.Nothing page = []
-waiting f s (dues.Single reply) page = seen_reply reply ∷ []
+waiting f s (dues.Single reply) page = reply_view reply ∷ []
 waiting f s (dues.Pages count walk) page = pages (take count page ++ rest_of f (contents_of s) walk)
 
 -- the first of them
 abbrev pub first_of : Due → (page : List ℕ) → Option ReplyText
 first_of dues.Nothing page = None
-first_of (dues.Single reply) page = Some (seen_reply reply)
+first_of (dues.Single reply) page = Some (reply_view reply)
 first_of (dues.Pages count walk) page = Some (Page walk.is_over (take count page))
 
 -- whether there are others
@@ -52,11 +52,11 @@ IsSingle _ = Unit {0}
 -- what waits can be written, and where it is a search's, it goes on
 abbrev pub IsDue : KeyedFn → ServerState → Due → (page : List ℕ) → Type 0
 IsDue f s dues.Nothing page = Unit {0}
-IsDue f s (dues.Single reply) page = InReplies (seen_reply reply) × IsSingle (seen_reply reply)
+IsDue f s (dues.Single reply) page = InReplies (reply_view reply) × IsSingle (reply_view reply)
 IsDue f s (dues.Pages count walk) page = HasPage f (contents_of s) count walk page
 
 -- a reply waits, and the first can be written
 abbrev pub CanWrite : Due → (page : List ℕ) → Type 0
 CanWrite dues.Nothing page = ⊥
-CanWrite (dues.Single reply) page = InReplies (seen_reply reply) × IsSingle (seen_reply reply)
+CanWrite (dues.Single reply) page = InReplies (reply_view reply) × IsSingle (reply_view reply)
 CanWrite (dues.Pages count walk) page = IsFront count walk.is_over page

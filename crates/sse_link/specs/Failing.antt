@@ -18,7 +18,7 @@ abbrev pub listed_at : List Fail → ℕ → Option Bool
 listed_at [] call = None
 listed_at (fail ∷ fails) call = if fail.call == call then Some fail.delivered else listed_at fails call
 
--- the call behind one that worked, or that failed
+-- the call after one that worked, or that failed
 abbrev pub worked : FailingTold → Told → FailingTold
 worked old told = record old { told = told; calls = one_more old.calls }
 

@@ -1,4 +1,4 @@
-ghost use Rattle.std.specs.Prelude.{◌≡◌, ◌≢◌, ◌↔◌, ◌≤◌, ◌<◌, ℕ, false, not, List, length, take, All, IsTrue, IfSome};
+ghost use Rattle.std.specs.Prelude.{◌≡◌, ◌≢◌, ◌↔◌, ◌≤◌, ◌<◌, ℕ, false, not, List, length, take, All, Some, IsTrue, IfSome};
 ghost use Rattle.keyed_fn.specs.KeyedFn.{KeyedFn, keyed_fn};
 ghost use Rattle.sse_frames.specs.Replies.{Page, StoreFault, reply_bytes};
 ghost use Rattle.server_core.specs.State.{ServerState};
@@ -6,6 +6,7 @@ ghost use Rattle.server_core.specs.Views.{answer_replies, HasRange, HasBegun};
 ghost use Rattle.link_events.specs.declared.mark.Mark.TheVariants.{Stepped, LackedMemory};
 ghost use Rattle.sse_link.specs.Due.{waiting, first_of, behind_first, is_more, IsOpenPage, IsDue, CanWrite};
 ghost use Rattle.sse_link.specs.Marks.{mark_of};
+ghost use Rattle.sse_link.specs.Scripted.{reply_size};
 
 use crate::Mark;
 use keyed_fn::Keyed;
@@ -48,6 +49,7 @@ impl Due {
         ensures no_fault { take result out.new ≢ reply_bytes StoreFault }
         ensures least { 4 ≤ result }
         ensures most { result ≤ 65544 }
+        ensures one_reply { reply_size (take result out.new) ≡ Some result }
     {
         match *self {
             Due::Nothing => 4,
@@ -56,7 +58,7 @@ impl Due {
         }
     }
 
-    /// What waits behind the first reply: where it is a page that isn't the last, the next page, whose identifiers come
+    /// What waits after the first reply: where it is a page that isn't the last, the next page, whose identifiers come
     /// to the front of `page`. Takes no memory.
     pub fn behind_first<K: Keyed, T: Tables>(
         &self,
@@ -110,6 +112,7 @@ fn write_ids(is_last: bool, ids: &[u64], out: &mut [u8]) -> usize
     ensures no_fault { take result out.new ≢ reply_bytes StoreFault }
     ensures least { 4 ≤ result }
     ensures most { result ≤ 65544 }
+    ensures one_reply { reply_size (take result out.new) ≡ Some result }
 {
     write_page(is_last, ids, out)
 }

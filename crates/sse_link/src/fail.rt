@@ -1,5 +1,5 @@
 /// A call of a link that fails: the sends and receives are counted together, from 0.
-#[derive(Clone, Copy, Debug, PartialEq, Eq)]
+#[derive(Clone, Copy)]
 pub struct Fail {
     /// The number of the call.
     pub call: u64,

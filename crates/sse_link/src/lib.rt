@@ -1,7 +1,7 @@
 //! What stands between client and server: it carries frames one way and replies the other. `Link` is the trait that the
 //! client is written over, and its ghost members let a contract speak of all that was sent and received. In memory
 //! there are a loopback to a server in this process, which never fails or fails at chosen calls, and a link that plays
-//! back replies, honest or not; `answer_bytes` is what a server replies to any bytes. It stands on `sse_frames` and
+//! back replies, honest or not; `answer_bytes` is what a server replies to any bytes. It depends on `sse_frames` and
 //! `server_core`; it knows no word and no key. The theorem that callers use: all that a loopback tells is honest
 //! (`IsServed` of specs/Served.antt), each frame with the server's step, or out of memory, and its replies in order. It
 //! says nothing of a real connection.
@@ -29,6 +29,3 @@ pub use loopback::Loopback;
 pub use scripted::ScriptedLink;
 pub use std::alloc::AllocError as NoMemory;
 pub use steady::SteadyLoopback;
-
-#[cfg(test)]
-mod tests;

@@ -1,4 +1,4 @@
-ghost use Rattle.std.specs.Prelude.{◌≡◌, ◌≢◌, ◌↔◌, ◌≤◌, ◌⊎◌, ℕ, Bool, true, false, List, [], ◌∷◌, ◌++◌, length, take, IsTrue, IfOk, OnOk, IsErrOf};
+ghost use Rattle.std.specs.Prelude.{◌≡◌, ◌≢◌, ◌↔◌, ◌≤◌, ◌⊎◌, ℕ, Bool, true, false, List, [], ◌∷◌, ◌++◌, length, take, Some, IsTrue, IfOk, OnOk, IsErrOf};
 ghost use Rattle.std.specs.declared.option.Option.{Option};
 ghost use Rattle.std.specs.Option.{option_map};
 ghost use Rattle.sse_outside.specs.Causes.{Rose};
@@ -6,6 +6,7 @@ ghost use Rattle.sse_frames.specs.Replies.{StoreFault, reply_bytes};
 ghost use Rattle.link_events.specs.declared.mark.Mark.{Mark};
 ghost use Rattle.link_events.specs.Events.{Event, Sent, Received, Remote};
 ghost use Rattle.sse_link.specs.Due.{IsOpenPage};
+ghost use Rattle.sse_link.specs.Scripted.{reply_size};
 ghost use Rattle.sse_frames.specs.Frames.{IsFrame};
 
 use crate::LinkFault;
@@ -58,13 +59,14 @@ pub trait Link {
     /// Receives the next reply to the frame sent last at the front of `out`, with its four length bytes, and answers
     /// how many bytes it has: 4 to 65,544. A reply whose length is out of its range is given as these four bytes alone.
     ///
-    /// Another reply is due behind a page that isn't the last, and behind no other bytes. After `Cut` none is due; after
+    /// Another reply is due after a page that isn't the last, and after no other bytes. After `Cut` none is due; after
     /// `NoMemory` the reply still waits.
     fn recv(&mut self, out: &mut [u8]) -> Result<usize, LinkFault>
         requires room { 65544 ≤ length out.old }
         requires due { reply_due self.old ≡ true }
         ensures least { IfOk result (λ n. 4 ≤ n) }
         ensures most { IfOk result (λ n. n ≤ 65544) }
+        ensures one_reply { IfOk result (λ n. reply_size (take n out.new) ≡ Some n) }
         ensures due_after { IfOk result (λ n. IsTrue (reply_due self.new) ↔ IsOpenPage (take n out.new)) }
         ensures told { IfOk result (λ n. transcript self.new ≡
             option_map (λ events. events ++ Received (take n out.new) ∷ []) (transcript self.old)) }

@@ -3,6 +3,7 @@ ghost use Rattle.sse_frames.specs.Replies.{StoreFault, reply_bytes};
 ghost use Rattle.server_core.specs.Refusal.{is_nil};
 ghost use Rattle.keyed_fn.specs.KeyedFn.{keyed_fn};
 ghost use Rattle.sse_link.specs.Due.{IsOpenPage};
+ghost use Rattle.sse_link.specs.Scripted.{reply_size};
 ghost use Rattle.link_events.specs.Events.{AreKnown};
 ghost use Rattle.sse_link.specs.Failing.{listed_at, worked, failed, FailsSend};
 ghost use Rattle.link_events.specs.Passed.{events_of};
@@ -141,6 +142,7 @@ impl<K: Keyed, T: Tables> Link for Loopback<K, T> {
         ensures no_fault { IfOk result (λ n. take n out.new ≢ reply_bytes StoreFault) }
         ensures least { IfOk result (λ n. 4 ≤ n) }
         ensures most { IfOk result (λ n. n ≤ 65544) }
+        ensures one_reply { IfOk result (λ n. reply_size (take n out.new) ≡ Some n) }
         ensures worked { IfOk result (λ _. self.new ≡ worked self.old self.new.told) }
 
         // One that is listed is cut.

@@ -1,6 +1,6 @@
-ghost use Rattle.std.specs.Prelude.{◌≡◌, ◌≢◌, ◌↔◌, ◌+◌, ◌≤◌, [], true, false, length, IfSome, IsTrue};
+ghost use Rattle.std.specs.Prelude.{◌≡◌, ◌≢◌, ◌↔◌, ◌+◌, ◌≤◌, [], true, false, length, take, Some, IfSome, IsTrue};
 ghost use Rattle.sse_frames.specs.Replies.{StoreFault, reply_bytes};
-ghost use Rattle.sse_frames.specs.Seen.{seen_reply};
+ghost use Rattle.sse_frames.specs.FrameViews.{reply_view};
 ghost use Rattle.sse_link.specs.Due.{leaves_more, IsOpenPage};
 ghost use Rattle.link_events.specs.Passed.{events_of};
 ghost use Rattle.sse_link.specs.Scripted.{reply_size};
@@ -62,7 +62,7 @@ impl ScriptedLink {
 }
 
 impl Link for ScriptedLink {
-    ghost use Rattle.std.specs.Prelude.{Some, None, Err, ◌∷◌, ◌++◌, take, drop, IfOk, OnOk, OnErr};
+    ghost use Rattle.std.specs.Prelude.{None, Err, ◌∷◌, ◌++◌, drop, IfOk, OnOk, OnErr};
     ghost use Rattle.sse_outside.specs.Causes.{Rose};
     ghost use Rattle.link_events.specs.declared.mark.Mark.TheVariants.{Unknown};
     ghost use Rattle.link_events.specs.Events.{Sent, Received};
@@ -101,6 +101,7 @@ impl Link for ScriptedLink {
         ensures due { IfOk result (λ n. IsTrue self.new.due ↔ IsOpenPage (take n out.new)) }
         ensures least { IfOk result (λ n. 4 ≤ n) }
         ensures most { IfOk result (λ n. n ≤ 65544) }
+        ensures one_reply { IfOk result (λ n. reply_size (take n out.new) ≡ Some n) }
         ensures store_fault { IfOk result (λ n. take n out.new ≡ reply_bytes StoreFault → Rose self.old.faults self.new.faults) }
         ensures steady { IfOk result (λ n. take n out.new ≢ reply_bytes StoreFault → self.new.faults ≡ self.old.faults) }
 
@@ -134,6 +135,7 @@ impl Link for ScriptedLink {
 fn size_of_reply(bytes: &[u8]) -> Option<usize>
     ensures size { result ≡ reply_size bytes.now }
     ensures whole { IfSome result (λ n. n ≤ length bytes.now) }
+    ensures one_reply { IfSome result (λ n. reply_size (take n bytes.now) ≡ Some n) }
     ensures least { IfSome result (λ n. 4 ≤ n) }
     ensures most { IfSome result (λ n. n ≤ 65544) }
 {
@@ -163,7 +165,7 @@ fn is_open(bytes: &[u8]) -> bool
 
 /// Whether the reply is a page that isn't the last.
 fn leaves_more(reply: &Reply<'_>) -> bool
-    ensures { result ≡ leaves_more (seen_reply reply.now) }
+    ensures { result ≡ leaves_more (reply_view reply.now) }
 {
     match reply {
         Reply::Page { last, .. } => !*last,

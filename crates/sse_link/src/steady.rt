@@ -3,6 +3,7 @@ ghost use Rattle.sse_frames.specs.Replies.{StoreFault, reply_bytes};
 ghost use Rattle.server_core.specs.Refusal.{is_nil};
 ghost use Rattle.keyed_fn.specs.KeyedFn.{keyed_fn};
 ghost use Rattle.sse_link.specs.Due.{IsOpenPage};
+ghost use Rattle.sse_link.specs.Scripted.{reply_size};
 ghost use Rattle.link_events.specs.Events.{AreKnown};
 ghost use Rattle.link_events.specs.Passed.{events_of};
 ghost use Rattle.link_events.specs.Served.{IsServed, idle};
@@ -120,6 +121,7 @@ impl<K: Keyed, T: Tables> Link for SteadyLoopback<K, T> {
         ensures no_fault { IfOk result (λ n. take n out.new ≢ reply_bytes StoreFault) }
         ensures least { IfOk result (λ n. 4 ≤ n) }
         ensures most { IfOk result (λ n. n ≤ 65544) }
+        ensures one_reply { IfOk result (λ n. reply_size (take n out.new) ≡ Some n) }
         ensures err { OnErr result ((result ≡ Err LinkFault.NoMemory) × (self.new ≡ self.old)) }
     {
         let n = self.due.write_first(&self.page, out);

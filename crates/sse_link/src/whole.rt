@@ -1,7 +1,7 @@
 ghost use Rattle.std.specs.Prelude.{◌≡◌, IfOk, IfErr, IsOkAnd};
 ghost use Rattle.sse_frames.specs.Frames.{InGrammar, frame_bytes};
 ghost use Rattle.sse_frames.specs.Reading.{frame_outcome};
-ghost use Rattle.sse_frames.specs.Seen.{seen};
+ghost use Rattle.sse_frames.specs.FrameViews.{frame_view};
 ghost use Rattle.sse_link.specs.BadFrames.{bad_reason};
 ghost use Rattle.sse_frames.specs.Frames.{IsFrame};
 
@@ -10,9 +10,9 @@ use sse_frames::{Frame, FrameFault, read_frame};
 /// The frame that all of the bytes are, or the reason of the BadFrame that answers them: 1 for a length that
 /// is out of range or isn't that of the bytes, 2 for an unknown kind, 3 for another field.
 pub fn whole_frame(bytes: &[u8]) -> Result<Frame<'_>, u8>
-    ensures grammar { IfOk result (λ frame. InGrammar (seen frame)) }
-    ensures spelled { IfOk result (λ frame. bytes.now ≡ frame_bytes (seen frame)) }
-    ensures only { (sent : IsFrame bytes.now) → IsOkAnd result (λ frame. seen frame ≡ sent.frame) }
+    ensures grammar { IfOk result (λ frame. InGrammar (frame_view frame)) }
+    ensures spelled { IfOk result (λ frame. bytes.now ≡ frame_bytes (frame_view frame)) }
+    ensures only { (sent : IsFrame bytes.now) → IsOkAnd result (λ frame. frame_view frame ≡ sent.frame) }
     ensures reason { IfErr result (λ reason. reason ≡ bad_reason (frame_outcome bytes.now)) }
 {
     match read_frame(bytes) {

@@ -1,7 +1,7 @@
 use Rattle.std.proofs.Common.{◌≡◌, ◌+◌, length}
 use Rattle.std.specs.FinMap as map
 use Rattle.std.specs.List.{position_from}
-use Rattle.sse_frames.specs.Seen.{entries_in}
+use Rattle.sse_frames.specs.FrameViews.{entries_in}
 use Rattle.server_core.specs.Refusal.{first_known}
 use Rattle.server_core.proofs.adding.first_added.Given as goal
 

@@ -1,5 +1,5 @@
 use Rattle.std.proofs.Common.{◌∷◌, sym, ◌∙◌, arith}
-use Rattle.sse_frames.specs.Seen.{items_in}
+use Rattle.sse_frames.specs.FrameViews.{items_in}
 use Rattle.server_core.proofs.EntryLemmas.{items_in-few, items_in-more}
 use Rattle.server_core.proofs.entries.next_block.Goals as goal
 

@@ -2,14 +2,14 @@ use Rattle.std.proofs.Common.{◌≡◌, ◌%◌, ◌++◌, List, [], ◌∷◌,
 use Rattle.std.specs.Prelude.{All}
 use Rattle.std.proofs.lemmas.List.{append_assoc}
 use Rattle.std.proofs.lemmas.List.Elements.{All-nil, All-cons, All-append}
-use Rattle.sse_frames.specs.Seen.{items_in}
+use Rattle.sse_frames.specs.FrameViews.{items_in}
 use Rattle.server_tables.specs.Contents.{Contents}
 use Rattle.server_tables.specs.Room.{no_room, pieces, HasRoom}
 use Rattle.server_core.specs.Holds.{IsBlock}
 use Rattle.server_core.proofs.CellLemmas.{block_room_left}
 use Rattle.server_core.proofs.filling.push_blocks.Goals as goal
 
--- the first block goes behind the others
+-- the first block goes after the others
 pub loop-block-preserved : goal.loop-block-preserved
 loop-block-preserved g c =
     let now = g.T.Tables.contents c.loop-block.tables in

@@ -1,6 +1,6 @@
 use Rattle.std.proofs.Common.{◌≡◌, ◌++◌, length}
 use Rattle.std.specs.Prelude.{All}
-use Rattle.sse_frames.specs.Seen.{items_in}
+use Rattle.sse_frames.specs.FrameViews.{items_in}
 use Rattle.server_tables.specs.Room.{no_room, pieces, HasRoom}
 use Rattle.server_core.specs.Holds.{IsBlock}
 use Rattle.server_core.proofs.filling.push_blocks.Given as goal

@@ -1,6 +1,6 @@
 use Rattle.std.proofs.Common.{◌≡◌, ◌%◌, List, ◌∷◌, length, None, sym, ap, subst, ◌∙◌, arith}
 use Rattle.sse_frames.specs.Frames.{Entry, Rises, labels_of}
-use Rattle.sse_frames.specs.Seen.{entries_in}
+use Rattle.sse_frames.specs.FrameViews.{entries_in}
 use Rattle.server_tables.specs.Contents.{Contents}
 use Rattle.server_tables.specs.Room.{no_room, pieces, HasRoom}
 use Rattle.server_core.specs.Holds.{HasCells}

@@ -1,6 +1,6 @@
 use Rattle.std.proofs.Common.{◌≡◌, length, None}
 use Rattle.sse_frames.specs.Frames.{Rises, labels_of}
-use Rattle.sse_frames.specs.Seen.{entries_in}
+use Rattle.sse_frames.specs.FrameViews.{entries_in}
 use Rattle.server_tables.specs.Room.{no_room, pieces, HasRoom}
 use Rattle.server_core.specs.Holds.{HasCells}
 use Rattle.server_core.specs.Refusal.{first_known}

@@ -4,7 +4,7 @@ use Rattle.std.specs.FinSet as set
 use Rattle.std.proofs.lemmas.List.{length-take-le, drop-take}
 use Rattle.keyed_fn.specs.KeyedFn.{keyed_fn}
 use Rattle.keyed_fn.specs.KeyFormulas.{revocation}
-use Rattle.server_core.specs.Search.{shown}
+use Rattle.server_core.specs.Search.{unrevoked}
 use Rattle.server_core.specs.Coming.{ids_from, coming}
 use Rattle.server_core.specs.Opening.{IsPlace}
 use Rattle.server_core.proofs.PassLemmas.{at-drop, com-stops, handed-part, handed-rest, handed-past}
@@ -34,7 +34,7 @@ returns-then-start-passed-clause-handed g c =
     let sum : count ≡ start + (count - start) = omega (arith, c.if-start-passed.true) in
     let slice : drop start xs ≡ take (count - start) (drop start ids) = ap (λ n. drop start (take n ids)) sum ∙ drop-take start (count - start) ids in
     let p : ℕ → Bool = λ id. not (set.contains held.revoked (revocation f keys.revocation_key id)) in
-    let piece = c.hand_out-passed.ensures.handed ∙ ap (λ l. take c.loop-numbers.count c.loop-numbers.out ++ shown f keys (set.contains held.revoked) (take c.hand_out-passed.result.0 l)) (sym slice) in
+    let piece = c.hand_out-passed.ensures.handed ∙ ap (λ l. take c.loop-numbers.count c.loop-numbers.out ++ unrevoked f keys (set.contains held.revoked) (take c.hand_out-passed.result.0 l)) (sym slice) in
     handed-part p (coming f keys held c.args.from c.args.within) (take c.loop-numbers.count c.loop-numbers.out) (take c.hand_out-passed.result.1 c.hand_out-passed.new.out) xs (ids_from f keys held spot) (ids_from f keys held c.in-Some.place.behind) c.loop-numbers.skip c.hand_out-passed.result.0 start c.loop-numbers.invariant.handed place.1.ids_then same (omega (arith, long, c.if-start-passed.true)) piece
 
 pub returns-then-start-passed-clause-more : goal.returns-then-start-passed-clause-more
@@ -76,7 +76,7 @@ loop-numbers-preserved g c =
     let slice : drop start xs ≡ take (count - start) (drop start ids) = ap (λ n. drop start (take n ids)) sum ∙ drop-take start (count - start) ids in
     let p : ℕ → Bool = λ id. not (set.contains held.revoked (revocation f keys.revocation_key id)) in
     let q = c.hand_out-passed.result.0 in
-    let piece = c.hand_out-passed.ensures.handed ∙ ap (λ l. take c.loop-numbers.count c.loop-numbers.out ++ shown f keys (set.contains held.revoked) (take q l)) (sym slice) in
+    let piece = c.hand_out-passed.ensures.handed ∙ ap (λ l. take c.loop-numbers.count c.loop-numbers.out ++ unrevoked f keys (set.contains held.revoked) (take q l)) (sym slice) in
     let whole : start + q ≡ length xs = omega (arith, long, ap length slice, c.hand_out-passed.ensures.passed, c.if-start-passed.false, Rattle.std.proofs.lemmas.List.length-drop start xs) in
     record {
       handed = elim c.if-skip-place.branch [

@@ -9,7 +9,7 @@ use Rattle.server_core.proofs.SearchLemmas.{joined-nothing}
 use Rattle.server_core.proofs.PlaceLemmas.{next_group}
 use Rattle.server_core.proofs.places.next_block.Goals as goal
 
--- behind the last pointer of a group that isn't the last
+-- after the last pointer of a group that isn't the last
 pub returns-clause-place : goal.returns-clause-place
 returns-clause-place g c =
     let f = keyed_fn g.K.Keyed.prf g.K.Keyed.pad in

@@ -1,7 +1,7 @@
 use Rattle.std.proofs.Common.{◌≡◌, ◌+◌, not, length}
 use Rattle.std.specs.FinSet as set
 use Rattle.std.specs.List.{position_from}
-use Rattle.sse_frames.specs.Seen.{items_in}
+use Rattle.sse_frames.specs.FrameViews.{items_in}
 use Rattle.server_core.proofs.revoking.first_missing.Given as goal
 
 abbrev pub invariant-loop-number : goal.invariant-loop-number

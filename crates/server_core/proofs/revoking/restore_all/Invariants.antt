@@ -2,7 +2,7 @@ use Rattle.std.proofs.Common.{◌≡◌, not, length, None}
 use Rattle.std.specs.FinSet as set
 use Rattle.std.specs.List.{position_from}
 use Rattle.sse_frames.specs.Frames.{Rises}
-use Rattle.sse_frames.specs.Seen.{items_in}
+use Rattle.sse_frames.specs.FrameViews.{items_in}
 use Rattle.server_core.specs.Step.{without_numbers}
 use Rattle.server_core.proofs.revoking.restore_all.Given as goal
 

@@ -2,7 +2,7 @@ use Rattle.std.proofs.Common.{◌≡◌, List, ◌∷◌, length, None, ℕ, sym
 use Rattle.std.specs.FinSet as set
 use Rattle.std.specs.List.{position_from}
 use Rattle.sse_frames.specs.Frames.{Rises}
-use Rattle.sse_frames.specs.Seen.{items_in}
+use Rattle.sse_frames.specs.FrameViews.{items_in}
 use Rattle.server_tables.specs.Contents.{Contents}
 use Rattle.server_tables.specs.Room.{no_room, pieces, HasRoom}
 use Rattle.server_core.specs.Step.{with_numbers}

@@ -3,7 +3,7 @@ use Rattle.std.proofs.lemmas.List.{append-nil}
 use Rattle.sse_frames.specs.Frames.{frame_bytes}
 use Rattle.sse_link.proofs.whole.whole_frame.Goals as goal
 
--- the frame in front, with nothing behind it
+-- the frame in front, with nothing after it
 pub returns-then-n-bytes-clause-only : goal.returns-then-n-bytes-clause-only
 returns-then-n-bytes-clause-only c sent =
     let only = rw c.in-Ok-Some.field-0-is at c.in-Ok-Some.ensures.only in

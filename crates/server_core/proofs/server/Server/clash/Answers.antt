@@ -2,7 +2,7 @@ use Rattle.std.proofs.Common.{ℕ, Option, not, sym, ap, ◌∙◌}
 use Rattle.std.specs.FinSet as set
 use Rattle.std.specs.List.{position_from}
 use Rattle.sse_frames.specs.Frames.{AddFrame, DeleteFrame}
-use Rattle.sse_frames.specs.Seen.{seen, entries_in, items_in}
+use Rattle.sse_frames.specs.FrameViews.{frame_view, entries_in, items_in}
 use Rattle.server_core.specs.Refusal.{clash, clash_at, first_of_two}
 use Rattle.server_core.proofs.EntryLemmas.{is_none}
 use Rattle.server_core.proofs.server.Server.clash.Goals as goal
@@ -18,10 +18,10 @@ returns-else-is_some-clause-cause g c =
     c.clash_at-in-Add.ensures.cause ∙ ap (clash_at 3) c.first_missing.ensures.place
     ∙ ap (λ o. first_of_two (clash_at 2 o) (clash_at 3 missing)) none
     ∙ ap (λ v. clash v.state (AddFrame c.in-Add.q entries numbers)) c.self.view_is
-    ∙ sym (ap (λ frame. clash c.args.self.now.state (seen frame)) c.in-Add.is)
+    ∙ sym (ap (λ frame. clash c.args.self.now.state (frame_view frame)) c.in-Add.is)
 
 pub returns-in-Delete-clause-cause : goal.returns-in-Delete-clause-cause
 returns-in-Delete-clause-cause g c =
     c.clash_at-in-Delete.ensures.cause ∙ ap (clash_at 3) c.first_revoked.ensures.place
     ∙ ap (λ v. clash v.state (DeleteFrame c.in-Delete.q (items_in 16 c.in-Delete.numbers.now))) c.self.view_is
-    ∙ sym (ap (λ frame. clash c.args.self.now.state (seen frame)) c.in-Delete.is)
+    ∙ sym (ap (λ frame. clash c.args.self.now.state (frame_view frame)) c.in-Delete.is)

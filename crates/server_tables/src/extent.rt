@@ -5,13 +5,13 @@ use std::alloc::AllocError;
 
 /// Where a piece lies among bytes: from `start`, up to and without `end`.
 #[derive(Clone, Copy)]
-pub struct Place {
+pub struct Extent {
     pub start: usize,
     pub end: usize,
 }
 
-/// Adds a piece behind the bytes, and tells its place.
-pub fn append(bytes: &mut Vec<u8>, piece: &[u8]) -> Result<Place, AllocError>
+/// Adds a piece after the bytes, and tells its place.
+pub fn append(bytes: &mut Vec<u8>, piece: &[u8]) -> Result<Extent, AllocError>
     ensures ok { IfOk result (IsAppended bytes.old.items bytes.new.items piece.now) }
     ensures err { OnErr result (bytes.new.items ≡ bytes.old.items) }
     ensures has_room { length piece.now ≤ vec_capacity bytes.old - vec_len bytes.old → IsOk result }
@@ -21,5 +21,5 @@ pub fn append(bytes: &mut Vec<u8>, piece: &[u8]) -> Result<Place, AllocError>
     let start = bytes.len();
     bytes.extend_from_slice(piece)?;
     let end = bytes.len();
-    Ok(Place { start, end })
+    Ok(Extent { start, end })
 }
