@@ -23,7 +23,7 @@ use Rattle.sse_model.specs.Transcript.{transcript, session}
 use Rattle.sse_simulator.specs.Leaks.{Leak, Draw}
 use Rattle.sse_simulator.specs.Simulator.{simulated}
 
--- of commands, and others behind them
+-- of commands, and others after them
 pub leak-append : (o : Offsets) (run : Run) (cs : List Command) → leak o (run_of run.setup (run.later ++ cs)) ≡ leak o run ++ over (leak_by o run.setup) run.later cs
 leak-append o run cs = ap (λ rest. leak_of_setup o.epoch run.setup ∷ rest) (over-append (leak_by o run.setup) [] run.later cs)
 
@@ -50,7 +50,7 @@ module _ (f : KeyedFn) (keys : ℕ → List ℕ) where
   )
 
   pub session-first : (part whole : History) → IsFirstOf part whole → (more : List Passed) × (session f keys whole ≡ session f keys part ++ more)
-  session-first None None p = ([], sym (append-nil greeting))
+  session-first None None p = ([], sym (append-nil (greeting 0)))
   session-first None (Some run) p = (flat_map (λ passed. passed) (transcript (table_of f keys run) at_first run), refl)
   session-first (Some run) None p = absurd p
   session-first (Some run) (Some whole) p =
@@ -58,8 +58,8 @@ module _ (f : KeyedFn) (keys : ℕ → List ℕ) where
       let more = over (exchanged_by t at_first run.setup) run.later p.1.0 in (
         flat_map (λ passed. passed) more,
         ap (λ r. session f keys (Some r)) (whole_run run whole p)
-            ∙ ap (λ all. greeting ++ flat_map (λ passed. passed) all) (transcript-append t at_first run.setup run.later p.1.0)
-            ∙ ap (λ rest. greeting ++ rest) (flat_map-append (λ passed. passed) (transcript t at_first run) more),
+            ∙ ap (λ all. greeting 0 ++ flat_map (λ passed. passed) all) (transcript-append t at_first run.setup run.later p.1.0)
+            ∙ ap (λ rest. greeting 0 ++ rest) (flat_map-append (λ passed. passed) (transcript t at_first run) more),
       )
 
   -- what the simulator makes of the first part is the first of what it makes of the whole

@@ -362,7 +362,7 @@ module _ (t : Table) (o : Offsets) (s : Setup) where
 
   -- All commands.
 
-  -- a simulator that stands behind a run's commands
+  -- a simulator that stands after a run's commands
   abbrev standing : List Kept → List Command → Sim
   standing earlier past = record { kept = kepts earlier past; next = next_number o s past }
 
@@ -378,7 +378,7 @@ module _ (t : Table) (o : Offsets) (s : Setup) where
   standing-push earlier past (Delete id) = λ i. record { kept = sym (kepts-push earlier past (Delete id)) i; next = next-push past (Delete id) 1 refl i }
   standing-push earlier past (Search word) = λ i. record { kept = sym (kepts-push earlier past (Search word)) i; next = next-push past (Search word) 0 refl i }
 
-  -- from a simulator that stands behind a run's first commands, the leakage and the draws of the others make their frames
+  -- from a simulator that stands after a run's first commands, the leakage and the draws of the others make their frames
   pub simulated_later : (earlier : List Kept) → length earlier ≡ o.command → (past later : List Command) → are_accepted s past
       → list_all (λ accepted. accepted) (over (is_accepted s) past later) ≡ true
       → simulated_from (standing earlier past) (over (leak_by o s) past later) (over (draws_by t o.epoch s) past later)

@@ -21,7 +21,7 @@ slice_get-append [] ys i x e = none_is_some x e
 slice_get-append (y ∷ xs) ys zero x e = e
 slice_get-append (y ∷ xs) ys (suc i) x e = slice_get-append xs ys i x e
 
--- and one more stands behind
+-- and one more stands after
 pub slice_get-behind : {A : Type 0} (xs : List A) (y : A) → slice_get (xs ++ y ∷ []) (length xs) ≡ Some y
 slice_get-behind [] y = refl
 slice_get-behind (x ∷ xs) y = slice_get-behind xs y

@@ -47,7 +47,7 @@ added_again = refl
 abbrev b : List ℕ
 b = 0x62 ∷ []
 
--- a list of 2 takes a block, one of 3 two blocks and one of pointers; those of a word stand behind those of the words before it; a search of a word that is nowhere
+-- a list of 2 takes a block, one of 3 two blocks and one of pointers; those of a word stand after those of the words before it; a search of a word that is nowhere
 blocks_of_two_words : leak at_first (run_of (doc 1 (a ∷ b ∷ []) ∷ doc 2 (b ∷ a ∷ []) ∷ doc 3 (b ∷ []) ∷ []) 1 2 (Search b ∷ Search a ∷ Search c ∷ []))
     ≡ SetupLeak (record { b = 1; big = 2 }) 2 4
     ∷ SearchLeak None (Some (record { entry = 1; blocks = 1 ∷ 2 ∷ 3 ∷ [] })) (listed 1 (origin 0 0) None false ∷ listed 2 (origin 0 1) None false ∷ listed 3 (origin 0 2) None false ∷ []) (1 ∷ 2 ∷ 3 ∷ [])
@@ -56,7 +56,7 @@ blocks_of_two_words : leak at_first (run_of (doc 1 (a ∷ b ∷ []) ∷ doc 2 (b
     ∷ []
 blocks_of_two_words = refl
 
--- behind its search a word is seen in a deletion, and in the addition of the same document, which sends the number again; what a
+-- after its search a word is seen in a deletion, and in the addition of the same document, which sends the number again; what a
 -- deletion revoked is listed and not found
 seen_when_deleted_and_added : leak at_first (run_of (doc 7 (a ∷ b ∷ []) ∷ []) 1 1 (Search b ∷ Delete 7 ∷ Search b ∷ Add (doc 7 (b ∷ [])) ∷ Delete 7 ∷ []))
     ≡ SetupLeak (record { b = 1; big = 1 }) 2 0

@@ -8,14 +8,12 @@ use Rattle.client_registry.specs.Over.{over}
 use Rattle.client_registry.specs.Run.{History, Offsets, at_first}
 use Rattle.client_registry.specs.Setup.{Setup}
 use Rattle.keyed_fn.specs.KeyedFn.{KeyedFn}
-use Rattle.sse_frames.specs.Exchange.{exchange}
-use Rattle.sse_frames.specs.Frames.{Hello}
+use Rattle.sse_frames.specs.Exchange.{exchange, greeting}
 use Rattle.sse_leakage.proofs.Law.{simulate_is_wire}
 use Rattle.sse_leakage.specs.Histories.{leak_in, draws_in}
 use Rattle.sse_leakage.specs.Leaking.{leak_by, leak}
 use Rattle.sse_model.proofs.Exchanging.{session-exchange}
-use Rattle.sse_model.proofs.HistoryLaws.{frames_sent-run}
-use Rattle.sse_model.specs.Histories.{table_of}
+use Rattle.sse_model.specs.Histories.{table_of, frames_sent}
 use Rattle.sse_model.specs.Transcript.{session}
 use Rattle.sse_simulator.specs.Simulator.{answer_of, simulated}
 
@@ -30,5 +28,5 @@ answers o s past (Search word ∷ later) = ap (λ rest. shown s past word ∷ re
 pub session_is_simulated : (f : KeyedFn) (keys : ℕ → List ℕ) (h : History) → IsKept h → simulated (leak_in h) (draws_in f keys h) ≡ Some (session f keys h)
 session_is_simulated f keys None kept = refl
 session_is_simulated f keys (Some run) kept =
-    ap (option_map (λ frames. exchange (flat_map answer_of (leak at_first run)) (Hello ∷ flat_map (λ fs. fs) frames))) (simulate_is_wire (table_of f keys run) at_first run [] refl kept.0)
-    ∙ ap Some ((λ i. exchange (answers at_first run.setup [] run.later i) (sym (frames_sent-run f keys run) i)) ∙ sym (session-exchange f keys (Some run)))
+    ap (option_map (λ frames. greeting 0 ++ exchange (flat_map answer_of (leak at_first run)) (flat_map (λ fs. fs) frames))) (simulate_is_wire (table_of f keys run) at_first run [] refl kept.0)
+    ∙ ap Some (ap (λ found. greeting 0 ++ exchange found (frames_sent f keys (Some run))) (answers at_first run.setup [] run.later) ∙ sym (session-exchange f keys (Some run)))

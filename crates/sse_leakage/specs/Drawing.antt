@@ -38,7 +38,7 @@ draw t ranks (ForToken n) = TokenDraw (t n)
 abbrev pub drawings_of_setup : ℕ → Setup → List Drawing
 drawings_of_setup epoch s = map ForEntry (entry_positions epoch s) ++ map ForBlock (block_positions epoch s)
 
--- a command behind these others draws for each new entry, for each number that was never sent, for a word that wasn't searched
+-- a command after these others draws for each new entry, for each number that was never sent, for a word that wasn't searched
 abbrev pub drawings_by : ℕ → Setup → List Command → Command → List Drawing
 drawings_by epoch s past (Add d) = map ForEntry (addition_positions epoch s past d)
 drawings_by epoch s past (Delete id) =

@@ -18,7 +18,7 @@ first_place k [] = None
 first_place k (None ∷ places) = first_place (k + 1) places
 first_place k (Some place ∷ places) = Some (origin k place)
 
--- the first of these commands behind a setup for which `place` has a place
+-- the first of these commands after a setup for which `place` has a place
 abbrev pub earliest : Offsets → (place : List Command → Command → Option ℕ) → List Command → Option Origin
 earliest o place past = first_place (o.command + 1) (over place [] past)
 

@@ -38,7 +38,7 @@ word_deleted o s past id word = record {
 
 -- Searches.
 
--- where the setup holds a word: its number among the setup's words, and as many block positions behind those of the words before
+-- where the setup holds a word: its number among the setup's words, and as many block positions after those of the words before
 abbrev pub home : Setup → List ℕ → Option Home
 home s word = option_map (λ i. record {
   entry = i;
@@ -73,7 +73,7 @@ pair_leak o s past word pair = record {
 abbrev pub leak_of_setup : ℕ → Setup → Leak
 leak_of_setup epoch s = SetupLeak s.shape (length (entry_positions epoch s)) (length (block_positions epoch s))
 
--- of a command behind these others
+-- of a command after these others
 abbrev pub leak_by : Offsets → Setup → List Command → Command → Leak
 leak_by o s past (Add d) = AddLeak (map (word_added o s past d.id) d.words)
 leak_by o s past (Delete id) = DeleteLeak (map (word_deleted o s past id) (words_live (live s.documents past) id))

@@ -1,0 +1,24 @@
+pub mod Pairs
+pub mod Beside
+pub mod Shifts
+pub mod OwnValues
+pub mod SameDrawings
+pub mod SameDraws
+pub mod Standing
+pub mod SamePlaces
+pub mod Orderly
+pub mod FirstSearches
+pub mod Alongside
+pub mod Partners
+pub mod PartnerWords
+pub mod HomePositions
+pub mod RenamedSetup
+pub mod Renamed
+pub mod KeptValues
+pub mod CollisionFree
+pub mod InAnyOrder
+pub mod SortedInAnyOrder
+pub mod ReorderedDocuments
+pub mod ReorderedSetup
+pub mod ReorderedRuns
+mod Rows

@@ -1,0 +1,9 @@
+-- Lists that go together place by place.
+use Rattle.std.specs.Prelude.{List, [], ◌∷◌}
+
+-- as many items in the one as in the other, those at each place in this relation
+abbrev pub Paired : {A B : Type 0} → (A → B → Type 0) → List A → List B → Type 0
+Paired R [] [] = Unit {0}
+Paired R [] (y ∷ ys) = ⊥
+Paired R (x ∷ xs) [] = ⊥
+Paired R (x ∷ xs) (y ∷ ys) = R x y × Paired R xs ys
