@@ -14,7 +14,7 @@ module _ (next place : ℕ) (fs : List (ℕ → FrameText)) where
   pub one_less : map frame_bytes (numbered (next + 1) (drop (place + 1) fs)) ≡ drop 1 (map frame_bytes (numbered next (drop place fs)))
   one_less = ap (λ gs. map frame_bytes (numbered (next + 1) gs)) (sym (drop-drop 1 place fs)) ∙ tail next (drop place fs)
 
-  -- behind the last frame none is left
+  -- after the last frame none is left
   pub none_left : length fs ≤ place + 1 → drop 1 (map frame_bytes (numbered next (drop place fs))) ≡ []
   none_left most =
       let left = numbered next (drop place fs) in

@@ -3,7 +3,7 @@ use Rattle.std.proofs.Common.{◌≡◌, ◌+◌, ◌*◌, ◌<◌, length, map,
 use Rattle.std.proofs.lemmas.Grind.{div_ceil_times}
 use Rattle.std.proofs.lemmas.List.{length-map}
 use Rattle.sse_frames.specs.Frames.{frame_bytes}
-use Rattle.sse_frames.specs.Seen.{entries_in, items_in}
+use Rattle.sse_frames.specs.FrameViews.{entries_in, items_in}
 use Rattle.sse_frames.specs.Sending.{numbered}
 use Rattle.sse_frames.proofs.Chunks.{length-entries_in, length-items_in}
 use Rattle.index_setup.specs.declared.index.Index.{Index}

@@ -10,4 +10,5 @@ mod UpdateBytes
 mod DifferLaws
 mod PlanLaws
 mod StandsForLaws
+pub mod OwesLaws
 mod Rows

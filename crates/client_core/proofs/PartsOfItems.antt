@@ -8,7 +8,7 @@ use Rattle.std.proofs.lemmas.Grind.{div_ceil_times}
 use Rattle.std.proofs.lemmas.List.{take-map, drop-map, take_all, take-take, drop-take, drop-drop, length-map, length-take-le, length-drop}
 use Rattle.list_packing.specs.Parts.{parts}
 use Rattle.list_packing.proofs.PartsLemmas.{parts-at}
-use Rattle.sse_frames.specs.Seen.{items_in, entry_in, entries_in}
+use Rattle.sse_frames.specs.FrameViews.{items_in, entry_in, entries_in}
 use Rattle.sse_frames.proofs.Chunks.{items_are, length-items_in}
 
 drop-chunks : (size k n m : ℕ) (xs : List ℕ) → n ≡ k + m → drop k (first_chunks size n xs) ≡ first_chunks size m (drop (k * size) xs)

@@ -1,10 +1,10 @@
 -- What an update's places are to the words of its document, and what its values are.
-use Rattle.std.proofs.Common.{◌≡◌, ◌≢◌, ◌+◌, ◌-◌, ◌<◌, ◌^◌, ◌||◌, ℕ, Bool, true, false, cond, not, List, [], ◌∷◌, ◌++◌, length, map, filter, get_or, nat_lt, Option, Some, None, refl, sym, ap, ◌∙◌, subst, arith, append_assoc, length-append, Ok, Err}
-use Rattle.std.specs.Prelude.{All, bytes_eq, option_map, slice_index, slice_index_or, if◌then◌else◌, IsErrAnd, Result}
-use Rattle.std.specs.List.{enumerate_from, list_all, list_any, range_with_len}
+use Rattle.std.proofs.Common.{◌≡◌, ◌≢◌, ◌+◌, ◌-◌, ◌<◌, ◌^◌, ◌||◌, ℕ, Bool, true, false, cond, not, List, [], ◌∷◌, length, map, filter, nat_lt, Option, Some, None, refl, sym, ap, ◌∙◌, subst, arith, Ok, Err}
+use Rattle.std.specs.Prelude.{All, option_map, slice_index, slice_index_or, if◌then◌else◌, IsErrAnd, Result}
+use Rattle.std.specs.List.{list_all, range_with_len}
 use Rattle.std.specs.Option.{option_or}
 use Rattle.std.proofs.lemmas.Bool.{and_parts, ltb-true}
-use Rattle.std.proofs.lemmas.List.{get_or-map, get_or-append_right, length-map}
+use Rattle.std.proofs.lemmas.List.{get_or-map, length-map}
 use Rattle.std.proofs.lemmas.List.Elements.{All-cons, All-nil}
 use Rattle.std.proofs.lemmas.List.Filters.{length-filter_both}
 use Rattle.std.proofs.lemmas.Simd.{map-map}
@@ -13,11 +13,12 @@ use Rattle.add_counters.specs.declared.entry.Entry.{Entry as Made}
 use Rattle.client_registry.specs.Document.{Document}
 use Rattle.client_registry.specs.Facts.{has_counters}
 use Rattle.client_registry.specs.FirstClash.{first_clash}
+use Rattle.client_registry.specs.Numbered.{words_by_number}
 use Rattle.client_registry.specs.Registered.{Registered, facts, known_words}
 use Rattle.keyed_fn.specs.KeyedFn.{KeyedFn}
-use Rattle.revocation_ids.proofs.PlaceLaws.{fresh-words, listed-words}
-use Rattle.revocation_ids.specs.Places.{place_of, fresh_places, listed_places}
-use Rattle.revocation_ids.specs.declared.place.Place.{Place}
+use Rattle.revocation_ids.proofs.PlaceLaws.{fresh-words, listed-words, positions_of_places}
+use Rattle.revocation_ids.specs.Places.{fresh_places, listed_places, places_from, word_at}
+use Rattle.revocation_ids.specs.declared.numbered_word.NumberedWord.{NumberedWord}
 use Rattle.sse_frames.specs.Frames.{Entry}
 use Rattle.sse_frames.specs.Order.{is_below, insert_by, by_bytes}
 use Rattle.sse_model.specs.Compared.{Collision, Labels, Numbers, positions_of, equal_among}
@@ -43,28 +44,6 @@ free_words listed counter n (w ∷ ws) all =
     by true here rest = rest
     by false here rest = All-cons (λ v. counter v < n) w (filter (λ v. not (listed v)) ws) (ltb-true (counter w) n here) rest
 
--- the positions of the words that pass
-positions_from : (r : Registered) (p : List ℕ → Bool) (front ws : List (List ℕ)) (n : ℕ) → length front ≡ n
-    → map (λ place. place.position) (map (place_of r) (filter (λ e. p e.1) (enumerate_from n ws))) ≡ filter (λ i. p (slice_index_or (front ++ ws) i [])) (range_with_len n (length ws))
-positions_from r p front [] n len = refl
-positions_from r p front (w ∷ ws) n len =
-    by (p w)
-    (positions_from r p (front ++ w ∷ []) ws (n + 1) (length-append front (w ∷ []) ∙ ap (λ k. k + 1) len)
-    ∙ ap (λ all. filter (λ i. p (slice_index_or all i [])) (range_with_len (n + 1) (length ws))) (append_assoc front (w ∷ []) ws))
-    ∙ ap (λ b. cond b (n ∷ filter (λ i. p (slice_index_or (front ++ w ∷ ws) i [])) (range_with_len (n + 1) (length ws))) (filter (λ i. p (slice_index_or (front ++ w ∷ ws) i [])) (range_with_len (n + 1) (length ws)))) (sym here)
-  where
-    here : p (slice_index_or (front ++ w ∷ ws) n []) ≡ p w
-    here =
-        let none : n - length front ≡ 0 = omega (arith, len) in
-        ap p (get_or-append_right front (w ∷ ws) (length front) n [] refl (omega (arith, len)) ∙ ap (λ k. get_or (w ∷ ws) k []) none)
-
-    by : (b : Bool)
-        → map (λ place. place.position) (map (place_of r) (filter (λ e. p e.1) (enumerate_from (n + 1) ws))) ≡ filter (λ i. p (slice_index_or (front ++ w ∷ ws) i [])) (range_with_len (n + 1) (length ws))
-        → map (λ place. place.position) (map (place_of r) (cond b ((n, w) ∷ filter (λ e. p e.1) (enumerate_from (n + 1) ws)) (filter (λ e. p e.1) (enumerate_from (n + 1) ws))))
-        ≡ cond b (n ∷ filter (λ i. p (slice_index_or (front ++ w ∷ ws) i [])) (range_with_len (n + 1) (length ws))) (filter (λ i. p (slice_index_or (front ++ w ∷ ws) i [])) (range_with_len (n + 1) (length ws)))
-    by true rest = ap (λ xs. n ∷ xs) rest
-    by false rest = rest
-
 -- items by a key that their images have
 map-insert_by : {X Y : Type 0} (h : X → Y) (key : Y → List ℕ) (x : X) (xs : List X) → map h (insert_by (λ z. key (h z)) x xs) ≡ insert_by key (h x) (map h xs)
 map-insert_by h key x [] = refl
@@ -80,53 +59,85 @@ map-by_bytes h key [] = refl
 map-by_bytes h key (x ∷ xs) = map-insert_by h key x (by_bytes (λ z. key (h z)) xs) ∙ ap (insert_by key (h x)) (map-by_bytes h key xs)
 
 -- equal values among the words that pass, by their places
-pub equal_at-among : (keep : List ℕ → Bool) (value : List ℕ → List ℕ) (words : List (List ℕ)) (places : List Place) (values : List (List ℕ))
+pub equal_at-among : (keep : List ℕ → Bool) (value : List ℕ → List ℕ) (words : List (List ℕ)) (places : List NumberedWord) (values : List (List ℕ))
     → map (λ place. place.position) places ≡ positions_of keep words → values ≡ map value (filter keep words) → equal_at places values ≡ equal_among keep value words
 equal_at-among keep value words places values at are =
     ap (λ positions. option_map (λ two. (slice_index positions two.0, slice_index positions two.1)) (first_clash values)) at
     ∙ ap (λ vs. option_map (λ two. (slice_index (positions_of keep words) two.0, slice_index (positions_of keep words) two.1)) (first_clash vs)) are
 
-module _ (r : Registered) (d : Document) (numbered : All (λ word. list_any (bytes_eq word) (known_words r) ≡ true) d.words) where
-  abbrev word_at : Place → List ℕ
-  word_at place = slice_index_or (known_words r) place.number []
+-- the words of a document by their numbers
+module _ (r : Registered) (d : Document) (numbers : List ℕ) (are : words_by_number (known_words r) numbers ≡ d.words) where
+  abbrev is_old : List ℕ → Bool
+  is_old w = (facts r).listed w d.id
 
-  pub fresh_counters : has_counters (facts r) d ≡ true → All (λ place. (facts r).counter (word_at place) < 2 ^ 32 - 1) (fresh_places r d)
+  fresh_words_are : map (word_at r) (fresh_places r d.id numbers) ≡ filter (λ w. not (is_old w)) d.words
+  fresh_words_are = fresh-words r d.id numbers ∙ ap (filter (λ w. not (is_old w))) are
+
+  listed_words_are : map (word_at r) (listed_places r d.id numbers) ≡ filter is_old d.words
+  listed_words_are = listed-words r d.id numbers ∙ ap (filter is_old) are
+
+  pub fresh_counters : has_counters (facts r) d ≡ true → All (λ place. (facts r).counter (word_at r place) < 2 ^ 32 - 1) (fresh_places r d.id numbers)
   fresh_counters free =
-      All-unmap (λ word. (facts r).counter word < 2 ^ 32 - 1) word_at (fresh_places r d)
-      (subst (All (λ word. (facts r).counter word < 2 ^ 32 - 1)) (sym (fresh-words r d numbered)) (free_words (λ w. (facts r).listed w d.id) (facts r).counter (2 ^ 32 - 1) d.words free))
+      All-unmap (λ word. (facts r).counter word < 2 ^ 32 - 1) (word_at r) (fresh_places r d.id numbers)
+      (subst (All (λ word. (facts r).counter word < 2 ^ 32 - 1)) (sym fresh_words_are) (free_words is_old (facts r).counter (2 ^ 32 - 1) d.words free))
 
-  pub length-places : length (fresh_places r d) + length (listed_places r d) ≡ length d.words
+  pub length-places : length (fresh_places r d.id numbers) + length (listed_places r d.id numbers) ≡ length d.words
   length-places = omega (
     arith,
-    length-map (fresh_places r d) word_at,
-    length-map (listed_places r d) word_at,
-    ap length (fresh-words r d numbered),
-    ap length (listed-words r d numbered),
-    length-filter_both (λ w. (facts r).listed w d.id) (λ w. not ((facts r).listed w d.id)) (λ w. refl) d.words,
+    length-map (fresh_places r d.id numbers) (word_at r),
+    length-map (listed_places r d.id numbers) (word_at r),
+    ap length fresh_words_are,
+    ap length listed_words_are,
+    length-filter_both is_old (λ w. not (is_old w)) (λ w. refl) d.words,
   )
 
-  pub fresh_positions : map (λ place. place.position) (fresh_places r d) ≡ positions_of (λ w. not ((facts r).listed w d.id)) d.words
-  fresh_positions = positions_from r (λ w. not ((facts r).listed w d.id)) [] d.words 0 refl
+  positions_are : (p : List ℕ → Bool) → map (λ place. place.position) (filter (λ place. p (word_at r place)) (places_from 0 numbers)) ≡ positions_of p d.words
+  positions_are p =
+      let words = words_by_number (known_words r) numbers in
+      positions_of_places r p [] numbers 0 refl
+      ∙ ap (λ n. filter (λ i. p (slice_index_or words i [])) (range_with_len 0 n)) (sym (length-map numbers (λ n. slice_index_or (known_words r) n [])))
+      ∙ ap (positions_of p) are
 
-  pub listed_positions : map (λ place. place.position) (listed_places r d) ≡ positions_of (λ w. (facts r).listed w d.id) d.words
-  listed_positions = positions_from r (λ w. (facts r).listed w d.id) [] d.words 0 refl
+  pub fresh_positions : map (λ place. place.position) (fresh_places r d.id numbers) ≡ positions_of (λ w. not (is_old w)) d.words
+  fresh_positions = positions_are (λ w. not (is_old w))
 
-  pub entries_are_added : (f : KeyedFn) (key : List ℕ) (es : List Made) → map entry_text es ≡ map (λ place. next_entry_of f key (facts r) d.id (word_at place)) (fresh_places r d)
+  pub listed_positions : map (λ place. place.position) (listed_places r d.id numbers) ≡ positions_of is_old d.words
+  listed_positions = positions_are is_old
+
+  pub entries_are_added : (f : KeyedFn) (key : List ℕ) (es : List Made) → map entry_text es ≡ map (λ place. next_entry_of f key (facts r) d.id (word_at r place)) (fresh_places r d.id numbers)
       → map entry_text es ≡ entries_added f key (facts r) d
-  entries_are_added f key es are =
-      are ∙ sym (map-map (next_entry_of f key (facts r) d.id) word_at (fresh_places r d)) ∙ ap (map (next_entry_of f key (facts r) d.id)) (fresh-words r d numbered)
+  entries_are_added f key es made =
+      made ∙ sym (map-map (next_entry_of f key (facts r) d.id) (word_at r) (fresh_places r d.id numbers)) ∙ ap (map (next_entry_of f key (facts r) d.id)) fresh_words_are
 
-  pub labels_are_added : (f : KeyedFn) (key : List ℕ) (es : List Made) → map entry_text es ≡ map (λ place. next_entry_of f key (facts r) d.id (word_at place)) (fresh_places r d)
+  pub labels_are_added : (f : KeyedFn) (key : List ℕ) (es : List Made) → map entry_text es ≡ map (λ place. next_entry_of f key (facts r) d.id (word_at r place)) (fresh_places r d.id numbers)
       → map (λ e. e.label) es ≡ map (λ w. (next_entry_of f key (facts r) d.id w).label) (filter (λ w. not ((facts r).listed w d.id)) d.words)
-  labels_are_added f key es are =
+  labels_are_added f key es made =
       sym (map-map (λ (entry : Entry). entry.label) entry_text es)
-      ∙ ap (map (λ (entry : Entry). entry.label)) (entries_are_added f key es are)
+      ∙ ap (map (λ (entry : Entry). entry.label)) (entries_are_added f key es made)
       ∙ map-map (λ (entry : Entry). entry.label) (next_entry_of f key (facts r) d.id) (filter (λ w. not ((facts r).listed w d.id)) d.words)
 
-  pub numbers_are_added : (f : KeyedFn) (key : List ℕ) (ns : List (List ℕ)) → ns ≡ map (λ place. number_of f key d.id (word_at place)) (listed_places r d)
+  pub numbers_are_added : (f : KeyedFn) (key : List ℕ) (ns : List (List ℕ)) → ns ≡ map (λ place. number_of f key d.id (word_at r place)) (listed_places r d.id numbers)
       → ns ≡ numbers_added f key (facts r) d
-  numbers_are_added f key ns are =
-      are ∙ sym (map-map (number_of f key d.id) word_at (listed_places r d)) ∙ ap (map (number_of f key d.id)) (listed-words r d numbered)
+  numbers_are_added f key ns made =
+      made ∙ sym (map-map (number_of f key d.id) (word_at r) (listed_places r d.id numbers)) ∙ ap (map (number_of f key d.id)) listed_words_are
+
+  -- two equal labels, and two equal numbers, by the words that they are of
+  pub labels_at : (f : KeyedFn) (key : List ℕ) (es : List Made) → map entry_text es ≡ map (λ place. next_entry_of f key (facts r) d.id (word_at r place)) (fresh_places r d.id numbers)
+      → equal_at (fresh_places r d.id numbers) (map (λ e. e.label) es) ≡ equal_among (λ w. not (is_old w)) (λ w. (next_entry_of f key (facts r) d.id w).label) d.words
+  labels_at f key es made =
+      equal_at-among (λ w. not (is_old w)) (λ w. (next_entry_of f key (facts r) d.id w).label) d.words (fresh_places r d.id numbers) (map (λ e. e.label) es) fresh_positions (labels_are_added f key es made)
+
+  pub numbers_at : (f : KeyedFn) (key : List ℕ) (ns : List (List ℕ)) → ns ≡ map (λ place. number_of f key d.id (word_at r place)) (listed_places r d.id numbers)
+      → equal_at (listed_places r d.id numbers) ns ≡ equal_among is_old (number_of f key d.id) d.words
+  numbers_at f key ns made = equal_at-among is_old (number_of f key d.id) d.words (listed_places r d.id numbers) ns listed_positions (numbers_are_added f key ns made)
+
+-- where no two are named, no two are equal
+pub none_equal : (places : List NumberedWord) (values : List (List ℕ)) → equal_at places values ≡ None → first_clash values ≡ None
+none_equal places values none = by (first_clash values) none
+  where
+    by : (o : Option (ℕ × ℕ)) → option_map {U = ℕ × ℕ} (λ two. (slice_index (map (λ p. p.position) places) two.0, slice_index (map (λ p. p.position) places) two.1)) o ≡ None → o ≡ None
+    by None e = refl
+    by (Some two) e = absurd (cc)
 
 -- the fault of two equal numbers
 pub clash_of_numbers : (m : Option (ℕ × ℕ)) → option_map (λ two. NumberClash two.0 two.1) m ≡ option_map clash_fault (option_map (λ places. Numbers places.0 places.1) m)
@@ -138,7 +149,7 @@ filter-all [] = refl
 filter-all (x ∷ xs) = ap (λ ys. x ∷ ys) (filter-all xs)
 
 -- all words of a document by their numbers
-module _ (table : List (List ℕ)) (numbers : List ℕ) (places : List Place) (are : map (λ place. place.number) places ≡ numbers) where
+module _ (table : List (List ℕ)) (numbers : List ℕ) (places : List NumberedWord) (are : map (λ place. place.number) places ≡ numbers) where
   abbrev words_here : List (List ℕ)
   words_here = map (λ n. slice_index_or table n []) numbers
 
@@ -148,7 +159,7 @@ module _ (table : List (List ℕ)) (numbers : List ℕ) (places : List Place) (a
 
   pub all_values : (value : List ℕ → List ℕ) (ns : List (List ℕ)) → ns ≡ map (λ place. value (slice_index_or table place.number [])) places → ns ≡ map value words_here
   all_values value ns is =
-      is ∙ sym (map-map (λ n. value (slice_index_or table n [])) (λ (place : Place). place.number) places)
+      is ∙ sym (map-map (λ n. value (slice_index_or table n [])) (λ (place : NumberedWord). place.number) places)
       ∙ ap (map (λ n. value (slice_index_or table n []))) are
       ∙ sym (map-map value (λ n. slice_index_or table n []) numbers)
 

@@ -27,7 +27,7 @@ at_counter n = record {
   counter = λ word. if bytes_eq word a then n else 0;
 }
 
--- a word's last addition, and the counter behind it
+-- a word's last addition, and the counter after it
 last_counter : refusal_to_add (at_counter 4294967294) 7 (doc 5) ≡ None
 last_counter = refl
 

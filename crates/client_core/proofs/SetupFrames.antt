@@ -3,7 +3,7 @@ use Rattle.std.proofs.Common.{◌≡◌, ℕ, ◌+◌, ◌*◌, ◌<◌, ◌≤�
 use Rattle.std.specs.Int.{div_ceil}
 use Rattle.list_packing.specs.Parts.{parts}
 use Rattle.sse_frames.specs.Frames.{Entry, IsNumber, IsSetupDict, IsSetupArray, Rises, labels_of}
-use Rattle.sse_frames.specs.Seen.{entries_in, items_in}
+use Rattle.sse_frames.specs.FrameViews.{entries_in, items_in}
 use Rattle.sse_frames.proofs.Chunks.{length-entries_in, length-items_in, each_entry, each_item}
 use Rattle.sse_frames.proofs.Cut.{AreBytes}
 use Rattle.sse_model.proofs.SetupGrammar.{Rises-take, Rises-drop}

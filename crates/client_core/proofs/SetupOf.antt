@@ -22,7 +22,7 @@ use Rattle.sse_frames.proofs.Joined.{items_in-joined, sizes_of}
 use Rattle.sse_frames.proofs.Sorted.{AllDiffer, All-by_bytes, Rises-by_bytes, length-by_bytes}
 use Rattle.sse_frames.proofs.Spelling.{entries_in-entry_bytes}
 use Rattle.sse_frames.specs.Order.{by_bytes}
-use Rattle.sse_frames.specs.Seen.{entries_in, items_in}
+use Rattle.sse_frames.specs.FrameViews.{entries_in, items_in}
 use Rattle.sse_frames.specs.Sending.{numbered, dict_frames, array_frames, setup_frames}
 use Rattle.sse_model.proofs.Counts.{AllByRecursion-append, AllByRecursion-each}
 use Rattle.sse_model.proofs.KeyValues.{IsValue-table}

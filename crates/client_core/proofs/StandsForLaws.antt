@@ -12,13 +12,14 @@ use Rattle.client_registry.proofs.OrderLaws.{AreApart-from_IsDistinct}
 use Rattle.client_registry.proofs.Positions.{all_pass}
 use Rattle.client_registry.proofs.ShownLaws.{live_apart}
 use Rattle.client_registry.proofs.SizedLaws.{update_frames-push}
-use Rattle.client_registry.specs.Command.{Command as Meant, Add, Delete, Search, is_update}
+use Rattle.client_registry.specs.Command.{Add, Delete, is_update}
 use Rattle.client_registry.specs.Document.{Document}
 use Rattle.client_registry.specs.Facts.{Facts, facts_of, has_counter, has_counters}
 use Rattle.client_registry.specs.Histories.{IsKept}
+use Rattle.client_registry.specs.IdNumber.{id_number}
 use Rattle.client_registry.specs.Live.{live}
 use Rattle.client_registry.specs.Registered.{Registered, Represents, facts, known_words}
-use Rattle.client_registry.specs.Run.{Run, at_first}
+use Rattle.client_registry.specs.Run.{Offsets, Run}
 use Rattle.client_registry.specs.Sized.{IsSizedCommand, is_accepted}
 use Rattle.keyed_fn.specs.KeyedFn.{KeyedFn}
 use Rattle.keyed_fn.specs.KeyFormulas.{part_key}
@@ -33,11 +34,14 @@ use Rattle.sse_model.proofs.LiveWords.{words_live-apart}
 use Rattle.client_core.specs.Keys.{Keeps}
 use Rattle.client_core.specs.StandsFor.{Fits, StandsFor, add_fault, add_refusal, collision_next, comes_of_add, comes_of_delete, delete_fault, delete_refusal, frames_next, full_refusal, refusal_to_add, refusal_to_delete, with_command}
 use Rattle.client_core.specs.UpdateFaults.{clash_fault}
+use Rattle.client_core.specs.Updates.{command_of_update}
 use Rattle.client_core.specs.UpdateTexts.{add_collision, add_text, delete_collision, delete_text, numbers_added}
 use Rattle.client_core.specs.declared.ready.Ready.{Ready}
 use Rattle.client_core.specs.declared.command_fault.CommandFault.{CommandFault}
 use Rattle.client_core.specs.declared.command_fault.CommandFault.TheVariants as faults
 use Rattle.client_core.specs.declared.kept_keys.KeptKeys.{KeptKeys}
+use Rattle.client_core.specs.declared.update.Update.{Update}
+use Rattle.client_core.specs.declared.update.Update.TheVariants as updates
 
 -- Keys.
 
@@ -101,9 +105,9 @@ live_accepted x n id none = by (x.live id) none
 
 -- Which faults can come.
 
-add_faults : (f : KeyedFn) (key : List ℕ) (run : Run) (d : Document) → IfSome (add_fault f key run d) (λ x. comes_of_add x ≡ true)
-add_faults f key run d =
-    by ((facts_of run.setup run.later).live d.id) (position (λ word. not (has_counter (facts_of run.setup run.later) d.id word)) d.words) (nat_le (2 ^ 32 - 1) (next_number at_first run.setup run.later)) (collision_next f key run (Add d))
+add_faults : (f : KeyedFn) (keys : ℕ → List ℕ) (o : Offsets) (run : Run) (d : Document) → IfSome (add_fault f keys o run d) (λ x. comes_of_add x ≡ true)
+add_faults f keys o run d =
+    by ((facts_of run.setup run.later).live d.id) (position (λ word. not (has_counter (facts_of run.setup run.later) d.id word)) d.words) (nat_le (2 ^ 32 - 1) (next_number o run.setup run.later)) (collision_next f keys o run (Add d))
   where
     by : (o : Option (List (List ℕ))) (p : Option ℕ) (b : Bool) (clash : Option Collision)
         → IfSome (option_or (if is_some o then Some (faults.AlreadyLive d.id) else option_or (option_map (λ p. faults.CounterFull p) p) (if b then Some faults.HistoryFull else None)) (option_map clash_fault clash)) (λ x. comes_of_add x ≡ true)
@@ -115,10 +119,10 @@ add_faults f key run d =
     by None None false (Some (Places i j)) = refl
     by None None false (Some (Numbers i j)) = refl
 
-delete_faults : (f : KeyedFn) (key : List ℕ) (run : Run) (id : ℕ) → IfSome (delete_fault f key run id) (λ x. comes_of_delete x ≡ true)
-delete_faults f key run id =
-    by ((facts_of run.setup run.later).live id) (nat_le (2 ^ 32 - 1) (next_number at_first run.setup run.later))
-    (equal_among (λ word. true) (λ word. table f run.setup.shape (λ epoch. key) (name at_first.epoch word Revocation id)) (words_live (live run.setup.documents run.later) id))
+delete_faults : (f : KeyedFn) (keys : ℕ → List ℕ) (o : Offsets) (run : Run) (id : ℕ) → IfSome (delete_fault f keys o run id) (λ x. comes_of_delete x ≡ true)
+delete_faults f keys o run id =
+    by ((facts_of run.setup run.later).live id) (nat_le (2 ^ 32 - 1) (next_number o run.setup run.later))
+    (equal_among (λ word. true) (λ word. table f run.setup.shape keys (name o.epoch word Revocation id)) (words_live (live run.setup.documents run.later) id))
   where
     by : (o : Option (List (List ℕ))) (b : Bool) (two : Option (ℕ × ℕ))
         → IfSome (option_or (if is_some o then (if b then Some faults.HistoryFull else None) else Some (faults.UnknownDocument id)) (option_map clash_fault (option_map (λ places. Numbers places.0 places.1) two))) (λ x. comes_of_delete x ≡ true)
@@ -144,54 +148,70 @@ only_by {X} p (Err e) o memory is all = by e is
     by (faults.NumberClash first second) h = told _ (h (λ w. cc))
     by faults.NoMemory h = memory
 
-pub only_add : {X : Type 0} (f : KeyedFn) (key : List ℕ) (run : Run) (d : Document) (r : Result X CommandFault) → (r ≢ Err faults.NoMemory → result_err r ≡ add_fault f key run d)
-    → IfErr r (λ x. comes_of_add x ≡ true)
-only_add f key run d r is = only_by comes_of_add r (add_fault f key run d) refl is (add_faults f key run d)
+pub only_add : {X : Type 0} (f : KeyedFn) (keys : ℕ → List ℕ) (o : Offsets) (run : Run) (d : Document) (r : Result X CommandFault)
+    → (r ≢ Err faults.NoMemory → result_err r ≡ add_fault f keys o run d) → IfErr r (λ x. comes_of_add x ≡ true)
+only_add f keys o run d r is = only_by comes_of_add r (add_fault f keys o run d) refl is (add_faults f keys o run d)
 
-pub only_delete : {X : Type 0} (f : KeyedFn) (key : List ℕ) (run : Run) (id : ℕ) (r : Result X CommandFault) → (r ≢ Err faults.NoMemory → result_err r ≡ delete_fault f key run id)
-    → IfErr r (λ x. comes_of_delete x ≡ true)
-only_delete f key run id r is = only_by comes_of_delete r (delete_fault f key run id) refl is (delete_faults f key run id)
+pub only_delete : {X : Type 0} (f : KeyedFn) (keys : ℕ → List ℕ) (o : Offsets) (run : Run) (id : ℕ) (r : Result X CommandFault)
+    → (r ≢ Err faults.NoMemory → result_err r ≡ delete_fault f keys o run id) → IfErr r (λ x. comes_of_delete x ≡ true)
+only_delete f keys o run id r is = only_by comes_of_delete r (delete_fault f keys o run id) refl is (delete_faults f keys o run id)
 
 -- A plan.
 
--- what a client stands for after a plan, whose registry tells the same facts
-pub StandsFor-planned : (f : KeyedFn) (key : List ℕ) (run : Run) (old new : Ready) → facts new.registry ≡ facts old.registry → new.frames ≡ old.frames
-    → Keeps f key (known_words new.registry) new.keys → StandsFor f key run old → StandsFor f key run new
-StandsFor-planned f key run old new facts_same frames_same keys s = record {
+-- what a client stands for after a plan under the key of the epoch, whose registry tells the same facts and whose keys are
+-- still those of its words
+pub StandsFor-planned : (f : KeyedFn) (keys : ℕ → List ℕ) (o : Offsets) (run : Run) (key : List ℕ) (old new : Ready) → keys o.epoch ≡ key
+    → facts new.registry ≡ facts old.registry → new.frames ≡ old.frames
+    → (Keeps f key (known_words old.registry) old.keys → Keeps f key (known_words new.registry) new.keys) → StandsFor f keys o run old → StandsFor f keys o run new
+StandsFor-planned f keys o run key old new under facts_same frames_same more s = record {
   kept = s.kept;
   registry = facts_same ∙ s.registry;
   number = frames_same ∙ s.number;
-  keys = keys;
+  word_keys = subst (λ k. Keeps f k (known_words new.registry) new.keys) (sym under) (more (subst (λ k. Keeps f k (known_words old.registry) old.keys) under s.word_keys));
 }
 
-module _ (f : KeyedFn) (key : List ℕ) (run : Run) (state : Ready) (s : StandsFor f key run state) where
+module _ (o : Offsets) (run : Run) (state : Ready) (registry : Represents state.registry run.setup run.later) (number : state.frames ≡ next_number o run.setup run.later) where
+  pub refusal_is : (d : Document) → refusal_to_add (facts state.registry) state.frames d ≡ add_refusal o run d
+  refusal_is d = ap (λ x. refusal_to_add x state.frames d) registry ∙ ap (λ n. refusal_to_add (facts_of run.setup run.later) n d) number
+
+  pub refusal_is-delete : (id : ℕ) → refusal_to_delete (facts state.registry) state.frames id ≡ delete_refusal o run id
+  refusal_is-delete id = ap (λ x. refusal_to_delete x state.frames id) registry ∙ ap (λ n. refusal_to_delete (facts_of run.setup run.later) n id) number
+
+-- what a client plans that stands for a history, under the key of the epoch
+module _ (f : KeyedFn) (keys : ℕ → List ℕ) (o : Offsets) (run : Run) (key : List ℕ) (under : keys o.epoch ≡ key) (state : Ready) (s : StandsFor f keys o run state) where
+  pub keeps : Keeps f key (known_words state.registry) state.keys
+  keeps = subst (λ k. Keeps f k (known_words state.registry) state.keys) under s.word_keys
+
   module _ (d : Document) where
-    pub refusal_is : refusal_to_add (facts state.registry) state.frames d ≡ add_refusal run d
-    refusal_is = ap (λ x. refusal_to_add x state.frames d) s.registry ∙ ap (λ n. refusal_to_add (facts_of run.setup run.later) n d) s.number
+    pub refusal : refusal_to_add (facts state.registry) state.frames d ≡ add_refusal o run d
+    refusal = refusal_is o run state s.registry s.number d
 
-    collision_is : option_map clash_fault (add_collision f key (facts state.registry) d) ≡ option_map clash_fault (collision_next f key run (Add d))
-    collision_is = ap (λ x. option_map clash_fault (add_collision f key x d)) s.registry
+    collision_is : option_map clash_fault (add_collision f key (facts state.registry) d) ≡ option_map clash_fault (collision_next f keys o run (Add d))
+    collision_is =
+        ap (λ x. option_map clash_fault (add_collision f key x d)) s.registry
+        ∙ ap (λ k. option_map clash_fault (add_collision f k (facts_of run.setup run.later) d)) (sym under)
 
-    pub fault_is : (o : Option CommandFault) → refusal_to_add (facts state.registry) state.frames d ≡ None → o ≡ option_map clash_fault (add_collision f key (facts state.registry) d) → o ≡ add_fault f key run d
-    fault_is o none is = is ∙ collision_is ∙ ap (λ r. option_or r (option_map clash_fault (collision_next f key run (Add d)))) (sym none ∙ refusal_is)
+    pub fault_is : (x : Option CommandFault) → refusal_to_add (facts state.registry) state.frames d ≡ None → x ≡ option_map clash_fault (add_collision f key (facts state.registry) d) → x ≡ add_fault f keys o run d
+    fault_is x none is = is ∙ collision_is ∙ ap (λ r. option_or r (option_map clash_fault (collision_next f keys o run (Add d)))) (sym none ∙ refusal)
 
-    pub fault_refused : (x : CommandFault) → refusal_to_add (facts state.registry) state.frames d ≡ Some x → Some x ≡ add_fault f key run d
-    fault_refused x is = ap (λ r. option_or r (option_map clash_fault (collision_next f key run (Add d)))) (sym is ∙ refusal_is)
+    pub fault_refused : (x : CommandFault) → refusal_to_add (facts state.registry) state.frames d ≡ Some x → Some x ≡ add_fault f keys o run d
+    fault_refused x is = ap (λ r. option_or r (option_map clash_fault (collision_next f keys o run (Add d)))) (sym is ∙ refusal)
 
-    pub frames_are : add_text f key (facts state.registry) state.frames d ∷ [] ≡ frames_next f key run (Add d)
+    pub frames_are : add_text f key (facts state.registry) state.frames d ∷ [] ≡ frames_next f keys o run (Add d)
     frames_are =
         ap (λ x. add_text f key x state.frames d ∷ []) s.registry
         ∙ ap (λ n. add_text f key (facts_of run.setup run.later) n d ∷ []) s.number
-        ∙ ap (λ es. AddFrame (next_number at_first run.setup run.later) (by_bytes (λ entry. entry.label) es) (by_bytes (λ number. number) (numbers_added f key (facts_of run.setup run.later) d)) ∷ [])
-        (sym (map-map (sealed (table f run.setup.shape (λ epoch. key)) []) (λ word. record {
-          label = name at_first.epoch word PlusLabel ((facts_of run.setup run.later).counter word);
-          pad = name at_first.epoch word PlusPad ((facts_of run.setup run.later).counter word);
+        ∙ ap (λ k. add_text f k (facts_of run.setup run.later) (next_number o run.setup run.later) d ∷ []) (sym under)
+        ∙ ap (λ es. AddFrame (next_number o run.setup run.later) (by_bytes (λ entry. entry.label) es) (by_bytes (λ number. number) (numbers_added f (keys o.epoch) (facts_of run.setup run.later) d)) ∷ [])
+        (sym (map-map (sealed (table f run.setup.shape keys) []) (λ word. record {
+          label = name o.epoch word PlusLabel ((facts_of run.setup run.later).counter word);
+          pad = name o.epoch word PlusPad ((facts_of run.setup run.later).counter word);
           clear = λ ranks. be64 d.id;
         }) (fresh_words run.setup run.later d)))
 
   module _ (id : ℕ) where
-    pub refusal_is-delete : refusal_to_delete (facts state.registry) state.frames id ≡ delete_refusal run id
-    refusal_is-delete = ap (λ x. refusal_to_delete x state.frames id) s.registry ∙ ap (λ n. refusal_to_delete (facts_of run.setup run.later) n id) s.number
+    pub refusal-delete : refusal_to_delete (facts state.registry) state.frames id ≡ delete_refusal o run id
+    refusal-delete = refusal_is-delete o run state s.registry s.number id
 
     live_words : unwrap_or ((facts state.registry).live id) [] ≡ words_live (live run.setup.documents run.later) id
     live_words =
@@ -199,27 +219,29 @@ module _ (f : KeyedFn) (key : List ℕ) (run : Run) (state : Ready) (s : StandsF
         ∙ sym (words_live-apart (live run.setup.documents run.later) id
         (live_apart run.setup (AreApart-from_IsDistinct (map (λ (d : Document). d.id) run.setup.documents) s.kept.0.collected.different) run.later s.kept.0.accepted))
 
-    pub fault_is-delete : (o : Option CommandFault) → refusal_to_delete (facts state.registry) state.frames id ≡ None
-        → o ≡ option_map clash_fault (delete_collision f key id (unwrap_or ((facts state.registry).live id) [])) → o ≡ delete_fault f key run id
-    fault_is-delete o none is =
+    pub fault_is-delete : (x : Option CommandFault) → refusal_to_delete (facts state.registry) state.frames id ≡ None
+        → x ≡ option_map clash_fault (delete_collision f key id (unwrap_or ((facts state.registry).live id) [])) → x ≡ delete_fault f keys o run id
+    fault_is-delete x none is =
         is
         ∙ ap (λ words. option_map clash_fault (delete_collision f key id words)) live_words
-        ∙ ap (λ r. option_or r (option_map clash_fault (collision_next f key run (Delete id)))) (sym none ∙ refusal_is-delete)
+        ∙ ap (λ k. option_map clash_fault (delete_collision f k id (words_live (live run.setup.documents run.later) id))) (sym under)
+        ∙ ap (λ r. option_or r (option_map clash_fault (collision_next f keys o run (Delete id)))) (sym none ∙ refusal-delete)
 
-    pub fault_refused-delete : (x : CommandFault) → refusal_to_delete (facts state.registry) state.frames id ≡ Some x → Some x ≡ delete_fault f key run id
-    fault_refused-delete x is = ap (λ r. option_or r (option_map clash_fault (collision_next f key run (Delete id)))) (sym is ∙ refusal_is-delete)
+    pub fault_refused-delete : (x : CommandFault) → refusal_to_delete (facts state.registry) state.frames id ≡ Some x → Some x ≡ delete_fault f keys o run id
+    fault_refused-delete x is = ap (λ r. option_or r (option_map clash_fault (collision_next f keys o run (Delete id)))) (sym is ∙ refusal-delete)
 
-    pub frames_are-delete : delete_text f key state.frames id (unwrap_or ((facts state.registry).live id) []) ∷ [] ≡ frames_next f key run (Delete id)
+    pub frames_are-delete : delete_text f key state.frames id (unwrap_or ((facts state.registry).live id) []) ∷ [] ≡ frames_next f keys o run (Delete id)
     frames_are-delete =
         ap (λ n. delete_text f key n id (unwrap_or ((facts state.registry).live id) []) ∷ []) s.number
-        ∙ ap (λ words. delete_text f key (next_number at_first run.setup run.later) id words ∷ []) live_words
+        ∙ ap (λ words. delete_text f key (next_number o run.setup run.later) id words ∷ []) live_words
+        ∙ ap (λ k. delete_text f k (next_number o run.setup run.later) id (words_live (live run.setup.documents run.later) id) ∷ []) (sym under)
 
 -- A plan taken as done.
 
 -- a history that a registry stands for keeps all limits with one command more that fits
-kept_next : (r : Registered) (n : ℕ) (run : Run) (c : Meant) → IsKept (Some run) → Represents r run.setup run.later → n ≡ next_number at_first run.setup run.later
-    → n + 1 < 2 ^ 32 → IsSizedCommand c → Fits r c → IsKept (Some (with_command run c))
-kept_next r n run (Add d) kept is number within sized fits =
+kept_next : (r : Registered) (n : ℕ) (o : Offsets) (run : Run) (u : Update) (numbers : List ℕ) → IsKept (Some run) → Represents r run.setup run.later → n ≡ next_number o run.setup run.later
+    → n + 1 < 2 ^ 32 → IsSizedCommand (command_of_update u) → Fits r u numbers → IsKept (Some (with_command run (command_of_update u)))
+kept_next r n o run (updates.Add d) numbers kept is number within sized fits =
     IsKept-longer (Some run) (Add d) kept sized accepted (omega (arith, number, within))
   where
     accepted : is_accepted run.setup run.later (Add d) ≡ true
@@ -228,25 +250,23 @@ kept_next r n run (Add d) kept is number within sized fits =
         ∙ ap (λ x. not (is_some (x.live d.id)) && has_counters x d) (sym is)
         ∙ ap (λ o. not (is_some o) && has_counters (facts r) d) fits.0
         ∙ fits.1
-kept_next r n run (Delete id) kept is number within sized fits =
-    IsKept-longer (Some run) (Delete id) kept sized accepted (omega (arith, number, within))
+kept_next r n o run (updates.Delete id) numbers kept is number within sized fits =
+    IsKept-longer (Some run) (Delete (id_number id)) kept sized accepted (omega (arith, number, within))
   where
-    accepted : is_accepted run.setup run.later (Delete id) ≡ true
-    accepted = accepted-delete run.setup run.later id ∙ ap (λ x. is_some (x.live id)) (sym is) ∙ fits
-kept_next r n run (Search word) kept is number within sized fits = absurd fits
+    accepted : is_accepted run.setup run.later (Delete (id_number id)) ≡ true
+    accepted = accepted-delete run.setup run.later (id_number id) ∙ ap (λ x. is_some (x.live (id_number id))) (sym is) ∙ fits
 
-one_update : (r : Registered) (c : Meant) → Fits r c → length (filter is_update (c ∷ [])) ≡ 1
-one_update r (Add d) fits = refl
-one_update r (Delete id) fits = refl
-one_update r (Search word) fits = absurd fits
+pub one_update : (u : Update) → length (filter is_update (command_of_update u ∷ [])) ≡ 1
+one_update (updates.Add d) = refl
+one_update (updates.Delete id) = refl
 
-pub StandsFor-committed : (f : KeyedFn) (key : List ℕ) (run : Run) (c : Meant) (old new : Ready) → old.frames + 1 < 2 ^ 32 → IsSizedCommand c → Fits old.registry c
-    → (Represents old.registry run.setup run.later → Represents new.registry run.setup (run.later ++ c ∷ []))
+pub StandsFor-committed : (f : KeyedFn) (keys : ℕ → List ℕ) (o : Offsets) (run : Run) (u : Update) (numbers : List ℕ) (old new : Ready) → old.frames + 1 < 2 ^ 32 → IsSizedCommand (command_of_update u) → Fits old.registry u numbers
+    → (Represents old.registry run.setup run.later → Represents new.registry run.setup (run.later ++ command_of_update u ∷ []))
     → take (length (known_words old.registry)) (known_words new.registry) ≡ known_words old.registry
-    → new.keys ≡ old.keys → new.frames ≡ old.frames + 1 → StandsFor f key run old → StandsFor f key (with_command run c) new
-StandsFor-committed f key run c old new within sized fits history words keys frames s = record {
-  kept = kept_next old.registry old.frames run c s.kept s.registry s.number within sized fits;
+    → new.keys ≡ old.keys → new.frames ≡ old.frames + 1 → StandsFor f keys o run old → StandsFor f keys o (with_command run (command_of_update u)) new
+StandsFor-committed f keys o run u numbers old new within sized fits history words kept frames s = record {
+  kept = kept_next old.registry old.frames o run u numbers s.kept s.registry s.number within sized fits;
   registry = history s.registry;
-  number = omega (arith, frames, s.number, update_frames-push run c, one_update old.registry c fits);
-  keys = subst (Keeps f key (known_words new.registry)) (sym keys) (Keeps-more f key (known_words old.registry) (known_words new.registry) old.keys words s.keys);
+  number = omega (arith, frames, s.number, update_frames-push run (command_of_update u), one_update u);
+  word_keys = subst (Keeps f (keys o.epoch) (known_words new.registry)) (sym kept) (Keeps-more f (keys o.epoch) (known_words old.registry) (known_words new.registry) old.keys words s.word_keys);
 }

@@ -1,56 +1,19 @@
 -- What is named as a clash is one, and the joined lists of an update's frame are those of the frame.
-use Rattle.std.proofs.Common.{◌≡◌, ◌≢◌, ◌+◌, ◌<◌, ◌≤◌, ℕ, suc, List, [], ◌∷◌, ◌++◌, length, map, drop, get_or, Option, Some, None, refl, sym, ap, ◌∙◌, subst, arith, length-append, Ok, Err}
-use Rattle.std.specs.Prelude.{IfSome, IsOkUnless, Result}
+use Rattle.std.proofs.Common.{◌≡◌, ◌+◌, ◌<◌, ◌≤◌, ℕ, suc, List, [], ◌∷◌, ◌++◌, length, map, drop, get_or, Some, refl, sym, ap, ◌∙◌, subst, arith, length-append}
 use Rattle.std.specs.List.{flat_map}
 use Rattle.std.proofs.lemmas.List.{length-map, take_at, drop_at}
 use Rattle.add_counters.specs.NewEntry.{entry_text}
 use Rattle.add_counters.specs.declared.entry.Entry.{Entry as Made}
 use Rattle.client_registry.specs.FirstClash.{first_clash}
 use Rattle.client_registry.proofs.DistinctLaws.{first_clash-places}
-use Rattle.revocation_ids.specs.declared.fault.NumbersFault.{NumbersFault}
-use Rattle.revocation_ids.specs.declared.fault.NumbersFault.TheVariants.{NumberClash, NoMemory}
 use Rattle.sse_frames.proofs.Chunks.{each_item, each_entry}
 use Rattle.sse_frames.proofs.Cut.{AreBytes}
 use Rattle.sse_frames.proofs.Joined.{EachHas, items_in-joined, length-joined}
 use Rattle.sse_frames.specs.Frames.{Entry, IsAdd, IsDelete, IsNumber, Rises, entry_bytes, joined, labels_of}
-use Rattle.sse_frames.specs.Seen.{entries_in, entry_in, items_in}
+use Rattle.sse_frames.specs.FrameViews.{entries_in, entry_in, items_in}
 use Rattle.sse_frames.specs.Sizes.{AreItems}
 use Rattle.client_core.specs.UpdateParts.{Adds, Revokes}
 use Rattle.client_core.specs.UpdateTexts.{HaveSizes}
-
-err_same : {X : Type 0} (r : Result X NumbersFault) (a b : NumbersFault) → r ≡ Err a → r ≡ Err b → a ≡ b
-err_same r a b is same = cc
-
-ok_or_err : {X : Type 0} (r : Result X NumbersFault) (x : X) (e : NumbersFault) → r ≡ Ok x → r ≡ Err e → ⊥
-ok_or_err r x e is same = cc
-
--- two numbers that are named are the first two that are equal
-pub clash_named : {X : Type 0} (r : Result X NumbersFault) (numbers : List (List ℕ)) (first second : ℕ) → r ≡ Err (NumberClash first second)
-    → (r ≢ Err NoMemory → IfSome (first_clash numbers) (λ two. r ≡ Err (NumberClash two.0 two.1)))
-    → (first_clash numbers ≡ None → IsOkUnless r NoMemory) → first_clash numbers ≡ Some (first, second)
-clash_named {X} r numbers first second is clash accepted = by (first_clash numbers) refl
-  where
-    by : (o : Option (ℕ × ℕ)) → first_clash numbers ≡ o → o ≡ Some (first, second)
-    by None none =
-        let bad : NumberClash first second ≡ NoMemory = subst (λ s. IsOkUnless s NoMemory) is (accepted none) in
-        absurd (cc)
-    by (Some two) some =
-        let told : r ≡ Err (NumberClash two.0 two.1) = subst (λ o. IfSome o (λ t. r ≡ Err (NumberClash t.0 t.1))) some (clash (λ same. let bad : NumberClash first second ≡ NoMemory = err_same r (NumberClash first second) NoMemory is same in absurd (cc))) in
-        let same : NumberClash first second ≡ NumberClash two.0 two.1 = err_same r (NumberClash first second) (NumberClash two.0 two.1) is told in
-        let one : two.0 ≡ first = cc in
-        let other : two.1 ≡ second = cc in
-        ap (λ t. Some t) (ap (λ n. (n, two.1)) one ∙ ap (λ n. (first, n)) other)
-
--- numbers that are given have no clash
-pub none_named : {X : Type 0} (r : Result X NumbersFault) (x : X) (numbers : List (List ℕ)) → r ≡ Ok x
-    → (r ≢ Err NoMemory → IfSome (first_clash numbers) (λ two. r ≡ Err (NumberClash two.0 two.1))) → first_clash numbers ≡ None
-none_named r x numbers is clash = by (first_clash numbers) refl
-  where
-    by : (o : Option (ℕ × ℕ)) → first_clash numbers ≡ o → o ≡ None
-    by None none = refl
-    by (Some two) some =
-        let told : r ≡ Err (NumberClash two.0 two.1) = subst (λ o. IfSome o (λ t. r ≡ Err (NumberClash t.0 t.1))) some (clash (λ same. absurd (ok_or_err r x NoMemory is same))) in
-        absurd (ok_or_err r x (NumberClash two.0 two.1) is told)
 
 -- both of them lie within
 pub clash_within : (values : List (List ℕ)) (first second n : ℕ) → first_clash values ≡ Some (first, second) → length values ≡ n → (first < n) × (second < n)

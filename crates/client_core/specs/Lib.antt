@@ -4,5 +4,7 @@ pub mod Keys
 pub mod UpdateTexts
 pub mod UpdateFaults
 pub mod UpdateParts
+pub mod Updates
 pub mod StandsFor
+pub mod Owes
 pub mod Texts

@@ -3,7 +3,7 @@ use Rattle.std.specs.Prelude.{◌≡◌, ℕ, ◌+◌, ◌*◌, List, [], ◌∷
 use Rattle.std.specs.Int.{div_ceil}
 use Rattle.list_packing.specs.Parts.{parts}
 use Rattle.sse_frames.specs.Frames.{Entry, FrameText, SetupBegin, SetupDict, SetupArray, SetupEnd, frame_bytes}
-use Rattle.sse_frames.specs.Seen.{entries_in, items_in}
+use Rattle.sse_frames.specs.FrameViews.{entries_in, items_in}
 use Rattle.sse_frames.specs.Sending.{numbered}
 use Rattle.index_setup.specs.declared.index.Index.{Index}
 

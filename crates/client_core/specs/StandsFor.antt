@@ -1,13 +1,15 @@
--- Which history a client stands for, and what a command behind it does.
-use Rattle.std.specs.Prelude.{◌≡◌, ◌+◌, ◌-◌, ◌<◌, ◌^◌, ℕ, Bool, not, nat_le, true, false, List, [], ◌∷◌, ◌++◌, position, Option, None, Some, is_some, option_map, IsSome, if◌then◌else◌}
+-- Which history a client stands for, and what a command after it does. A history begins at its offsets, and has a key for
+-- each epoch.
+use Rattle.std.specs.Prelude.{◌≡◌, ◌+◌, ◌-◌, ◌<◌, ◌^◌, ℕ, Bool, not, nat_le, true, false, List, [], ◌∷◌, ◌++◌, All, length, position, Option, None, Some, is_some, option_map, IsSome, if◌then◌else◌}
 use Rattle.std.specs.Option.{option_or}
-use Rattle.client_registry.specs.Command.{Command as Meant, Add, Delete, Search}
-use Rattle.client_registry.specs.CommandView.{command_of}
+use Rattle.client_registry.specs.Command.{Command as Meant, Add, Delete}
 use Rattle.client_registry.specs.Document.{Document}
 use Rattle.client_registry.specs.Facts.{Facts, facts_of, has_counter, has_counters}
 use Rattle.client_registry.specs.Histories.{IsKept}
+use Rattle.client_registry.specs.Numbered.{words_by_number}
+use Rattle.client_registry.specs.IdNumber.{id_number}
 use Rattle.client_registry.specs.Registered.{Registered, HasRoom, Represents, facts, known_words}
-use Rattle.client_registry.specs.Run.{Run, at_first}
+use Rattle.client_registry.specs.Run.{Run, Offsets}
 use Rattle.client_registry.specs.Sized.{IsSizedCommand}
 use Rattle.keyed_fn.specs.KeyedFn.{KeyedFn}
 use Rattle.sse_frames.specs.Frames.{FrameText}
@@ -16,29 +18,32 @@ use Rattle.sse_model.specs.Names.{table}
 use Rattle.sse_model.specs.Wire.{frames_of, next_number}
 use Rattle.client_core.specs.Keys.{Keeps}
 use Rattle.client_core.specs.UpdateFaults.{clash_fault}
+use Rattle.client_core.specs.Updates.{command_of_update}
 use Rattle.client_core.specs.declared.ready.Ready.{Ready}
 use Rattle.client_core.specs.declared.command_fault.CommandFault.{CommandFault}
 use Rattle.client_core.specs.declared.command_fault.CommandFault.TheVariants as faults
 use Rattle.client_core.specs.declared.planned_update.PlannedUpdate.{PlannedUpdate}
+use Rattle.client_core.specs.declared.update.Update.{Update}
+use Rattle.client_core.specs.declared.update.Update.TheVariants as updates
 
 -- the client stands for a history that keeps all limits: its registry tells the facts of it, its next frame has the next
--- number, and the keys that it keeps are those of the words
-pub record StandsFor (f : KeyedFn) (key : List ℕ) (run : Run) (state : Ready) : Type 0 where
+-- number, and the keys that it keeps are those of the words under the key of the history's epoch
+pub record StandsFor (f : KeyedFn) (keys : ℕ → List ℕ) (o : Offsets) (run : Run) (state : Ready) : Type 0 where
   pub kept : IsKept (Some run)
   pub registry : Represents state.registry run.setup run.later
-  pub number : state.frames ≡ next_number at_first run.setup run.later
-  pub keys : Keeps f key (known_words state.registry) state.keys
+  pub number : state.frames ≡ next_number o run.setup run.later
+  pub word_keys : Keeps f (keys o.epoch) (known_words state.registry) state.keys
 
 -- one command more
 abbrev pub with_command : Run → Meant → Run
 with_command run c = record { setup = run.setup; later = run.later ++ c ∷ [] }
 
--- the frames of a command behind a history, and two of its values that have to differ and are equal
-abbrev pub frames_next : KeyedFn → List ℕ → Run → Meant → List FrameText
-frames_next f key run c = frames_of (table f run.setup.shape (λ epoch. key)) at_first.epoch run.setup (next_number at_first run.setup run.later) run.later c
+-- the frames of a command after a history, and two of its values that have to differ and are equal
+abbrev pub frames_next : KeyedFn → (ℕ → List ℕ) → Offsets → Run → Meant → List FrameText
+frames_next f keys o run c = frames_of (table f run.setup.shape keys) o.epoch run.setup (next_number o run.setup run.later) run.later c
 
-abbrev pub collision_next : KeyedFn → List ℕ → Run → Meant → Option Collision
-collision_next f key run c = collision_of (table f run.setup.shape (λ epoch. key)) at_first.epoch run.setup run.later c
+abbrev pub collision_next : KeyedFn → (ℕ → List ℕ) → Offsets → Run → Meant → Option Collision
+collision_next f keys o run c = collision_of (table f run.setup.shape keys) o.epoch run.setup run.later c
 
 -- why there is no number for one update frame more
 abbrev pub full_refusal : ℕ → Option CommandFault
@@ -54,19 +59,19 @@ refusal_to_add facts n d =
 abbrev pub refusal_to_delete : Facts → ℕ → ℕ → Option CommandFault
 refusal_to_delete facts n id = if is_some (facts.live id) then full_refusal n else Some (faults.UnknownDocument id)
 
--- the same behind a history
-abbrev pub add_refusal : Run → Document → Option CommandFault
-add_refusal run d = refusal_to_add (facts_of run.setup run.later) (next_number at_first run.setup run.later) d
+-- the same after a history
+abbrev pub add_refusal : Offsets → Run → Document → Option CommandFault
+add_refusal o run d = refusal_to_add (facts_of run.setup run.later) (next_number o run.setup run.later) d
 
-abbrev pub delete_refusal : Run → ℕ → Option CommandFault
-delete_refusal run id = refusal_to_delete (facts_of run.setup run.later) (next_number at_first run.setup run.later) id
+abbrev pub delete_refusal : Offsets → Run → ℕ → Option CommandFault
+delete_refusal o run id = refusal_to_delete (facts_of run.setup run.later) (next_number o run.setup run.later) id
 
--- the same, and behind those causes two equal values
-abbrev pub add_fault : KeyedFn → List ℕ → Run → Document → Option CommandFault
-add_fault f key run d = option_or (add_refusal run d) (option_map clash_fault (collision_next f key run (Add d)))
+-- the same, and after those causes two equal values
+abbrev pub add_fault : KeyedFn → (ℕ → List ℕ) → Offsets → Run → Document → Option CommandFault
+add_fault f keys o run d = option_or (add_refusal o run d) (option_map clash_fault (collision_next f keys o run (Add d)))
 
-abbrev pub delete_fault : KeyedFn → List ℕ → Run → ℕ → Option CommandFault
-delete_fault f key run id = option_or (delete_refusal run id) (option_map clash_fault (collision_next f key run (Delete id)))
+abbrev pub delete_fault : KeyedFn → (ℕ → List ℕ) → Offsets → Run → ℕ → Option CommandFault
+delete_fault f keys o run id = option_or (delete_refusal o run id) (option_map clash_fault (collision_next f keys o run (Delete id)))
 
 -- whether a fault can come of an addition, and of a deletion
 abbrev pub comes_of_add : CommandFault → Bool
@@ -80,14 +85,19 @@ comes_of_delete (faults.NumberClash first second) = true
 comes_of_delete faults.NoMemory = true
 comes_of_delete _ = false
 
--- an update that is accepted, and that takes no memory
-abbrev pub Fits : Registered → Meant → Type 0
-Fits r (Add d) = ((facts r).live d.id ≡ None) × (has_counters (facts r) d ≡ true) × HasRoom r d
-Fits r (Delete id) = IsSome ((facts r).live id)
-Fits r (Search word) = ⊥
+-- these are the numbers of the words
+pub record AreNumbersOf (r : Registered) (words : List (List ℕ)) (numbers : List ℕ) : Type 0 where
+  pub words_are : words_by_number (known_words r) numbers ≡ words
+  pub within : All (λ n. n < length (known_words r)) numbers
 
--- the client can take the plan as done
+-- an update that is accepted, and that takes no memory; an added document's words have these numbers
+abbrev pub Fits : Registered → Update → List ℕ → Type 0
+Fits r (updates.Add doc) numbers = ((facts r).live doc.id ≡ None) × (has_counters (facts r) doc ≡ true) × HasRoom r doc × AreNumbersOf r doc.words numbers
+Fits r (updates.Delete id) numbers = IsSome ((facts r).live (id_number id))
+
+-- the client can take the plan as done: it was made with the number that the client's next frame has
 pub record CanCommit (state : Ready) (planned : PlannedUpdate) : Type 0 where
+  pub next : planned.number ≡ state.frames
   pub number : state.frames + 1 < 2 ^ 32
-  pub sized : IsSizedCommand (command_of planned.command)
-  pub fits : Fits state.registry (command_of planned.command)
+  pub sized : IsSizedCommand (command_of_update planned.update)
+  pub fits : Fits state.registry planned.update planned.words.items

@@ -1,7 +1,7 @@
 -- What the joined lists of an update's frame keep.
 use Rattle.std.specs.Prelude.{◌+◌, ◌≤◌, ℕ, List, length}
 use Rattle.sse_frames.specs.Frames.{IsNumber, Rises, labels_of}
-use Rattle.sse_frames.specs.Seen.{entries_in, items_in}
+use Rattle.sse_frames.specs.FrameViews.{entries_in, items_in}
 use Rattle.sse_frames.specs.Sizes.{AreAdded, AreItems}
 
 -- joined entries and numbers of an addition: rising, at most 4,096 of both

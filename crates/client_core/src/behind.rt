@@ -42,7 +42,7 @@ impl Owed {
         }
     }
 
-    /// The frames behind the first; nothing where there are none. It takes no memory.
+    /// The frames after the first; nothing where there are none. It takes no memory.
     pub(crate) fn behind_first(self) -> Option<Owed>
         ensures left { IfSome result (λ owed. owed_frames owed ≡ drop 1 (owed_frames self)) }
         ensures next { IfSome result (λ owed. number_of_first owed ≡ number_of_first self + 1) }

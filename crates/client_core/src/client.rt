@@ -9,5 +9,5 @@ pub struct Client<S> {
 }
 
 /// The terminal state: a reply was not the acknowledgement that the client expected.
-#[derive(Debug, Clone, Copy, PartialEq, Eq)]
+#[derive(Clone, Copy)]
 pub struct Spent;

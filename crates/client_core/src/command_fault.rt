@@ -5,7 +5,7 @@ use std::error::Error;
 use std::fmt;
 
 /// Why an addition or a deletion isn't planned.
-#[derive(Clone, Copy, Debug, PartialEq, Eq)]
+#[derive(Clone, Copy, Debug)]
 pub enum CommandFault {
     /// A document with this identifier is live already.
     AlreadyLive(u64),

@@ -1,16 +1,18 @@
 ghost use Rattle.std.specs.Prelude.{◌≡◌, ◌≢◌, List, [], ℕ, length, map, None, Err, IfOk, IfSome, IsOkUnless};
-ghost use Rattle.client_registry.specs.Acceptance.{blocks_of, frames_needed, setup_refusal};
+ghost use Rattle.client_registry.specs.Acceptance.{blocks_of, setup_refusal};
 ghost use Rattle.client_registry.specs.Documents.{words_of};
 ghost use Rattle.client_registry.specs.Run.{at_first};
-ghost use Rattle.client_registry.specs.Setup.{Setup, setup_of};
+ghost use Rattle.client_registry.specs.Setup.{setup_of};
 ghost use Rattle.keyed_fn.specs.KeyedFn.{KeyedFn, keyed_fn};
 ghost use Rattle.std.specs.List.{AllByRecursion};
 ghost use Rattle.sse_frames.specs.Frames.{IsFrame, frame_bytes};
+ghost use Rattle.sse_model.specs.Names.{table};
 ghost use Rattle.sse_model.specs.Wire.{frames_of_setup};
 ghost use Rattle.index_setup.specs.Entries.{key_table};
 ghost use Rattle.index_setup.specs.Refused.{build_refusal, clash_refusal, refused_by_size};
+ghost use Rattle.client_core.specs.Owes.{Owes};
 ghost use Rattle.client_core.specs.Sending.{first_number, frames_left, planned_frames, to_send};
-ghost use Rattle.client_core.specs.Setup.{SendsSetup, frames_in};
+ghost use Rattle.client_core.specs.Setup.{SendsSetup};
 ghost use Rattle.client_core.specs.StandsFor.{StandsFor};
 
 use crate::behind::{Behind, Owed};
@@ -26,7 +28,7 @@ use std::alloc::Global;
 use word_keys::MasterKey;
 
 /// The state of a client with no setup.
-#[derive(Debug, Clone, Copy, PartialEq, Eq)]
+#[derive(Clone, Copy)]
 pub struct Fresh;
 
 impl Client<Fresh> {
@@ -48,28 +50,33 @@ impl Client<Fresh> {
         b: u64,
         big: u64,
     ) -> Result<Planned, BuildFault>
-        ensures refused { IfSome (setup_refusal docs.now b big) (λ fault. result ≡ Err (refused_by_size fault)) }
-        ensures clash { setup_refusal docs.now b big ≡ None → result ≢ Err BuildFault.NoMemory → IfSome (clash_refusal (keyed_fn K.prf K.pad) self.now.key (setup_of docs.now b big)) (λ fault. result ≡ Err fault) }
-        ensures built { build_refusal (keyed_fn K.prf K.pad) self.now.key docs.now b big ≡ None → IsOkUnless result BuildFault.NoMemory }
-        ensures accepted { IfOk result (λ _. build_refusal (keyed_fn K.prf K.pad) self.now.key docs.now b big ≡ None) }
-        ensures frames { IfOk result (λ planned. planned_frames planned ≡ map frame_bytes (frames_of_setup (key_table (keyed_fn K.prf K.pad) self.now.key (setup_of docs.now b big)) at_first (setup_of docs.now b big))) }
+        ensures refused { IfSome (setup_refusal docs.now.documents b big) (λ fault. result ≡ Err (refused_by_size fault)) }
+        ensures clash { setup_refusal docs.now.documents b big ≡ None → result ≢ Err BuildFault.NoMemory → IfSome (clash_refusal (keyed_fn K.prf K.pad) self.now.key (setup_of docs.now.documents b big)) (λ fault. result ≡ Err fault) }
+        ensures built { build_refusal (keyed_fn K.prf K.pad) self.now.key docs.now.documents b big ≡ None → IsOkUnless result BuildFault.NoMemory }
+        ensures accepted { IfOk result (λ _. build_refusal (keyed_fn K.prf K.pad) self.now.key docs.now.documents b big ≡ None) }
+        ensures frames { IfOk result (λ planned. planned_frames planned ≡ map frame_bytes (frames_of_setup (key_table (keyed_fn K.prf K.pad) self.now.key (setup_of docs.now.documents b big)) at_first (setup_of docs.now.documents b big))) }
         ensures grammar { IfOk result (λ planned. AllByRecursion IsFrame (planned_frames planned)) }
-        ensures words { IfOk result (λ planned. planned.index.words ≡ length (words_of docs.now)) }
-        ensures blocks { IfOk result (λ planned. planned.index.blocks ≡ blocks_of (setup_of docs.now b big)) }
-        ensures sends { IfOk result (λ planned. SendsSetup b big (length (words_of docs.now)) (blocks_of (setup_of docs.now b big)) (planned_frames planned)) }
+        ensures documents { IfOk result (λ planned. planned.made_of.value ≡ docs.now) }
+        ensures shape { IfOk result (λ planned. (planned.index.b ≡ b) × (planned.index.big ≡ big)) }
+        ensures words { IfOk result (λ planned. planned.index.words ≡ length (words_of docs.now.documents)) }
+        ensures blocks { IfOk result (λ planned. planned.index.blocks ≡ blocks_of (setup_of docs.now.documents b big)) }
+        ensures sends { IfOk result (λ planned. SendsSetup b big (length (words_of docs.now.documents)) (blocks_of (setup_of docs.now.documents b big)) (planned_frames planned)) }
     {
         let index = build(alloc, keyed, &self.key, docs, b, big)?;
-        Ok(Planned::new(alloc, index)?)
+        Ok(Planned::new(alloc, index, docs)?)
     }
 
-    /// Takes the plan, which is of these documents, as done: from here on its frames are owed to the server. It takes no
-    /// memory.
+    /// Takes the plan as done, with the documents that it was made of: from here on its frames are owed to the server. It
+    /// takes no memory.
     pub fn commit(self, alloc: Global, planned: Planned, docs: Docs) -> Client<Behind>
+        requires documents { planned.made_of.value ≡ docs }
         ensures key { result.key ≡ self.key }
-        ensures stands { (f : KeyedFn) (key : List ℕ) (s : Setup) → s.documents ≡ docs → setup_refusal s.documents s.shape.b s.shape.big ≡ None → frames_in planned.index ≡ frames_needed s → StandsFor f key (record { setup = s; later = [] }) result.state.ready }
+        ensures hash_keys { result.state.ready.registry.keys ≡ docs.keys }
+        ensures stands { (f : KeyedFn) (keys : ℕ → List ℕ) → StandsFor f keys at_first (record { setup = setup_of docs.documents planned.index.b planned.index.big; later = [] }) result.state.ready }
         ensures frames { frames_left result.state ≡ length (planned_frames planned) }
         ensures owed { to_send result.state ≡ planned_frames planned }
         ensures first { first_number result.state ≡ 0 }
+        ensures owes { (f : KeyedFn) (keys : ℕ → List ℕ) → planned_frames planned ≡ map frame_bytes (frames_of_setup (table f (setup_of docs.documents planned.index.b planned.index.big).shape keys) at_first (setup_of docs.documents planned.index.b planned.index.big)) → Owes f keys at_first (record { setup = setup_of docs.documents planned.index.b planned.index.big; later = [] }) 0 result.state }
     {
         let Client { key, state: _ } = self;
         let ready = Ready::begun(alloc, docs, frame_count(&planned.index));

@@ -14,8 +14,8 @@ use std::alloc::{AllocError, Global};
 use std::collections::HashMap;
 use word_keys::{PlusKeys, PreparedMaster, RevocationKey};
 
-/// The keys of words that were derived so far, by the word's number: each key is derived when it is first needed, and
-/// kept, 32 bytes each.
+/// The keys of words that were derived so far, by the word's number: each key is derived and prepared when it is first
+/// needed, and kept. A prepared key has its 32 bytes and both states of the hash after them.
 #[derive(Drop)]
 pub(crate) struct KeptKeys {
     pub(crate) plus: HashMap<u32, PlusKeys>,

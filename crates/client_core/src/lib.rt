@@ -1,5 +1,5 @@
-//! The client's protocol: what it sends for a command, and which state a reply leads to. It stands on `index_setup` for
-//! the index of a setup, on `add_counters` and `revocation_ids` for what an update sends, on `client_replies` for the fault
+//! The client's protocol: what it sends for a command, and which state a reply leads to. It depends on `index_setup` for
+//! the index of a setup, on `add_counters` and `revocation_ids` for what an update sends, on `tag_order` for equal values, on `client_replies` for the fault
 //! of a reply, and on `sse_frames` for the bytes. A client is a value in one of four states, and each step consumes it, so
 //! a frame can't be planned over a state that has gone by. The theorems that callers use: a client stands for a history by
 //! `StandsFor` of specs/StandsFor.antt, and a reply makes of it what `AfterReply` of specs/Sending.antt says. It touches no
@@ -9,6 +9,7 @@
 mod behind;
 mod client;
 mod command_fault;
+mod equal_values;
 mod fresh;
 mod kept_keys;
 mod new_pairs;
@@ -20,6 +21,7 @@ mod planning;
 mod ready;
 mod sending;
 mod setup_frames;
+mod update;
 mod update_frames;
 mod updating;
 
@@ -33,6 +35,4 @@ pub use planned_update::PlannedUpdate;
 pub use ready::Ready;
 pub use sending::Taken;
 pub use std::alloc::AllocError as NoMemory;
-
-#[cfg(test)]
-mod tests;
+pub use update::Update;

@@ -1,4 +1,4 @@
-ghost use Rattle.std.specs.Prelude.{◌≡◌, ◌-◌, ◌<◌, ◌^◌, ◌++◌, [], All, IfOk, OnOk, bytes_eq, length, map, slice_index_or};
+ghost use Rattle.std.specs.Prelude.{◌≡◌, ◌-◌, ◌<◌, ◌≤◌, ◌^◌, ◌++◌, [], All, IfOk, OnOk, bytes_eq, length, map, slice_index_or};
 ghost use Rattle.std.specs.List.{IsDistinct, flat_map};
 ghost use Rattle.add_counters.specs.NewEntry.{entry_text};
 ghost use Rattle.client_registry.specs.IdNumber.{id_number};
@@ -6,6 +6,7 @@ ghost use Rattle.client_registry.specs.Registered.{facts, known_words};
 ghost use Rattle.keyed_fn.specs.KeyedFn.{keyed_fn};
 ghost use Rattle.sse_frames.specs.Frames.{Rises, entry_bytes, joined};
 ghost use Rattle.sse_frames.specs.Order.{by_bytes};
+ghost use Rattle.tag_order.specs.Tagged.{tagged_from};
 ghost use Rattle.client_core.specs.Keys.{Keeps};
 ghost use Rattle.client_core.specs.UpdateTexts.{next_entry_of, number_of, HaveSizes};
 
@@ -13,8 +14,9 @@ use crate::kept_keys::KeptKeys;
 use add_counters::Entry;
 use client_registry::{DocId, Registry};
 use keyed_fn::Keyed;
-use revocation_ids::{Numbers, Place};
+use revocation_ids::{NumberedWord, Numbers};
 use std::alloc::{AllocError, Global};
+use tag_order::Tagged;
 use word_keys::PreparedMaster;
 
 /// The entry of the next addition of each of these words, in their order. None of them is at its last counter.
@@ -24,7 +26,7 @@ pub(crate) fn entries_of<K: Keyed>(
     master: &PreparedMaster<K>,
     registry: &Registry,
     keys: &mut KeptKeys,
-    places: &[Place],
+    places: &[NumberedWord],
     id: DocId,
 ) -> Result<Vec<Entry>, AllocError>
     requires within { All (λ place. place.number < length (known_words registry.now)) places.now }
@@ -48,7 +50,7 @@ pub(crate) fn numbers_of<K: Keyed>(
     master: &PreparedMaster<K>,
     registry: &Registry,
     keys: &mut KeptKeys,
-    places: &[Place],
+    places: &[NumberedWord],
     id: DocId,
 ) -> Result<Numbers, AllocError>
     requires { All (λ place. place.number < length (known_words registry.now)) places.now }
@@ -63,15 +65,30 @@ pub(crate) fn numbers_of<K: Keyed>(
     Ok(numbers)
 }
 
-/// The labels of these entries, in their order.
-pub(crate) fn labels_of(alloc: Global, entries: &[Entry]) -> Result<Vec<[u8; 16]>, AllocError>
-    ensures { IfOk result (λ labels. labels.items ≡ map (λ entry. entry.label) entries.now) }
+/// The labels of these entries, each with its place.
+pub(crate) fn labels_of(alloc: Global, entries: &[Entry]) -> Result<Vec<Tagged>, AllocError>
+    requires { length entries.now ≤ 2 ^ 32 }
+    ensures { IfOk result (λ labels. labels.items ≡ tagged_from 0 (map (λ entry. entry.label) entries.now)) }
 {
     let mut labels = Vec::with_capacity(alloc, entries.len())?;
-    for entry in entries {
-        labels.push(entry.label)?;
+    for (i, entry) in entries.iter().enumerate() {
+        labels.push(Tagged {
+            tag: entry.label,
+            position: i as u32,
+        })?;
     }
     Ok(labels)
+}
+
+/// The values alone, in the same order.
+pub(crate) fn tags_of(alloc: Global, sorted: &[Tagged]) -> Result<Vec<[u8; 16]>, AllocError>
+    ensures { IfOk result (λ tags. tags.items ≡ map (λ e. e.tag) sorted.now) }
+{
+    let mut tags = Vec::with_capacity(alloc, sorted.len())?;
+    for e in sorted {
+        tags.push(e.tag)?;
+    }
+    Ok(tags)
 }
 
 /// The entries by rising label.
@@ -100,7 +117,7 @@ fn push_entry(bytes: &mut Vec<u8>, entry: &Entry) -> Result<(), AllocError>
     Ok(())
 }
 
-/// The entries, one behind the other.
+/// The entries, one after the other.
 pub(crate) fn joined_entries(alloc: Global, entries: &[Entry]) -> Result<Vec<u8>, AllocError>
     ensures bytes { IfOk result (λ bytes. bytes.items ≡ flat_map entry_bytes (map entry_text entries.now)) }
     ensures sizes { IfOk result (λ _. HaveSizes entries.now) }
@@ -112,7 +129,7 @@ pub(crate) fn joined_entries(alloc: Global, entries: &[Entry]) -> Result<Vec<u8>
     Ok(bytes)
 }
 
-/// The numbers, one behind the other.
+/// The numbers, one after the other.
 pub(crate) fn joined_numbers(alloc: Global, numbers: &[[u8; 16]]) -> Result<Vec<u8>, AllocError>
     ensures { IfOk result (λ bytes. bytes.items ≡ joined numbers.now) }
 {

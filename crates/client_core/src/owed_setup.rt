@@ -33,10 +33,18 @@ impl OwedSetup {
         ensures place { result.place ≡ place }
         ensures next { result.next ≡ next }
     {
-        let Planned { index, mut room } = planned;
+        let Planned {
+            index,
+            mut room,
+            made_of,
+        } = planned;
         let size = write_frame_into(&frame_at(&index, place, next), &mut room);
         OwedSetup {
-            planned: Planned { index, room },
+            planned: Planned {
+                index,
+                room,
+                made_of,
+            },
             place,
             next,
             size,
@@ -50,7 +58,7 @@ impl OwedSetup {
         &self.planned.room[..self.size]
     }
 
-    /// The frames behind the first; nothing where there are none. It takes no memory.
+    /// The frames after the first; nothing where there are none. It takes no memory.
     pub(crate) fn behind_first(self) -> Option<OwedSetup>
         ensures left { IfSome result (λ setup. setup_left setup ≡ drop 1 (setup_left self)) }
         ensures next { IfSome result (λ setup. setup.next ≡ self.next + 1) }

@@ -1,8 +1,11 @@
-use client_registry::Command;
+use crate::update::Update;
 
-/// A planned addition or deletion: the command, and the one frame that carries it to the server.
-#[derive(Debug, Drop)]
+/// A planned addition or deletion: the update, the numbers of an added document's words in the client's registry, the one
+/// frame that carries the update to the server, and the number that is in it.
+#[derive(Drop)]
 pub struct PlannedUpdate {
-    pub(crate) command: Command,
+    pub(crate) update: Update,
+    pub(crate) words: Vec<u32>,
     pub(crate) frame: Vec<u8>,
+    pub(crate) number: u32,
 }

@@ -5,13 +5,14 @@ ghost use Rattle.client_registry.specs.DocumentRule.{IsDocument};
 ghost use Rattle.client_registry.specs.Facts.{has_counters};
 ghost use Rattle.client_registry.specs.IdNumber.{id_number};
 ghost use Rattle.client_registry.specs.Registered.{HasRoom, facts, known_words};
+ghost use Rattle.client_registry.specs.Run.{at_first};
 ghost use Rattle.client_registry.specs.Setup.{Setup};
 ghost use Rattle.client_registry.specs.WordBytes.{word_bytes};
 ghost use Rattle.keyed_fn.specs.KeyedFn.{KeyedFn, keyed_fn};
 ghost use Rattle.keyed_fn.specs.KeyFormulas.{token_of};
 ghost use Rattle.sse_frames.specs.Frames.{IsFrame, IsNumber, SearchFrame, frame_bytes};
 ghost use Rattle.client_core.specs.Keys.{Keeps};
-ghost use Rattle.client_core.specs.StandsFor.{StandsFor, full_refusal, refusal_to_add, refusal_to_delete};
+ghost use Rattle.client_core.specs.StandsFor.{AreNumbersOf, StandsFor, full_refusal, refusal_to_add, refusal_to_delete};
 ghost use Rattle.client_core.specs.UpdateFaults.{clash_fault};
 ghost use Rattle.client_core.specs.UpdateTexts.{add_collision, add_text};
 
@@ -53,7 +54,8 @@ impl Client<Ready> {
 impl Ready {
     /// What a client keeps after an accepted setup of these documents, which took so many update frames. It takes no memory.
     pub(crate) fn begun(alloc: Global, docs: Docs, frames: u32) -> Ready
-        ensures { (f : KeyedFn) (key : List ℕ) (s : Setup) → s.documents ≡ docs → setup_refusal s.documents s.shape.b s.shape.big ≡ None → frames ≡ frames_needed s → StandsFor f key (record { setup = s; later = [] }) result }
+        ensures hash_keys { result.registry.keys ≡ docs.keys }
+        ensures stands { (f : KeyedFn) (keys : ℕ → List ℕ) (s : Setup) → s.documents ≡ docs.documents → setup_refusal s.documents s.shape.b s.shape.big ≡ None → frames ≡ frames_needed s → StandsFor f keys at_first (record { setup = s; later = [] }) result }
     {
         Ready {
             registry: Registry::from_docs(docs),
@@ -62,29 +64,32 @@ impl Ready {
         }
     }
 
-    /// The frame of an addition that nothing refuses, its memory taken. Errors: as `add_update`.
+    /// The frame of an addition that nothing refuses, its memory taken, and the numbers of the document's words. Errors: as
+    /// `add_update`.
     pub(crate) fn addition<K: Keyed>(
         &mut self,
         alloc: Global,
         keyed: &K,
         master: &PreparedMaster<K>,
         doc: &Doc,
-    ) -> Result<Vec<u8>, CommandFault>
+    ) -> Result<(Vec<u8>, Vec<u32>), CommandFault>
         requires counters { has_counters (facts self.old.registry) doc.now ≡ true }
         requires number { IsNumber self.old.frames }
         ensures facts { facts self.new.registry ≡ facts self.old.registry }
+        ensures hash_keys { self.new.registry.keys ≡ self.old.registry.keys }
         ensures frames { self.new.frames ≡ self.old.frames }
         ensures keeps { Keeps (keyed_fn K.prf K.pad) master.now (known_words self.old.registry) self.old.keys → Keeps (keyed_fn K.prf K.pad) master.now (known_words self.new.registry) self.new.keys }
         ensures fault { Keeps (keyed_fn K.prf K.pad) master.now (known_words self.old.registry) self.old.keys → result ≢ Err CommandFault.NoMemory → result_err result ≡ option_map clash_fault (add_collision (keyed_fn K.prf K.pad) master.now (facts self.old.registry) doc.now) }
-        ensures bytes { Keeps (keyed_fn K.prf K.pad) master.now (known_words self.old.registry) self.old.keys → IfOk result (λ bytes. bytes.items ≡ frame_bytes (add_text (keyed_fn K.prf K.pad) master.now (facts self.old.registry) self.old.frames doc.now)) }
-        ensures frame { IfOk result (λ bytes. IsFrame bytes.items) }
-        ensures document { IfOk result (λ bytes. IsDocument doc.now) }
-        ensures room { IfOk result (λ bytes. HasRoom self.new.registry doc.now) }
+        ensures bytes { Keeps (keyed_fn K.prf K.pad) master.now (known_words self.old.registry) self.old.keys → IfOk result (λ made. made.0.items ≡ frame_bytes (add_text (keyed_fn K.prf K.pad) master.now (facts self.old.registry) self.old.frames doc.now)) }
+        ensures frame { IfOk result (λ made. IsFrame made.0.items) }
+        ensures document { IfOk result (λ made. IsDocument doc.now) }
+        ensures room { IfOk result (λ made. HasRoom self.new.registry doc.now) }
+        ensures numbers { IfOk result (λ made. AreNumbersOf self.new.registry doc.now.words made.1.items) }
     {
         let words = doc.words();
         prove!(words.len() <= MAX_WORDS);
-        self.registry.reserve(doc)?;
-        add_update(
+        let numbers = self.registry.reserve_numbered(doc)?;
+        match add_update(
             alloc,
             keyed,
             master,
@@ -92,7 +97,11 @@ impl Ready {
             &mut self.keys,
             self.frames,
             doc,
-        )
+            numbers.as_slice(),
+        ) {
+            Ok(frame) => Ok((frame, numbers)),
+            Err(fault) => Err(fault),
+        }
     }
 
     /// Why the document isn't added, but for two equal values.

@@ -1,7 +1,10 @@
-ghost use Rattle.std.specs.Prelude.{◌≡◌, ◌≢◌, ◌<◌, ◌∷◌, [], true, false, take, Some};
+ghost use Rattle.std.specs.Prelude.{◌≡◌, ◌≢◌, ◌<◌, ◌∷◌, [], ℕ, List, true, false, take, Some};
+ghost use Rattle.client_registry.specs.Run.{Offsets, Run};
+ghost use Rattle.keyed_fn.specs.KeyedFn.{KeyedFn};
 ghost use Rattle.sse_frames.specs.Frames.{IsNumber};
 ghost use Rattle.sse_frames.specs.Replies.{reply_bytes, Took, StoreFault};
-ghost use Rattle.sse_frames.specs.Seen.{seen_reply};
+ghost use Rattle.sse_frames.specs.FrameViews.{reply_view};
+ghost use Rattle.client_core.specs.Owes.{Owes, OwesBehind};
 ghost use Rattle.client_core.specs.Sending.{frames_left, to_send, left_behind, stopped_by, AfterReply, is_took};
 
 use crate::behind::Behind;
@@ -32,6 +35,7 @@ impl Client<Behind> {
     /// Takes the reply to the next frame, with its four length bytes. It takes no memory.
     pub fn take_reply(self, reply: &[u8]) -> Taken
         ensures after { AfterReply self reply.now result }
+        ensures owes { (f : KeyedFn) (keys : ℕ → List ℕ) (o : Offsets) (run : Run) (k : ℕ) → Owes f keys o run k self.state → OwesBehind f keys o run k result }
         ensures less { left_behind result < frames_left self.state }
         ensures store { stopped_by result ≡ Some ReplyFault.StoreFault → reply.now ≡ reply_bytes StoreFault }
     {
@@ -66,7 +70,7 @@ fn acknowledges(reply: &[u8], number: u32) -> bool
 
 /// Whether the reply is the acknowledgement of this update frame.
 fn is_took_of(reply: Reply<'_>, number: u32) -> bool
-    ensures { result ≡ is_took (seen_reply reply.entry) number }
+    ensures { result ≡ is_took (reply_view reply.entry) number }
 {
     match reply {
         Reply::Took(q) => q == number,

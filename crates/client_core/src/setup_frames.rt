@@ -2,7 +2,7 @@ ghost use Rattle.std.specs.Prelude.{◌≡◌, ◌+◌, ◌*◌, ◌<◌, ◌≤
 ghost use Rattle.std.specs.Int.{div_ceil};
 ghost use Rattle.list_packing.specs.Parts.{parts};
 ghost use Rattle.sse_frames.specs.Frames.{SetupArray, SetupDict, SetupEnd, InGrammar, IsNumber, Rises, labels_of};
-ghost use Rattle.sse_frames.specs.Seen.{seen, entries_in, items_in};
+ghost use Rattle.sse_frames.specs.FrameViews.{frame_view, entries_in, items_in};
 ghost use Rattle.sse_frames.specs.Sizes.{AreItems, HasSizes};
 ghost use Rattle.sse_frames.proofs.Cut.{AreBytes};
 ghost use Rattle.client_core.specs.Setup.{frames_in, index_frames};
@@ -41,8 +41,8 @@ pub(crate) fn frame_at(index: &Index, place: u32, q: u32) -> Frame<'_>
     requires place { place < frames_in index.now }
     requires number { IsNumber q }
     requires rises { Rises (labels_of (entries_in (1 + 8 * index.now.b) index.now.entries.items)) }
-    ensures seen { seen result ≡ slice_index_or (index_frames index.now) place (λ n. SetupEnd n) q }
-    ensures grammar { InGrammar (seen result) }
+    ensures seen { frame_view result ≡ slice_index_or (index_frames index.now) place (λ n. SetupEnd n) q }
+    ensures grammar { InGrammar (frame_view result) }
     ensures sizes { HasSizes result }
 {
     let dictionary = dictionary_frames(index);
@@ -69,8 +69,8 @@ fn entries_at(index: &Index, i: u32, q: u32) -> Frame<'_>
     requires part { i < div_ceil index.now.words 1024 }
     requires number { IsNumber q }
     requires rises { Rises (labels_of (entries_in (1 + 8 * index.now.b) index.now.entries.items)) }
-    ensures seen { seen result ≡ SetupDict q (1 + 8 * index.now.b) (slice_index_or (parts 1024 (entries_in (1 + 8 * index.now.b) index.now.entries.items)) i []) }
-    ensures grammar { InGrammar (seen result) }
+    ensures seen { frame_view result ≡ SetupDict q (1 + 8 * index.now.b) (slice_index_or (parts 1024 (entries_in (1 + 8 * index.now.b) index.now.entries.items)) i []) }
+    ensures grammar { InGrammar (frame_view result) }
     ensures sizes { HasSizes result }
 {
     let width = index.cell_size();
@@ -87,8 +87,8 @@ fn entries_at(index: &Index, i: u32, q: u32) -> Frame<'_>
 fn blocks_at(index: &Index, i: u32, q: u32) -> Frame<'_>
     requires part { i < div_ceil index.now.blocks 256 }
     requires number { IsNumber q }
-    ensures seen { seen result ≡ SetupArray q (8 * index.now.big) (slice_index_or (parts 256 (items_in (8 * index.now.big) index.now.array.items)) i []) }
-    ensures grammar { InGrammar (seen result) }
+    ensures seen { frame_view result ≡ SetupArray q (8 * index.now.big) (slice_index_or (parts 256 (items_in (8 * index.now.big) index.now.array.items)) i []) }
+    ensures grammar { InGrammar (frame_view result) }
     ensures sizes { HasSizes result }
 {
     let width = index.block_size();
@@ -104,8 +104,8 @@ fn blocks_at(index: &Index, i: u32, q: u32) -> Frame<'_>
 fn dictionary_part(q: u32, width: u16, entries: &[u8]) -> Frame<'_>
     requires grammar { AreBytes entries.now → InGrammar (SetupDict q width (entries_in width entries.now)) }
     requires sizes { AreItems (16 + width) entries.now }
-    ensures seen { seen result ≡ SetupDict q width (entries_in width entries.now) }
-    ensures grammar { InGrammar (seen result) }
+    ensures seen { frame_view result ≡ SetupDict q width (entries_in width entries.now) }
+    ensures grammar { InGrammar (frame_view result) }
     ensures sizes { HasSizes result }
 {
     Frame::SetupDict { q, width, entries }
@@ -115,8 +115,8 @@ fn dictionary_part(q: u32, width: u16, entries: &[u8]) -> Frame<'_>
 fn array_part(q: u32, width: u16, blocks: &[u8]) -> Frame<'_>
     requires grammar { AreBytes blocks.now → InGrammar (SetupArray q width (items_in width blocks.now)) }
     requires sizes { AreItems width blocks.now }
-    ensures seen { seen result ≡ SetupArray q width (items_in width blocks.now) }
-    ensures grammar { InGrammar (seen result) }
+    ensures seen { frame_view result ≡ SetupArray q width (items_in width blocks.now) }
+    ensures grammar { InGrammar (frame_view result) }
     ensures sizes { HasSizes result }
 {
     Frame::SetupArray { q, width, blocks }

@@ -4,57 +4,14 @@ ghost use Rattle.std.specs.Result.{result_err};
 ghost use Rattle.add_counters.specs.NewEntry.{entry_text};
 ghost use Rattle.sse_frames.specs.Frames.{AddFrame, DeleteFrame, IsFrame, IsNumber, Rises, frame_bytes};
 ghost use Rattle.sse_frames.specs.Order.{by_bytes};
-ghost use Rattle.sse_frames.specs.Seen.{entries_in, items_in};
+ghost use Rattle.sse_frames.specs.FrameViews.{entries_in, items_in};
 ghost use Rattle.client_core.specs.UpdateFaults.{equal_at};
 ghost use Rattle.client_core.specs.UpdateParts.{Adds, Revokes};
 
-use crate::command_fault::CommandFault;
-use crate::new_pairs::{joined_entries, joined_numbers, labels_of};
+use crate::new_pairs::{joined_entries, joined_numbers};
 use add_counters::Entry;
-use revocation_ids::{Numbers, NumbersFault, Place, first_clash};
 use sse_frames::{Frame, write_frame};
 use std::alloc::{AllocError, Global};
-
-/// Whether the labels of these entries differ, each of which is of the word at its place. Errors: `LabelClash` exactly where
-/// two are equal, at the positions of the first two; `NoMemory` where there is no memory for the test.
-pub(crate) fn labels_differ(
-    alloc: Global,
-    entries: &[Entry],
-    places: &[Place],
-) -> Result<(), CommandFault>
-    requires count { length entries.now ≡ length places.now }
-    requires few { length places.now ≤ 2 ^ 32 }
-    ensures fault { result ≢ Err CommandFault.NoMemory → result_err result ≡ option_map (λ two. CommandFault.LabelClash two.0 two.1) (equal_at places.now (map (λ entry. entry.label) entries.now)) }
-    ensures differ { OnOk result (IsDistinct bytes_eq (map (λ entry. entry.label) entries.now)) }
-{
-    let labels = labels_of(alloc, entries)?;
-    match first_clash(alloc, labels.as_slice())? {
-        Some((first, second)) => Err(CommandFault::LabelClash {
-            first: places[first as usize].position,
-            second: places[second as usize].position,
-        }),
-        None => Ok(()),
-    }
-}
-
-/// The numbers by rising bytes, each of which is of the word at its place. Errors: `NumberClash` exactly where two are equal,
-/// at the positions of the first two; `NoMemory` where there is no memory for the test or the order.
-pub(crate) fn rising(numbers: Numbers, places: &[Place]) -> Result<Vec<[u8; 16]>, CommandFault>
-    requires count { length numbers ≡ length places.now }
-    requires few { length places.now ≤ 2 ^ 32 }
-    ensures rising { IfOk result (λ sorted. sorted.items ≡ by_bytes (λ number. number) numbers) }
-    ensures fault { result ≢ Err CommandFault.NoMemory → result_err result ≡ option_map (λ two. CommandFault.NumberClash two.0 two.1) (equal_at places.now numbers) }
-    ensures differ { IfOk result (λ sorted. Rises sorted.items) }
-{
-    match numbers.sorted() {
-        Ok(sorted) => Ok(sorted),
-        Err(NumbersFault::NumberClash { first, second }) => Err(CommandFault::NumberClash {
-            first: places[first as usize].position,
-            second: places[second as usize].position,
-        }),
-        Err(NumbersFault::NoMemory) => Err(CommandFault::NoMemory),
-    }
-}
 
 /// The bytes of the frame of an addition.
 pub(crate) fn add_frame(

@@ -1,18 +1,21 @@
--- The words of a document by whether their pair with its identifier is listed.
-use Rattle.std.specs.Prelude.{ℕ, List, map, filter, not, position, bytes_eq, unwrap_or}
-use Rattle.std.specs.List.{enumerate_from}
-use Rattle.client_registry.specs.Document.{Document}
+-- The words of a document by their numbers, and by whether their pair with an identifier is listed.
+use Rattle.std.specs.Prelude.{ℕ, ◌+◌, List, [], ◌∷◌, filter, not, slice_index_or}
 use Rattle.client_registry.specs.Registered.{Registered, facts, known_words}
-use Rattle.revocation_ids.specs.declared.place.Place.{Place}
+use Rattle.revocation_ids.specs.declared.numbered_word.NumberedWord.{NumberedWord}
 
--- a word with its position, and its number in the registry
-abbrev pub place_of : Registered → ℕ × List ℕ → Place
-place_of r e = record { position = e.0; number = unwrap_or (position (bytes_eq e.1) (known_words r)) 0 }
+-- these numbers, each at its position, the first at i
+abbrev pub places_from : ℕ → List ℕ → List NumberedWord
+places_from i [] = []
+places_from i (n ∷ ns) = record { position = i; number = n } ∷ places_from (i + 1) ns
 
--- the words whose pair isn't listed, in the document's order
-abbrev pub fresh_places : Registered → Document → List Place
-fresh_places r d = map (place_of r) (filter (λ e. not ((facts r).listed e.1 d.id)) (enumerate_from 0 d.words))
+-- the word at a place
+abbrev pub word_at : Registered → NumberedWord → List ℕ
+word_at r place = slice_index_or (known_words r) place.number []
 
--- the words whose pair is
-abbrev pub listed_places : Registered → Document → List Place
-listed_places r d = map (place_of r) (filter (λ e. (facts r).listed e.1 d.id) (enumerate_from 0 d.words))
+-- those whose pair with the identifier isn't listed, in their order
+abbrev pub fresh_places : Registered → (id : ℕ) → List ℕ → List NumberedWord
+fresh_places r id numbers = filter (λ place. not ((facts r).listed (word_at r place) id)) (places_from 0 numbers)
+
+-- those whose pair is
+abbrev pub listed_places : Registered → (id : ℕ) → List ℕ → List NumberedWord
+listed_places r id numbers = filter (λ place. (facts r).listed (word_at r place) id) (places_from 0 numbers)

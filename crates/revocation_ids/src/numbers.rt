@@ -1,20 +1,19 @@
-ghost use Rattle.std.specs.Prelude.{◌≡◌, ◌≢◌, ◌<◌, ◌≤◌, ◌^◌, ◌++◌, ◌∷◌, [], Err, IfOk, IfSome, IsOkUnless, List, None, OnErr, OnOk, ℕ, length};
-ghost use Rattle.client_registry.specs.FirstClash.{first_clash as clash_of};
+ghost use Rattle.std.specs.Prelude.{◌≡◌, ◌≤◌, ◌^◌, ◌++◌, ◌∷◌, [], IfOk, List, OnErr, OnOk, ℕ, length, map};
 ghost use Rattle.client_registry.specs.IdNumber.{id_number};
 ghost use Rattle.keyed_fn.specs.KeyedFn.{keyed_fn};
 ghost use Rattle.keyed_fn.specs.KeyFormulas.{revocation};
 ghost use Rattle.sse_frames.specs.Order.{by_bytes};
+ghost use Rattle.tag_order.specs.Tagged.{IsOrderOf, tagged_from};
 
-use crate::clash::first_clash;
-use crate::fault::NumbersFault;
 use client_registry::DocId;
 use keyed_fn::Keyed;
 use std::alloc::{AllocError, Global};
 use std::marker::Model;
+use tag_order::{Tagged, by_tag};
 use word_keys::RevocationKey;
 
 /// Revocation numbers, in the order in which their keys were given.
-#[derive(Debug, Drop)]
+#[derive(Drop)]
 pub struct Numbers {
     given: Vec<[u8; 16]>,
 }
@@ -48,27 +47,28 @@ impl Numbers {
         Ok(())
     }
 
-    /// The numbers by rising bytes, as they are sent.
-    ///
-    /// Errors: `NumberClash { first, second }` exactly where two numbers are equal: their places, from 0, of several such
-    /// pairs the one with the least second place, then the least first. `NoMemory` where there is no memory for the test
-    /// or the order.
-    pub fn sorted(self) -> Result<Vec<[u8; 16]>, NumbersFault>
+    /// The numbers by rising bytes, as they are sent, each with its position here, from 0. `tag_order::first_clash` says which
+    /// two of them are equal, without memory.
+    pub fn sorted(self) -> Result<Vec<Tagged>, AllocError>
         requires { length self ≤ 2 ^ 32 }
-        ensures ok { IfOk result (λ numbers. numbers.items ≡ by_bytes (λ number. number) self) }
-        ensures clash { result ≢ Err NumbersFault.NoMemory → IfSome (clash_of self) (λ places. result ≡ Err (NumbersFault.NumberClash places.0 places.1)) }
-        ensures accepted { clash_of self ≡ None → IsOkUnless result NumbersFault.NoMemory }
+        ensures order { IfOk result (λ sorted. IsOrderOf self sorted.items) }
+        ensures numbers { IfOk result (λ sorted. map (λ e. e.tag) sorted.items ≡ by_bytes (λ number. number) self) }
     {
-        let mut numbers = self.given;
-        let alloc = *numbers.allocator();
-        if let Some((first, second)) = first_clash(alloc, numbers.as_slice())? {
-            return Err(NumbersFault::NumberClash { first, second });
-        }
-        numbers.sort_by_key(
-            |number|
-                ensures { result ≡ number.now }
-            { *number },
-        )?;
-        Ok(numbers)
+        by_tag(tagged(*self.given.allocator(), self.given.as_slice())?)
     }
+}
+
+/// Each number with its position.
+fn tagged(alloc: Global, numbers: &[[u8; 16]]) -> Result<Vec<Tagged>, AllocError>
+    requires { length numbers.now ≤ 2 ^ 32 }
+    ensures { IfOk result (λ tagged. tagged.items ≡ tagged_from 0 numbers.now) }
+{
+    let mut tagged = Vec::with_capacity(alloc, numbers.len())?;
+    for (i, number) in numbers.iter().enumerate() {
+        tagged.push(Tagged {
+            tag: *number,
+            position: i as u32,
+        })?;
+    }
+    Ok(tagged)
 }

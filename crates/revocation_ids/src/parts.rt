@@ -1,10 +1,10 @@
-use crate::place::Place;
+use crate::numbered_word::NumberedWord;
 
 /// The words of a document, each in the document's order.
-#[derive(Debug, Drop)]
+#[derive(Drop)]
 pub struct Split {
     /// Those whose pair with the document's identifier was never listed.
-    pub fresh: Vec<Place>,
+    pub fresh: Vec<NumberedWord>,
     /// Those whose pair was.
-    pub listed: Vec<Place>,
+    pub listed: Vec<NumberedWord>,
 }

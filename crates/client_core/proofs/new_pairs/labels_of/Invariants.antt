@@ -1,5 +1,6 @@
 use Rattle.std.proofs.Common.{◌≡◌, map, take}
+use Rattle.tag_order.specs.Tagged.{tagged_from}
 use Rattle.client_core.proofs.new_pairs.labels_of.Given as goal
 
-abbrev pub invariant-loop-entry : goal.invariant-loop-entry
-invariant-loop-entry l = l.labels.items ≡ map (λ entry. entry.label) (take l.entry-index l.entries)
+abbrev pub invariant-loop-i : goal.invariant-loop-i
+invariant-loop-i l = l.labels.items ≡ tagged_from 0 (map (λ entry. entry.label) (take l.i l.entries))

@@ -2,7 +2,7 @@ use Rattle.std.proofs.Common.{◌≡◌, ◌*◌, ℕ, List, [], length, get_or,
 use Rattle.std.specs.Int.{div_ceil}
 use Rattle.list_packing.specs.Parts.{parts}
 use Rattle.sse_frames.specs.Frames.{SetupArray, IsSetupArray}
-use Rattle.sse_frames.specs.Seen.{items_in}
+use Rattle.sse_frames.specs.FrameViews.{items_in}
 use Rattle.index_setup.specs.declared.index.Index.{Index}
 use Rattle.client_core.proofs.PartsOfItems.{there, part_count, part_items, length-part_bytes}
 use Rattle.client_core.proofs.SetupFrames.{IsSetupArray-part}

@@ -2,7 +2,7 @@ use Rattle.std.proofs.Common.{◌≡◌, ◌+◌, ◌*◌, ℕ, List, [], length
 use Rattle.std.specs.Int.{div_ceil}
 use Rattle.list_packing.specs.Parts.{parts}
 use Rattle.sse_frames.specs.Frames.{SetupDict, IsSetupDict}
-use Rattle.sse_frames.specs.Seen.{entries_in}
+use Rattle.sse_frames.specs.FrameViews.{entries_in}
 use Rattle.index_setup.specs.declared.index.Index.{Index}
 use Rattle.client_core.proofs.PartsOfItems.{there, part_count, part_entries, length-part_bytes}
 use Rattle.client_core.proofs.SetupFrames.{entries_whole, IsSetupDict-part}

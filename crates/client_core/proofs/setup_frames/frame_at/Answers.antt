@@ -1,7 +1,7 @@
 use Rattle.std.proofs.Common.{◌≡◌, ◌+◌, ◌-◌, ◌*◌, ◌<◌, ℕ, suc, get_or, sym, ap, ◌∙◌, arith}
 use Rattle.std.specs.Int.{div_ceil}
 use Rattle.sse_frames.specs.Frames.{SetupBegin, SetupEnd}
-use Rattle.sse_frames.specs.Seen.{entries_in, items_in}
+use Rattle.sse_frames.specs.FrameViews.{entries_in, items_in}
 use Rattle.client_core.proofs.FramesAt.{begin_at, dict_at, array_at, end_at}
 use Rattle.client_core.proofs.IndexCounts.{words_held, blocks_held}
 use Rattle.client_core.specs.Setup.{index_frames}

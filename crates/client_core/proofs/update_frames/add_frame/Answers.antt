@@ -1,7 +1,7 @@
 use Rattle.std.proofs.Common.{◌≡◌, subst, ◌∙◌}
 use Rattle.std.specs.Prelude.{IfOk}
 use Rattle.sse_frames.specs.Frames.{AddFrame, frame_bytes}
-use Rattle.sse_frames.specs.Seen.{entries_in}
+use Rattle.sse_frames.specs.FrameViews.{entries_in}
 use Rattle.client_core.proofs.UpdateBytes.{Adds-made, entries_again, numbers_again}
 use Rattle.client_core.proofs.update_frames.add_frame.Goals as goal
 

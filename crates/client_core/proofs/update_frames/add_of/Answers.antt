@@ -1,6 +1,6 @@
 use Rattle.std.proofs.Common.{◌++◌, ap, ◌∙◌, arith}
 use Rattle.sse_frames.specs.Frames.{AddFrame, frame_bytes}
-use Rattle.sse_frames.specs.Seen.{entries_in, items_in}
+use Rattle.sse_frames.specs.FrameViews.{entries_in, items_in}
 use Rattle.client_core.proofs.UpdateBytes.{IsAdd-Adds}
 use Rattle.client_core.proofs.update_frames.add_of.Goals as goal
 

@@ -1,6 +1,6 @@
 use Rattle.std.proofs.Common.{◌++◌, ap, ◌∙◌, arith}
 use Rattle.sse_frames.specs.Frames.{DeleteFrame, frame_bytes}
-use Rattle.sse_frames.specs.Seen.{items_in}
+use Rattle.sse_frames.specs.FrameViews.{items_in}
 use Rattle.client_core.proofs.UpdateBytes.{IsDelete-Revokes}
 use Rattle.client_core.proofs.update_frames.delete_of.Goals as goal
 

@@ -2,7 +2,7 @@ use Rattle.std.proofs.Common.{◌≡◌, ◌+◌, ◌++◌, ◌∷◌, ℕ, [], 
 use Rattle.std.specs.List.{range_with_len}
 use Rattle.std.proofs.lemmas.List.{map-id, map_push, take_more}
 use Rattle.std.proofs.lemmas.List.FromFn.{map-range_with_len_more}
-use Rattle.revocation_ids.specs.declared.place.Place.{Place}
+use Rattle.revocation_ids.specs.declared.numbered_word.NumberedWord.{NumberedWord}
 use Rattle.client_core.proofs.updating.places_of.Goals as goal
 
 pub loop-i-preserved : goal.loop-i-preserved
@@ -10,9 +10,9 @@ loop-i-preserved c =
     let i = c.loop-i.i in
     let numbers = c.args.numbers.now in
     let items = c.loop-i.places.items in
-    let place : Place = record { position = i; number = get_or numbers i 0 } in
-    let number : Place → ℕ = λ p. p.number in
-    let position : Place → ℕ = λ p. p.position in
+    let place : NumberedWord = record { position = i; number = get_or numbers i 0 } in
+    let number : NumberedWord → ℕ = λ p. p.number in
+    let position : NumberedWord → ℕ = λ p. p.position in
     let more : range_with_len 0 (i + 1) ≡ range_with_len 0 i ++ i ∷ [] =
     sym (map-id (range_with_len 0 (i + 1))) ∙ map-range_with_len_more (λ n. n) 0 i i (omega arith) ∙ ap (λ ns. ns ++ i ∷ []) (map-id (range_with_len 0 i)) in
     record {

@@ -4,12 +4,12 @@ use Rattle.client_registry.specs.Documents.{IsCollected}
 use Rattle.client_registry.specs.Registered.{Represents, known_words}
 use Rattle.client_core.proofs.ready.Ready.begun.Goals as goal
 
-pub returns : goal.returns
-returns c =
-    λ f key s same accepted frames.
+pub returns-clause-stands : goal.returns-clause-stands
+returns-clause-stands c =
+    λ f keys s same accepted frames.
     record {
       kept = IsKept-begun s (subst IsCollected (sym same) c.from_docs.ensures.valid) accepted;
       registry = subst (λ docs. Represents c.from_docs.result (record { documents = docs; shape = s.shape }) []) (sym same) (c.from_docs.ensures.setup s.shape);
       number = omega (arith, frames);
-      keys = c.new.ensures f key (known_words c.from_docs.result);
+      word_keys = c.new.ensures f (keys 0) (known_words c.from_docs.result);
     }

@@ -1,6 +1,6 @@
 /// A word of a document: its position there, and its number in a registry.
-#[derive(Clone, Copy, Debug, PartialEq, Eq)]
-pub struct Place {
+#[derive(Clone, Copy)]
+pub struct NumberedWord {
     /// From 0.
     pub position: u32,
     /// From 0.
