@@ -33,7 +33,7 @@ da = 0x64 ∷ 0x61 ∷ []
 abbrev ac : List ℕ
 ac = 0x61 ∷ 0x63 ∷ []
 
--- behind a setup of one document, and these commands
+-- after a setup of one document, and these commands
 abbrev behind : List Command → Place
 behind commands = record { key = key; documents = []; history = Some (record { setup = setup_of (document 1 (a ∷ []) ∷ []) 1 1; later = commands }) }
 

@@ -1,5 +1,5 @@
 -- What follows a place of a script: its history begins with that of the place, a line finds no collision that the history
--- behind it hasn't, the answers in its printed lines are what its searches find, and its frames stand behind those that were sent.
+-- after it hasn't, the answers in its printed lines are what its searches find, and its frames stand after those that were sent.
 use Rattle.std.proofs.Common.{◌≡◌, ℕ, ◌+◌, Bool, false, ◌||◌, List, [], ◌∷◌, ◌++◌, length, Some, None, refl, sym, ap, ◌∙◌, append_assoc}
 use Rattle.std.specs.Prelude.{Option, option_map}
 use Rattle.std.proofs.lemmas.List.{append-nil}
@@ -10,9 +10,9 @@ use Rattle.client_registry.specs.Run.{at_first}
 use Rattle.client_registry.specs.Setup.{setup_of}
 use Rattle.keyed_fn.specs.KeyedFn.{KeyedFn}
 use Rattle.sse_frames.specs.Exchange.{searches}
-use Rattle.sse_agreement.proofs.NoCollision.{collision_of_first-none, collision_behind-none}
+use Rattle.sse_agreement.proofs.NoCollision.{collision_of_first-none, collision_of_next-none}
 use Rattle.sse_model.proofs.Exchanging.{searches-setup, searches_behind-update}
-use Rattle.sse_model.proofs.HistoryLaws.{frames_sent-before, frames_sent-begun, frames_sent-longer, frames_behind-search, collision_behind-search}
+use Rattle.sse_model.proofs.HistoryLaws.{frames_sent-before, frames_sent-begun, frames_sent-longer, frames_of_next-search, collision_of_next-search}
 use Rattle.sse_model.specs.Histories.{frames_sent, frames_of_first, HasNoCollision}
 use Rattle.sse_script.specs.Shown.{Shown, SetUp, Added, Deleted, Found, Resumed, Refused, Stopped}
 use Rattle.line_documents.specs.LineDocument.{document}
@@ -44,7 +44,7 @@ module _ (place : Place) (line : Request) where
 
   -- One line.
 
-  -- the history behind a line begins with the one before it
+  -- the history after a line begins with the one before it
   pub first-next : IsFirstOf place.history (after result place).history
   first-next = by_cases place line (λ r. IsFirstOf place.history (after r place).history) (record {
     refuses = λ refusal. IsFirstOf-same place.history;
@@ -55,7 +55,7 @@ module _ (place : Place) (line : Request) where
     finds = λ word up e. IsFirstOf-longer place.history _;
   })
 
-  -- what the searches before a line find, and then its own answers, is what those behind it find
+  -- what the searches before a line find, and then its own answers, is what those after it find
   pub finds-next : found_in_turn (after result place).history ≡ found_in_turn place.history ++ finds (shown_by result)
   finds-next = by_cases place line (λ r. found_in_turn (after r place).history ≡ found_in_turn place.history ++ finds (shown_by r)) (record {
     refuses = λ refusal. sym (append-nil (found_in_turn place.history));
@@ -66,7 +66,7 @@ module _ (place : Place) (line : Request) where
     finds = λ word up e. found_in_turn-search place.history word up;
   })
 
-  -- the frames behind a line are those before it, and then its own
+  -- the frames after a line are those before it, and then its own
   pub frames-next : (f : KeyedFn) → frames_sent f (keys_at place) (after result place).history ≡ frames_sent f (keys_at place) place.history ++ frames_by f place result
   frames-next f = by_cases place line (λ r. frames_sent f (keys_at place) (after r place).history ≡ frames_sent f (keys_at place) place.history ++ frames_by f place r) (record {
     refuses = λ refusal. sym (append-nil (frames_sent f (keys_at place) place.history));
@@ -87,10 +87,10 @@ module _ (place : Place) (line : Request) where
     sets_up = λ b big none e. searches-setup _ at_first (setup_of place.documents b big);
     adds = λ id words is up e. searches_behind-update f (keys_at place) place.history _ refl;
     deletes = λ id is up e. searches_behind-update f (keys_at place) place.history _ refl;
-    finds = λ word up e. ap searches (frames_behind-search f (keys_at place) place.history word up);
+    finds = λ word up e. ap searches (frames_of_next-search f (keys_at place) place.history word up);
   })
 
--- where the history behind a line keeps the limits and has no collision, there is none in hand
+-- where the history after a line keeps the limits and has no collision, there is none in hand
 pub no_clash-next : (f : KeyedFn) (place : Place) (line : Request) → IsKept (after (outcome place line) place).history → HasNoCollision f (keys_at place) (after (outcome place line) place).history
     → clash_in_hand f place (outcome place line) ≡ None
 no_clash-next f place line = by_cases place line (λ r. IsKept (after r place).history → HasNoCollision f (keys_at place) (after r place).history → clash_in_hand f place r ≡ None) (record {
@@ -98,9 +98,9 @@ no_clash-next f place line = by_cases place line (λ r. IsKept (after r place).h
   collects = λ id words is none e kept free. refl;
   sets_up = λ b big none e kept free.
       ap (option_map collision_cause) (collision_of_first-none f (keys_at place) (setup_of place.documents b big) free);
-  adds = λ id words is up e kept free. ap (option_map collision_cause) (collision_behind-none f (keys_at place) place.history (Add (document id words)) kept free);
-  deletes = λ id is up e kept free. ap (option_map collision_cause) (collision_behind-none f (keys_at place) place.history (Delete id) kept free);
-  finds = λ word up e kept free. ap (option_map collision_cause) (collision_behind-search f (keys_at place) place.history word);
+  adds = λ id words is up e kept free. ap (option_map collision_cause) (collision_of_next-none f (keys_at place) place.history (Add (document id words)) kept free);
+  deletes = λ id is up e kept free. ap (option_map collision_cause) (collision_of_next-none f (keys_at place) place.history (Delete id) kept free);
+  finds = λ word up e kept free. ap (option_map collision_cause) (collision_of_next-search f (keys_at place) place.history word);
 })
 
 -- no line changes the key

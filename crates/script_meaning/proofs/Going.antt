@@ -20,6 +20,7 @@ use Rattle.sse_script.specs.Texts.{text_of}
 use Rattle.script_meaning.specs.Carries.{with_answers, text_with}
 use Rattle.script_meaning.specs.Exchange.{Told, Adds, AreExchanged, ShowsInReplies, as_event, bare}
 use Rattle.script_meaning.specs.Goes.{IsLeft, Passes, Prints}
+use Rattle.script_meaning.specs.Greeting.{ShowsInAnswer}
 use Rattle.script_meaning.specs.Stops.{status_of}
 use Rattle.script_meaning.specs.Runs.{Ended}
 use Rattle.script_meaning.proofs.Following.{finds}
@@ -55,7 +56,7 @@ pub append_known-nothing : (known : Option (List ℕ)) → append_known known []
 append_known-nothing None = refl
 append_known-nothing (Some bytes) = ap (λ b. Some b) (append-nil bytes)
 
--- where there are as many answers as the first lines have searches, the lines behind them take the answers behind
+-- where there are as many answers as the first lines have searches, the lines after them take the answers after
 with_answers-append : (xs ys : List (List ℕ)) (s t : List Shown) → length xs ≡ length (finds s) → with_answers (xs ++ ys) (s ++ t) ≡ with_answers xs s ++ with_answers ys t
 with_answers-append [] ys [] t count = refl
 with_answers-append (ids ∷ xs) ys [] t count = absurd (omega (arith, count))
@@ -134,3 +135,21 @@ shows_status asks replies NoJournal shows = absurd shows
 shows_status asks replies HasRecords shows = absurd shows
 shows_status asks replies (BadRecord number) shows = absurd shows
 shows_status asks replies WrongKey shows = absurd shows
+
+pub answer_status : (low high : ℕ) (answer : List ℕ) (cause : Cause) → ShowsInAnswer low high answer cause → 5 ≤ cause_status cause
+answer_status low high answer BadWords shows = absurd shows
+answer_status low high answer (BadLine number) shows = absurd shows
+answer_status low high answer SourceFault shows = absurd shows
+answer_status low high answer LinkFault shows = omega arith
+answer_status low high answer DiskFault shows = omega arith
+answer_status low high answer NoMemory shows = omega arith
+answer_status low high answer (LabelClash first second) shows = omega arith
+answer_status low high answer (PlaceClash first second) shows = omega arith
+answer_status low high answer (NumberClash first second) shows = omega arith
+answer_status low high answer (Clash what place) shows = omega arith
+answer_status low high answer (PeerElsewhere least most next) shows = omega arith
+answer_status low high answer (BadReply start) shows = omega arith
+answer_status low high answer NoJournal shows = absurd shows
+answer_status low high answer HasRecords shows = absurd shows
+answer_status low high answer (BadRecord number) shows = absurd shows
+answer_status low high answer WrongKey shows = absurd shows

@@ -1,5 +1,6 @@
 -- Over an honest link frames that were exchanged brought the server where their steps lead, with the answers that it gives;
--- and where the next one was cut, its replies are the first of those that are to come, or say that memory was wanting.
+-- and where the next one was cut, its replies are the first of those that are to come, or say that memory was wanting. The
+-- greeting leaves the server as it was, and its number is the server's own.
 use Rattle.std.proofs.Common.{◌<◌, ◌≡◌, ◌≢◌, ◌⊎◌, ℕ, zero, suc, ◌+◌, ◌^◌, ◌≤◌, inl, inr, List, [], ◌∷◌, ◌++◌, length, map, take, drop, slice_index, refl, sym, ap, ◌∙◌, subst, arith, append_assoc, length-append}
 use Rattle.std.specs.List.{AllByRecursion}
 use Rattle.std.proofs.lemmas.List.{append-nil, map-append, length-map}
@@ -11,11 +12,12 @@ use Rattle.sse_agreement.proofs.Histories.{IsAnswer}
 use Rattle.sse_frames.proofs.AnswerPages.{pages_back}
 use Rattle.sse_frames.proofs.ReplySpelling.{one_reply}
 use Rattle.sse_frames.specs.Exchange as texts
-use Rattle.sse_frames.specs.Exchange.{Asked, ForNext, ForTook, ForAnswer, asked, expected, first_answer, answers_behind, replied, exchange, answers_to, searches}
-use Rattle.sse_frames.specs.Frames.{FrameText, InGrammar, frame_bytes}
+use Rattle.sse_frames.specs.Exchange.{Asked, ForNext, ForTook, ForAnswer, asked, expected, first_answer, answers_behind, replied, exchange, answers_to, searches, greeting}
+use Rattle.sse_frames.specs.Frames.{FrameText, Hello, SetupBegin, SetupDict, SetupArray, SetupEnd, AddFrame, DeleteFrame, SearchFrame, InGrammar, frame_bytes}
 use Rattle.sse_frames.specs.Replies as reply
 use Rattle.sse_frames.specs.Replies.{ReplyText, Next, IsIdentifier, reply_bytes}
 use Rattle.sse_frames.specs.Sending.{page_each, pages_of}
+use Rattle.server_core.specs.State.{ServerState}
 use Rattle.server_core.specs.Step.{step, steps}
 use Rattle.link_events.proofs.Honest.{IsServed-exchange, Answers-either}
 use Rattle.link_events.specs.declared.mark.Mark.TheVariants.{Unknown}
@@ -24,7 +26,8 @@ use Rattle.link_events.specs.Served.{Served, IsServed, IsStep}
 use Rattle.sse_model.proofs.Exchanging.{length-answers_behind}
 use Rattle.sse_script.specs.Shown.{Cause, BadWords, BadLine, SourceFault, LinkFault, DiskFault, NoMemory, LabelClash, PlaceClash, NumberClash, Clash, PeerElsewhere, BadReply, NoJournal, HasRecords, BadRecord, WrongKey}
 use Rattle.sse_script.specs.Stops.{cause_status}
-use Rattle.script_meaning.specs.Exchange.{as_event, bare, EndsWith, IsNotice, IsBadReply, IsElsewhere, ShowsInReplies, IsCut}
+use Rattle.script_meaning.specs.Greeting.{AnswersHello, ShowsInAnswer, IsTurned}
+use Rattle.script_meaning.specs.Exchange.{as_event, bare, EndsWith, IsNotice, IsBadReply, ShowsInReplies, IsCut}
 
 -- Events without their marks.
 
@@ -65,7 +68,7 @@ kinds_of [] = (refl, tt)
 kinds_of (ids ∷ others) = kinds_each ids others
 
 kinds_expected : (ids : List ℕ) (asks : Asked) → AreOfKind (kind_to asks) (map reply_bytes (expected ids asks))
-kinds_expected ids ForNext = (refl, tt)
+kinds_expected ids ForNext = tt
 kinds_expected ids (ForTook q) = (refl, tt)
 kinds_expected ids ForAnswer = kinds_of (parts 8192 ids)
 
@@ -74,14 +77,31 @@ kind_within : (kind : ℕ) (earlier : List (List ℕ)) (reply : List ℕ) (later
 kind_within kind [] reply later all = all.0
 kind_within kind (first ∷ earlier) reply later all = kind_within kind earlier reply later all.1
 
+-- an update or a search was asked for
+abbrev pub IsBehindGreeting : Asked → Type 0
+IsBehindGreeting ForNext = ⊥
+IsBehindGreeting (ForTook q) = Unit {0}
+IsBehindGreeting ForAnswer = Unit {0}
+
+-- a frame whose replies are those that are to come is no Hello, as its step always has a reply
+behind_greeting : (f : KeyedFn) (s : ServerState) (frame : FrameText) (ids : List ℕ) → (step f s frame).1 ≡ expected ids (asked frame) → IsBehindGreeting (asked frame)
+behind_greeting f s Hello ids e = absurd (let none : Next s.next ∷ [] ≡ [] = e in cc)
+behind_greeting f s (SetupBegin q b big m a) ids e = tt
+behind_greeting f s (SetupDict q width entries) ids e = tt
+behind_greeting f s (SetupArray q width blocks) ids e = tt
+behind_greeting f s (SetupEnd q) ids e = tt
+behind_greeting f s (AddFrame q entries numbers) ids e = tt
+behind_greeting f s (DeleteFrame q numbers) ids e = tt
+behind_greeting f s (SearchFrame token) ids e = tt
+
 -- out of memory is no reply that is to come
-not_lacking : (ids : List ℕ) (asks : Asked) (due : List (List ℕ)) → map reply_bytes (expected ids asks) ++ due ≡ reply_bytes reply.NoMemory ∷ [] → ⊥
-not_lacking ids asks due e = by asks (map reply_bytes (expected ids asks)) (kinds_expected ids asks) (some ids asks) e
+not_lacking : (ids : List ℕ) (asks : Asked) (due : List (List ℕ)) → IsBehindGreeting asks → map reply_bytes (expected ids asks) ++ due ≡ reply_bytes reply.NoMemory ∷ [] → ⊥
+not_lacking ids asks due is e = by asks (map reply_bytes (expected ids asks)) (kinds_expected ids asks) (some ids asks is) e
   where
-    some : (ids : List ℕ) (asks : Asked) → 1 ≤ length (map reply_bytes (expected ids asks))
-    some ids ForNext = omega arith
-    some ids (ForTook q) = omega arith
-    some ids ForAnswer = of (parts 8192 ids)
+    some : (ids : List ℕ) (asks : Asked) → IsBehindGreeting asks → 1 ≤ length (map reply_bytes (expected ids asks))
+    some ids ForNext is = absurd is
+    some ids (ForTook q) is = omega arith
+    some ids ForAnswer is = of (parts 8192 ids)
       where
         each : (ids : List ℕ) (others : List (List ℕ)) → 1 ≤ length (map reply_bytes (page_each ids others))
         each ids [] = omega arith
@@ -111,14 +131,14 @@ events-exchange answers frame frames later =
     ∙ ap (λ events. Sent (frame_bytes frame) Unknown ∷ events) (append_assoc (map Received (map reply_bytes rs)) more later)
 
 -- the server made its step, and its replies begin with those that were received
-first_exchanged : (f : KeyedFn) (start end : Served) (answers : List (List ℕ)) (frame : FrameText) (frames : List FrameText) (later : List Event) → InGrammar frame
+first_exchanged : (f : KeyedFn) (start end : Served) (answers : List (List ℕ)) (frame : FrameText) (frames : List FrameText) (later : List Event) → InGrammar frame → IsBehindGreeting (asked frame)
     → IsServed f start (map as_event (exchange answers (frame ∷ frames)) ++ later) end
     → (after : Served) × IsStep f start.state frame after.state (map reply_bytes (expected (first_answer answers) (asked frame)) ++ after.due) × IsServed f after (map as_event (exchange (answers_behind (asked frame) answers) frames) ++ later) end
-first_exchanged f start end answers frame frames later grammar served =
+first_exchanged f start end answers frame frames later grammar is served =
     let one = IsServed-exchange f start end frame Unknown (map reply_bytes (expected (first_answer answers) (asked frame))) _ grammar
     (subst (λ events. IsServed f start events end) (events-exchange answers frame frames later) served) in (
       one.0,
-      elim one.1 [ inl stepped ↦ stepped | inr lacked ↦ absurd (not_lacking (first_answer answers) (asked frame) one.0.due lacked.replies_are) ],
+      elim one.1 [ inl stepped ↦ stepped | inr lacked ↦ absurd (not_lacking (first_answer answers) (asked frame) one.0.due is lacked.replies_are) ],
       one.2,
     )
 
@@ -127,7 +147,7 @@ first_exchanged f start end answers frame frames later grammar served =
 abbrev AreIdentifiers : List (List ℕ) → Type 0
 AreIdentifiers answers = AllByRecursion (λ ids. AllByRecursion IsIdentifier ids) answers
 
--- the answers that came are the first that the server gives, where those behind a frame are
+-- the answers that came are the first that the server gives, where those after a frame are
 taken : (asks : Asked) (xs ys left due : List (List ℕ)) → answers_to asks ≤ length xs → answers_to asks ≤ length ys → AreIdentifiers xs → AllByRecursion IsAnswer ys
     → map reply_bytes (expected (first_answer xs) asks) ++ due ≡ map reply_bytes (expected (first_answer ys) asks) → answers_behind asks ys ≡ answers_behind asks xs ++ left → ys ≡ xs ++ left
 taken ForNext xs ys left due enough given are answers e behind = behind
@@ -149,7 +169,7 @@ answers_left (ForTook q) ys are = are
 answers_left ForAnswer [] are = tt
 answers_left ForAnswer (y ∷ ys) are = are.1
 
--- behind the first n frames a server is where their steps lead, with those replies to come that it gives to the others; and
+-- after the first n frames a server is where their steps lead, with those replies to come that it gives to the others; and
 -- the answers that came are the first of those that it gives
 pub record IsBehind (f : KeyedFn) (start end : Served) (frames : List FrameText) (n : ℕ) (xs ys : List (List ℕ)) (later : List Event) : Type 0 where
   pub mid : Served
@@ -186,8 +206,8 @@ behind f start end frames zero xs ys later grammar are given taken_all count rep
 behind f start end [] (suc n) xs ys later grammar are given taken_all count replies served = behind_none f start end [] (suc n) xs ys later refl refl taken_all given count replies grammar served
 behind f start end (frame ∷ frames) (suc n) xs ys later grammar are given taken_all count replies served =
     let asks = asked frame in
-    let one = first_exchanged f start end xs frame (take n frames) later grammar.0 served in
     let here : (step f start.state frame).1 ≡ expected (first_answer ys) asks = head_same replies in
+    let one = first_exchanged f start end xs frame (take n frames) later grammar.0 (behind_greeting f start.state frame (first_answer ys) here) served in
     let enough : answers_to asks ≤ length xs = omega (arith, taken_all) in
     let some : answers_to asks ≤ length ys = omega (arith, count) in
     let there : (steps f one.0.state frames).1 ≡ replied (answers_behind asks ys) frames = subst (λ s. (steps f s frames).1 ≡ replied (answers_behind asks ys) frames) (sym one.1.state) (tail_same replies) in
@@ -272,22 +292,6 @@ module _ (ids : List ℕ) (answer : IsAnswer ids) (asks : Asked) (replies due : 
       notice (ForTook q) = tt
       notice ForAnswer = tt
 
--- nor the number of an update that a server which has taken nothing can't expect
-no_elsewhere : (low high got : ℕ) (replies due : List (List ℕ)) → IsElsewhere low high got replies → IsFront [] (record { each = tt; few = omega arith }) ForNext replies due → ⊥
-no_elsewhere low high got replies due away (inl e) =
-    away.some (same got (one_reply (Next got) (Next 0) [] [] away.fits (omega arith)
-    (ap (λ bytes. bytes ++ []) (only_one away.ends.earlier (reply_bytes (Next got)) due (reply_bytes (Next 0)) (sym (ap (λ rs. rs ++ due) away.ends.are ∙ append_assoc away.ends.earlier (reply_bytes (Next got) ∷ []) due) ∙ e)))).0)
-  where
-    same : (q : ℕ) → Next q ≡ Next 0 → q ≡ 0
-    same q e = cc
-no_elsewhere low high got replies due away (inr e) =
-    let is : reply_bytes (Next got) ≡ reply_bytes reply.NoMemory =
-    only_one away.ends.earlier (reply_bytes (Next got)) due (reply_bytes reply.NoMemory) (sym (ap (λ rs. rs ++ due) away.ends.are ∙ append_assoc away.ends.earlier (reply_bytes (Next got) ∷ []) due) ∙ e) in
-    no_kind (kind_of (reply_bytes (Next got))) refl (ap kind_of is)
-  where
-    no_kind : (kind : ℕ) → kind ≡ 0x81 → kind ≡ 0x87 → ⊥
-    no_kind kind is e = omega (arith, is, e)
-
 -- such replies show no cause of the statuses 8 and 9
 shows_outside : (ids : List ℕ) (answer : IsAnswer ids) (asks : Asked) (replies due : List (List ℕ)) (cause : Cause) → IsFront ids answer asks replies due → ShowsInReplies asks replies cause → cause_status cause ≤ 7
 shows_outside ids answer asks replies due BadWords front shows = absurd shows
@@ -300,9 +304,7 @@ shows_outside ids answer asks replies due (LabelClash first second) front shows 
 shows_outside ids answer asks replies due (PlaceClash first second) front shows = absurd shows
 shows_outside ids answer asks replies due (NumberClash first second) front shows = absurd shows
 shows_outside ids answer asks replies due (Clash what place) front shows = absurd (no_clash ids answer asks replies due what place shows front)
-shows_outside ids answer ForNext replies due (PeerElsewhere low high got) front shows = absurd (no_elsewhere low high got replies due shows front)
-shows_outside ids answer (ForTook q) replies due (PeerElsewhere low high got) front shows = absurd shows
-shows_outside ids answer ForAnswer replies due (PeerElsewhere low high got) front shows = absurd shows
+shows_outside ids answer asks replies due (PeerElsewhere low high got) front shows = absurd shows
 shows_outside ids answer asks replies due (BadReply start) front shows = absurd (no_bad ids answer asks replies due start shows front)
 shows_outside ids answer asks replies due NoJournal front shows = absurd shows
 shows_outside ids answer asks replies due HasRecords front shows = absurd shows
@@ -332,3 +334,78 @@ cut_outside f mid end (frame ∷ frames) left (Sent bytes mark ∷ cut) cause gr
   where
     head : {A : Type 0} {x y : A} {xs ys : List A} → x ∷ xs ≡ y ∷ ys → x ≡ y
     head e = cc
+
+-- The greeting.
+
+-- the server answered Hello by the number of the update that it expects, and stayed as it was
+greeted : (f : KeyedFn) (start end : Served) (reply : List ℕ) (later : List Event) → IsServed f start (Sent (frame_bytes Hello) Unknown ∷ Received reply ∷ later) end
+    → (after : Served) × (after.state ≡ start.state) × (reply ≡ reply_bytes (Next start.state.next)) × IsServed f after later end
+greeted f start end reply later served =
+    let one = IsServed-exchange f start end Hello Unknown (reply ∷ []) later tt served in
+    elim one.1 [
+      | inl stepped ↦ (one.0, stepped.state, (let same : reply ∷ one.0.due ≡ reply_bytes (Next start.state.next) ∷ [] = stepped.replies_are in cc), one.2)
+      | inr lacked ↦ absurd lacked.takes
+    ]
+
+-- a Next reply has one spelling
+one_next : (p q : ℕ) → p < 2 ^ 32 → q < 2 ^ 32 → reply_bytes (Next p) ≡ reply_bytes (Next q) → p ≡ q
+one_next p q below fits e = same (one_reply (Next p) (Next q) [] [] below fits (ap (λ bytes. bytes ++ []) e)).0
+  where
+    same : Next p ≡ Next q → p ≡ q
+    same e = cc
+
+-- after the greeting the server is as it was before, and the number is its own
+pub behind_greeted : (f : KeyedFn) (start end : Served) (next : ℕ) (events later : List Event) → next < 2 ^ 32 → start.state.next < 2 ^ 32 → map bare events ≡ map as_event (greeting next)
+    → IsServed f start (map bare events ++ later) end → (mid : Served) × (mid.state ≡ start.state) × (next ≡ start.state.next) × IsServed f mid later end
+behind_greeted f start end next events later fits below same served =
+    let one = greeted f start end (reply_bytes (Next next)) later (subst (λ es. IsServed f start (es ++ later) end) same served) in
+    (one.0, one.1, one_next next start.state.next fits below one.2, one.3)
+
+-- where the number is one of those that are possible, no session is turned away for a collision or a reply
+pub turned_outside : (f : KeyedFn) (start end : Served) (low high : ℕ) (events : List Event) (cause : Cause) → low ≤ start.state.next → start.state.next ≤ high → high < 2 ^ 32
+    → IsServed f start (map bare events) end → IsTurned low high events cause → cause_status cause ≤ 7
+turned_outside f start end low high [] cause least most fits served is = by is
+  where
+    by : (cause ≡ LinkFault) ⊎ (cause ≡ NoMemory) → cause_status cause ≤ 7
+    by (inl link) = omega (arith, ap cause_status link)
+    by (inr memory) = omega (arith, ap cause_status memory)
+turned_outside f start end low high (Sent bytes mark ∷ []) cause least most fits served is = by is.1
+  where
+    by : (cause ≡ LinkFault) ⊎ (cause ≡ NoMemory) → cause_status cause ≤ 7
+    by (inl link) = omega (arith, ap cause_status link)
+    by (inr memory) = omega (arith, ap cause_status memory)
+turned_outside f start end low high (Sent bytes mark ∷ Received answer ∷ []) cause least most fits served is =
+    let one = greeted f start end answer [] (subst (λ b. IsServed f start (Sent b Unknown ∷ Received answer ∷ []) end) is.0 served) in
+    by cause one.2 is.1
+  where
+    number : ℕ
+    number = start.state.next
+
+    below : number < 2 ^ 32
+    below = omega (arith, most, fits)
+
+    kind : (r : ReplyText) (k : ℕ) → kind_of (reply_bytes r) ≡ k → k ≢ 0x81 → answer ≡ reply_bytes (Next number) → answer ≡ reply_bytes r → ⊥
+    kind r k is other next e = other (sym is ∙ ap kind_of (sym e ∙ next))
+
+    by : (c : Cause) → answer ≡ reply_bytes (Next number) → ShowsInAnswer low high answer c → cause_status c ≤ 7
+    by BadWords next shows = absurd shows
+    by (BadLine n) next shows = absurd shows
+    by SourceFault next shows = absurd shows
+    by LinkFault next shows = omega arith
+    by DiskFault next shows = omega arith
+    by NoMemory next shows = omega arith
+    by (LabelClash first second) next shows = absurd shows
+    by (PlaceClash first second) next shows = absurd shows
+    by (NumberClash first second) next shows = absurd shows
+    by (Clash what place) next shows = absurd (kind (reply.Clash what place) 0x84 refl (λ e. omega (arith, e)) next shows)
+    by (PeerElsewhere a b q) next shows =
+        let same : q ≡ number = one_next q number shows.2.fits below (sym shows.2.replied ∙ next) in
+        elim shows.2.outside [ inl low ↦ absurd (omega (arith, low, same, least)) | inr high ↦ absurd (omega (arith, high, same, most)) ]
+    by (BadReply first) next shows = absurd (shows.none (Next number) below tt next)
+    by NoJournal next shows = absurd shows
+    by HasRecords next shows = absurd shows
+    by (BadRecord n) next shows = absurd shows
+    by WrongKey next shows = absurd shows
+turned_outside f start end low high (Received bytes ∷ events) cause least most fits served is = absurd is
+turned_outside f start end low high (Sent bytes mark ∷ Sent more other ∷ events) cause least most fits served is = absurd is
+turned_outside f start end low high (Sent bytes mark ∷ Received reply ∷ event ∷ events) cause least most fits served is = absurd is

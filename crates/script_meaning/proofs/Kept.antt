@@ -99,7 +99,7 @@ IsWithinItem (Some Empty) = Unit {0}
 IsWithinItem (Some (Key key)) = Unit {0}
 IsWithinItem (Some (CommandLine line)) = IsWithin line
 
--- behind so many lines the documents keep their limits, and so does the history, which has no more commands than lines
+-- after so many lines the documents keep their limits, and so does the history, which has no more commands than lines
 pub record IsKeptAt (n : ℕ) (place : Place) : Type 0 where
   pub documents : IsCollected place.documents
   pub history : IsKept place.history
@@ -115,7 +115,7 @@ IsKeptAt-opened n key = record { documents = no_documents; history = tt; few = o
 kept_longer : (n : ℕ) (place : Place) → IsKeptAt n place → IsKeptAt (suc n) place
 kept_longer n place kept = record { documents = kept.documents; history = kept.history; few = omega (arith, kept.few) }
 
--- the place behind a line keeps the limits
+-- the place after a line keeps the limits
 module _ (n : ℕ) (place : Place) (line : Request) (within : IsWithin line) (kept : IsKeptAt n place) where
   abbrev Kept : Outcome → Type 0
   Kept result = IsKeptAt (suc n) (after result place)

@@ -8,8 +8,10 @@ pub mod Going
 pub mod RunGoes
 pub mod Honest
 pub mod Headline
+pub mod Continuing
 mod RunRows
 mod UpdateRows
+mod ContinuedRows
 pub mod Sent
 mod ClashRows
 pub mod Simulated

@@ -3,7 +3,7 @@ use Rattle.std.proofs.Common.{◌≡◌, ℕ, true, false, List, [], ◌∷◌, 
 use Rattle.std.specs.Prelude.{Bool, Option, if◌then◌else◌}
 use Rattle.client_registry.specs.Command.{Add, Delete, Search}
 use Rattle.client_registry.specs.Histories.{is_set_up}
-use Rattle.client_registry.specs.Live.{found_in}
+use Rattle.client_registry.specs.Live.{matching_in}
 use Rattle.client_registry.specs.Setup.{setup_of}
 use Rattle.sse_script.specs.declared.refusal.Refusal.{Refusal}
 use Rattle.sse_script.specs.declared.refusal.Refusal.TheVariants.{NotSetUp, SetUpAlready}
@@ -24,7 +24,7 @@ module _ (place : Place) (line : Request) (P : Outcome → Type 0) where
     pub adds : (id : ℕ) (words : List (List ℕ)) → line ≡ AddLine id words → is_set_up place.history ≡ true → add_refusal place.history (document id words) ≡ None
         → P (Does (Add (document id words) ∷ []) (Added id))
     pub deletes : (id : ℕ) → line ≡ Del id → is_set_up place.history ≡ true → delete_refusal place.history id ≡ None → P (Does (Delete id ∷ []) (Deleted id))
-    pub finds : (word : List ℕ) → is_set_up place.history ≡ true → bad_word 0 (word ∷ []) ≡ None → P (Does (Search word ∷ []) (Found (found_in place.history word)))
+    pub finds : (word : List ℕ) → is_set_up place.history ≡ true → bad_word 0 (word ∷ []) ≡ None → P (Does (Search word ∷ []) (Found (matching_in place.history word)))
 
   module _ (cases : ByCases) where
     if_not : (r : Option Refusal) (result : Outcome) → (r ≡ None → P result) → P (unless r result)

@@ -20,7 +20,7 @@ key_zero = codes "key " ++ replicate 64 48
 abbrev of_lines : List (List ℕ) → Meaning
 of_lines lines = meant (lines_in lines)
 
--- all that is printed for these lines behind the key line
+-- all that is printed for these lines after the key line
 abbrev printed : List (List ℕ) → List ℕ
 printed lines = flat_map text_of (of_lines (key_zero ∷ lines)).shown ++ stop_text (of_lines (key_zero ∷ lines)).end
 
@@ -97,7 +97,7 @@ refusals_in_order :
 unfolding digits hex_on_literals utf8_valid_len is_utf8 chars encode
 refusals_in_order = refl
 
--- an addition and a deletion before the setup, and behind one
+-- an addition and a deletion before the setup, and after one
 before_and_behind :
     printed (codes "add 0 a" ∷ codes "doc 1 a" ∷ codes "doc 2 a" ∷ codes "del 1" ∷ codes "setup 1 0" ∷ codes "setup 1 2" ∷ codes "del 1" ∷ codes "find a" ∷ [])
     ≡ codes "refused: not set up\nrefused: not set up\nrefused: B is 0\nset up 1 words 1 blocks\ndeleted 1\nfound 1: 2\n"
@@ -124,7 +124,7 @@ refusals_behind :
 unfolding digits hex_on_literals utf8_valid_len is_utf8 chars encode
 refusals_behind = refl
 
--- a bad line ends a script, and what stands behind it means nothing
+-- a bad line ends a script, and what stands after it means nothing
 bad_line :
     printed (codes "doc 1 a" ∷ codes "setup 1 1" ∷ [] ∷ codes "find" ∷ codes "find a" ∷ [])
     ≡ codes "set up 1 words 0 blocks\nstopped: line 5\n"

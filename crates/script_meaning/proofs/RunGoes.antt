@@ -5,22 +5,24 @@ use Rattle.std.specs.Io.KnownBytes.{append_known}
 use Rattle.std.specs.List.{AllByRecursion}
 use Rattle.std.proofs.Math.Seq.{take-append-add}
 use Rattle.std.proofs.lemmas.List.{append-nil}
-use Rattle.client_registry.proofs.HistoryLaws.{IsFirstOf-same}
+use Rattle.client_registry.proofs.HistoryLaws.{IsFirstOf-same, IsFirstOf-trans}
 use Rattle.client_registry.specs.Histories.{empty, IsKept, IsFirstOf}
 use Rattle.client_registry.specs.Run.{History}
 use Rattle.sse_outside.proofs.Known.{append_known-twice}
 use Rattle.keyed_fn.specs.KeyedFn.{KeyedFn}
 use Rattle.sse_frames.specs.Exchange.{asked}
-use Rattle.sse_frames.specs.Frames.{FrameText, Hello}
+use Rattle.sse_frames.specs.Frames.{FrameText}
 use Rattle.link_events.specs.Events.{Event, Sent, Received}
 use Rattle.sse_model.specs.Compared.{Collision, Labels, Places, Numbers}
+use Rattle.sse_model.specs.Epochs.{keys_under}
 use Rattle.sse_model.specs.Histories.{frames_sent, HasNoCollision}
 use Rattle.sse_script.specs.Shown.{Cause, NoMemory}
 use Rattle.sse_script.specs.Stops.{cause_status}
 use Rattle.sse_script.specs.TextLines.{lines_of}
 use Rattle.script_meaning.specs.Carries.{Outside, keys_at, frames_by, collision_cause, clash_in_hand, text_with, Carries, FindsClash, IsCutShort, IsUnprinted}
 use Rattle.script_meaning.specs.Exchange.{Told, Adds, AreCut, IsCut}
-use Rattle.script_meaning.specs.Goes.{Passes, Prints, Goes}
+use Rattle.script_meaning.specs.Goes.{Passes, Prints, GoesFirst}
+use Rattle.script_meaning.specs.Greeting.{IsTurned}
 use Rattle.script_meaning.specs.Lines.{Line, Empty, Key, Command, Request, script_lines}
 use Rattle.script_meaning.specs.Meaning.{Meaning, showing, follow, meant_from, meaning}
 use Rattle.script_meaning.specs.Outcome.{Place, Outcome, opened, outcome, after, shown_by, is_refusal}
@@ -29,8 +31,8 @@ use Rattle.script_meaning.specs.Session.{frames_with, IsFree}
 use Rattle.script_meaning.specs.Stops.{Stop, AtEnd, SinkFault, At, status_of}
 use Rattle.script_meaning.proofs.Kept.{IsWithinItem, IsKeptAt, IsKeptAt-opened, kept_next}
 use Rattle.script_meaning.proofs.Within.{IsWithin-lines_in}
-use Rattle.script_meaning.proofs.Following.{frames-next, searches-next, no_clash-next, after-key, follow-key, first-follow}
-use Rattle.script_meaning.proofs.Going.{Adds-nothing, AreExchanged-none, append_known-nothing, text_with-append, front_more, Passes-behind, Passes-none, Prints-none, shows_status}
+use Rattle.script_meaning.proofs.Following.{first-next, frames-next, searches-next, no_clash-next, after-key, follow-key, first-follow}
+use Rattle.script_meaning.proofs.Going.{Adds-nothing, AreExchanged-none, append_known-nothing, text_with-append, front_more, Passes-behind, Passes-none, Prints-none, shows_status, answer_status}
 
 -- Which statuses a stop within a line has.
 
@@ -47,6 +49,15 @@ cut_status (frame ∷ left) [] cause (inr memory) = omega (arith, ap cause_statu
 cut_status (frame ∷ left) (Sent bytes mark ∷ cut) cause is = shows_status (asked frame) is.1.0 cause is.1.2
 cut_status (frame ∷ left) (Received bytes ∷ cut) cause is = absurd is
 
+-- nor has one that turns a session away a lower one
+pub turned_status : (low high : ℕ) (events : List Event) (cause : Cause) → IsTurned low high events cause → 5 ≤ cause_status cause
+turned_status low high [] cause is = elim is [ inl link ↦ omega (arith, ap cause_status link) | inr memory ↦ omega (arith, ap cause_status memory) ]
+turned_status low high (Sent bytes mark ∷ []) cause is = elim is.1 [ inl link ↦ omega (arith, ap cause_status link) | inr memory ↦ omega (arith, ap cause_status memory) ]
+turned_status low high (Sent bytes mark ∷ Received reply ∷ []) cause is = answer_status low high reply cause is.1
+turned_status low high (Received bytes ∷ events) cause is = absurd is
+turned_status low high (Sent bytes mark ∷ Sent more other ∷ events) cause is = absurd is
+turned_status low high (Sent bytes mark ∷ Received reply ∷ event ∷ events) cause is = absurd is
+
 -- a cut exchange is what passed of these frames
 Passes-cut : (f : KeyedFn) (frames : List FrameText) (now : Told) (end : Ended) (events : List Event) (cause : Cause) → end.stop ≡ At cause → Adds now end.outside.told events → (c : AreCut frames events cause) → Passes f frames c.answers now end
 Passes-cut f frames now end events cause stops adds c = record {
@@ -61,16 +72,17 @@ Passes-cut f frames now end events cause stops adds c = record {
   whole = λ few. absurd (omega (arith, few, ap status_of stops, cut_status (drop c.n frames) c.cut cause c.one_more));
 }
 
--- what a run does since a moment behind a history, over lines of this meaning
-record Went (f : KeyedFn) (key : List ℕ) (h : History) (m : Meaning) (now : Outside) (end : Ended) : Type 0 where
-  same_key : end.key ≡ Some key
-  history : IsFirstOf end.history m.history
-  more : List FrameText
-  frames : frames_sent f (λ epoch. key) end.history ≡ frames_sent f (λ epoch. key) h ++ more
-  answers : List (List ℕ)
-  passes : Passes f more answers now.told end
-  prints : Prints m answers now.written end.outside.written
-  ended_well : status_of end.stop ≤ 2 → (end.stop ≡ m.end) × (end.history ≡ m.history) × (end.outside.written ≡ append_known now.written (text_with answers m.shown))
+-- what a run does since a moment after a history, over lines of this meaning
+pub record Went (f : KeyedFn) (key : List ℕ) (h : History) (m : Meaning) (now : Outside) (end : Ended) : Type 0 where
+  pub same_key : end.key ≡ Some key
+  pub history : IsFirstOf end.history m.history
+  pub since : IsFirstOf h end.history
+  pub more : List FrameText
+  pub frames : frames_sent f (keys_under key end.history) end.history ≡ frames_sent f (keys_under key h) h ++ more
+  pub answers : List (List ℕ)
+  pub passes : Passes f more answers now.told end
+  pub prints : Prints m answers now.written end.outside.written
+  pub ended_well : status_of end.stop ≤ 2 → (end.stop ≡ m.end) × (end.history ≡ m.history) × (end.outside.written ≡ append_known now.written (text_with answers m.shown))
 
 module _ (f : KeyedFn) where
   -- A run that stops between two lines.
@@ -80,8 +92,9 @@ module _ (f : KeyedFn) where
   went-here key h m now stop end same first outside whole = subst (Went f key h m now) (sym same) (record {
     same_key = refl;
     history = first;
+    since = IsFirstOf-same h;
     more = [];
-    frames = sym (append-nil (frames_sent f (λ epoch. key) h));
+    frames = sym (append-nil (frames_sent f (keys_under key h) h));
     answers = [];
     passes = Passes-none f now.told (ended now (Some key) h stop) refl outside;
     prints = Prints-none m [] now.written now.written refl;
@@ -107,6 +120,9 @@ module _ (f : KeyedFn) where
       first_of : IsFirstOf end.history m.history
       first_of = subst (λ h. IsFirstOf h m.history) (sym s.history) first
 
+      since_of : IsFirstOf place.history end.history
+      since_of = subst (IsFirstOf place.history) (sym s.history) (first-next place line)
+
       frames_of : frames_sent f (keys_at place) end.history ≡ frames_sent f (keys_at place) place.history ++ frames_by f place result
       frames_of = ap (frames_sent f (keys_at place)) s.history ∙ frames-next place line f
 
@@ -115,6 +131,7 @@ module _ (f : KeyedFn) where
           let status : status_of end.stop ≡ 8 = ap status_of c.stops ∙ clash_status _ c.cause c.found in record {
             same_key = s.key;
             history = first_of;
+            since = since_of;
             more = frames_by f place result;
             frames = frames_of;
             answers = [];
@@ -140,6 +157,7 @@ module _ (f : KeyedFn) where
       went-cut c = record {
         same_key = s.key;
         history = first_of;
+        since = since_of;
         more = frames_by f place result;
         frames = frames_of;
         answers = c.cut.answers;
@@ -158,6 +176,7 @@ module _ (f : KeyedFn) where
           ap (λ answers. text_with answers whole.shown) (sym (append-nil u.answers)) ∙ text_with-append u.answers [] (shown_by result) m.shown (u.sent.exchanged.count ∙ searches-next place line f) in record {
             same_key = s.key;
             history = first_of;
+            since = since_of;
             more = frames;
             frames = frames_of;
             answers = u.answers;
@@ -185,6 +204,7 @@ module _ (f : KeyedFn) where
         record {
           same_key = w.same_key;
           history = w.history;
+          since = IsFirstOf-trans place.history (after result place).history end.history (first-next place line) w.since;
           more = frames_by f place result ++ w.more;
           frames =
               w.frames
@@ -207,7 +227,7 @@ module _ (f : KeyedFn) where
 
   -- All lines.
 
-  went : (n : ℕ) (place : Place) (number : ℕ) (lines : List (Option Line)) (refused : Bool) (now : Outside) (end : Ended) → AllByRecursion IsWithinItem lines → IsKeptAt n place → Runs f place number lines refused now end
+  pub went : (n : ℕ) (place : Place) (number : ℕ) (lines : List (Option Line)) (refused : Bool) (now : Outside) (end : Ended) → AllByRecursion IsWithinItem lines → IsKeptAt n place → Runs f place number lines refused now end
       → Went f place.key place.history (follow place number lines refused) now end
   went n place number [] refused now end within kept (inl e) = went-here place.key place.history _ now (AtEnd refused) end e (IsFirstOf-same place.history) (at_end refused) (λ few. (refl, refl, refl))
     where
@@ -234,24 +254,25 @@ module _ (f : KeyedFn) where
 
   -- Before the key line.
 
-  goes-here : (m : Meaning) (now : Outside) (stop : Stop) (end : Ended) → end ≡ ended now None empty stop → status_of stop ≤ 7 → (status_of stop ≤ 2 → (stop ≡ m.end) × (None ≡ m.key) × (empty ≡ m.history) × (m.shown ≡ [])) → Goes f m now end
-  goes-here m now stop end same outside whole = subst (Goes f m now) (sym same) (record {
+  goes-here : (m : Meaning) (now : Outside) (stop : Stop) (end : Ended) → end ≡ ended now None empty stop → status_of stop ≤ 7 → (status_of stop ≤ 2 → (stop ≡ m.end) × (None ≡ m.key) × (empty ≡ m.history) × (m.shown ≡ []))
+      → GoesFirst f m now end
+  goes-here m now stop end same outside whole = subst (GoesFirst f m now) (sym same) (record {
     key = inl refl;
     history = tt;
     answers = [];
-    passes = Passes-none f now.told (ended now None empty stop) refl outside;
+    passes = inl (record { key = refl; nothing = refl; stops = outside; none = refl });
     prints = Prints-none m [] now.written now.written refl;
     ended = λ few.
         let all = whole few in
         (all.0, all.1, all.2, sym (ap (λ shown. append_known now.written (text_with [] shown)) all.3 ∙ append_known-nothing now.written));
   })
 
-  goes-reading : (m : Meaning) (now : Outside) (end : Ended) → StopsReading now None empty end → Goes f m now end
+  goes-reading : (m : Meaning) (now : Outside) (end : Ended) → StopsReading now None empty end → GoesFirst f m now end
   goes-reading m now end (inl e) = goes-here m now _ end e (omega arith) (λ few. absurd (omega (arith, few)))
   goes-reading m now end (inr e) = goes-here m now _ end e (omega arith) (λ few. absurd (omega (arith, few)))
 
   -- a run goes as its lines mean, whose identifiers are below 2^64
-  pub goes_from : (number : ℕ) (lines : List (Option Line)) (now : Outside) (end : Ended) → AllByRecursion IsWithinItem lines → Opens f number lines now end → Goes f (meant_from number lines) now end
+  pub goes_from : (number : ℕ) (lines : List (Option Line)) (now : Outside) (end : Ended) → AllByRecursion IsWithinItem lines → Opens f number lines now end → GoesFirst f (meant_from number lines) now end
   goes_from number [] now end within (inl e) = goes-here _ now _ end e (omega arith) (λ few. (refl, refl, refl, refl))
   goes_from number [] now end within (inr reading) = goes-reading _ now end reading
   goes_from number (None ∷ lines) now end within (inl e) = goes-here _ now _ end e (omega arith) (λ few. (refl, refl, refl, refl))
@@ -265,11 +286,10 @@ module _ (f : KeyedFn) where
       let m = follow (opened key) (number + 1) lines false in record {
         key = inr (away.same_key ∙ sym (follow-key (opened key) (number + 1) lines false));
         history = subst (λ h. IsFirstOf h m.history) (sym away.history) tt;
-        answers = away.cut.answers;
-        passes = subst (λ fs. Passes f fs away.cut.answers now.told end) (λ i. frames_with f (sym away.same_key i) (sym away.history i))
-            (Passes-cut f (Hello ∷ []) now.told end away.events away.cause away.stops away.adds away.cut);
-        prints = Prints-none m away.cut.answers now.written end.outside.written away.unprinted;
-        ended = λ few. absurd (omega (arith, few, ap status_of away.stops, cut_status _ away.cut.cut away.cause away.cut.one_more));
+        answers = [];
+        passes = inr (inl (record { key = key; same_key = away.same_key; cause = away.cause; stops = away.stops; away = away.away; none = refl }));
+        prints = Prints-none m [] now.written end.outside.written away.unprinted;
+        ended = λ few. absurd (omega (arith, few, ap status_of away.stops, turned_status 0 0 away.away.events away.cause away.away.turned));
       }
   goes_from number (Some (Key key) ∷ lines) now end within (inr (inr (next, greeted, runs))) =
       let m = follow (opened key) (number + 1) lines false in
@@ -277,8 +297,13 @@ module _ (f : KeyedFn) where
         key = inr (w.same_key ∙ sym (follow-key (opened key) (number + 1) lines false));
         history = w.history;
         answers = w.answers;
-        passes = subst (λ fs. Passes f fs w.answers now.told end) (sym w.frames ∙ ap (λ k. frames_with f k end.history) (sym w.same_key))
-            (Passes-behind f (Hello ∷ []) w.more [] w.answers now.told next.told end greeted.events greeted.adds greeted.exchanged w.passes);
+        passes = inr (inr (record {
+          key = key;
+          same_key = w.same_key;
+          greeted = next.told;
+          greets = greeted.greets;
+          passes = subst (λ fs. Passes f fs w.answers next.told end) (sym w.frames ∙ ap (λ k. frames_with f k end.history) (sym w.same_key)) w.passes;
+        }));
         prints = record { p = w.prints.p; written = w.prints.written ∙ ap (λ o. append_known o (take w.prints.p (text_with w.answers m.shown))) greeted.unprinted };
         ended = λ few.
             let well = w.ended_well few in
@@ -286,5 +311,5 @@ module _ (f : KeyedFn) where
       }
 
   -- so a run goes as its script means
-  pub goes : (bytes : List ℕ) (now : Outside) (end : Ended) → Opens f 1 (script_lines bytes) now end → Goes f (meaning bytes) now end
+  pub goes : (bytes : List ℕ) (now : Outside) (end : Ended) → Opens f 1 (script_lines bytes) now end → GoesFirst f (meaning bytes) now end
   goes bytes now end opens = goes_from 1 (script_lines bytes) now end (IsWithin-lines_in (lines_of bytes)) opens

@@ -17,7 +17,7 @@ use Rattle.client_registry.specs.Setup.{Setup, setup_of}
 use Rattle.keyed_fn.specs.KeyedFn.{KeyedFn, keyed_fn, IsKeyedFn}
 use Rattle.keyed_fn.specs.Toy.{toy_prf, toy_pad}
 use Rattle.keyed_fn.specs.ToyLaws.{length-toy_prf, All-toy_prf, length-toy_pad, All-toy_pad, take-toy_pad}
-use Rattle.sse_frames.specs.Exchange.{ForNext, ForTook, ForAnswer, exchange, searches}
+use Rattle.sse_frames.specs.Exchange.{ForTook, ForAnswer, exchange, searches}
 use Rattle.sse_frames.specs.Frames.{FrameText, Hello, InGrammar, frame_bytes}
 use Rattle.sse_frames.specs.Replies.{ReplyText, Next, Took, Page, IsIdentifier, reply_bytes}
 use Rattle.server_core.specs.State as server
@@ -39,7 +39,8 @@ use Rattle.script_meaning.proofs.Within.{meaning_is_kept}
 use Rattle.script_meaning.proofs.Going.{Adds-nothing, AreExchanged-none, append_known-nothing}
 use Rattle.script_meaning.specs.Carries.{Outside, Carries, frames_by}
 use Rattle.script_meaning.specs.Exchange.{AreExchanged, AreCut, IsCut, IsAwaiting, bare, as_event}
-use Rattle.script_meaning.specs.Headline.{IsOverHonest, IsCalm, Headline}
+use Rattle.script_meaning.specs.Greeting.{IsTurned}
+use Rattle.script_meaning.specs.Headline.{IsOverHonest, IsUndisturbed, Headline}
 use Rattle.script_meaning.specs.Lines.{script_lines}
 use Rattle.script_meaning.specs.Meaning.{meaning}
 use Rattle.script_meaning.specs.Outcome.{Place, opened, Collects, SetsUp, Does}
@@ -102,9 +103,6 @@ answered = map sent asking ++ received (Page true (1 ∷ [])) ∷ []
 abbrev passing : List Event
 passing = greeting ++ acknowledged 0 setting_up ++ answered
 
-greeting_row : AreExchanged [] (Hello ∷ []) greeting
-greeting_row = record { ids = All-nil (All IsIdentifier); count = refl; each = refl }
-
 setup_row : AreExchanged [] setting_up (acknowledged 0 setting_up)
 setup_row = record { ids = All-nil (All IsIdentifier); count = refl; each = refl }
 
@@ -153,8 +151,8 @@ finds_row = record {
 abbrev end : Ended
 end = ended (seen passing (set_up_text ++ found_text)) (Some key) (Some run) (AtEnd false)
 
-pub greeted_row : IsGreeted (seen [] []) (seen greeting [])
-greeted_row = record { events = greeting; adds = refl; exchanged = greeting_row; unprinted = refl }
+pub greeted_row : IsGreeted 0 0 (seen [] []) (seen greeting [])
+greeted_row = record { greets = record { next = 0; least = lit≤ tt; most = lit≤ tt; events = greeting; adds = refl; each = refl }; unprinted = refl }
 
 opens_row : Opens toy 1 (script_lines script) (seen [] []) end
 unfolding hex_on_literals utf8_valid_len is_utf8 chars encode
@@ -209,9 +207,9 @@ honest_steps s (frame ∷ frames) grammar = (
 )
 
 abbrev frames : List FrameText
-frames = Hello ∷ setting_up ++ asking
+frames = setting_up ++ asking
 
-replies_row : (steps toy server.at_first frames).1 ≡ (Next 0 ∷ []) ∷ (Took 0 ∷ []) ∷ (Took 1 ∷ []) ∷ (Took 2 ∷ []) ∷ (Page true (1 ∷ []) ∷ []) ∷ []
+replies_row : (steps toy server.at_first (Hello ∷ frames)).1 ≡ (Next 0 ∷ []) ∷ (Took 0 ∷ []) ∷ (Took 1 ∷ []) ∷ (Took 2 ∷ []) ∷ (Page true (1 ∷ []) ∷ []) ∷ []
 replies_row = simp (map.gets, set.members)
 
 free_row : IsCollisionFree (table_of toy (λ epoch. key) run) at_first run
@@ -221,18 +219,18 @@ kept_row : IsKept (Some run)
 unfolding hex_on_literals utf8_valid_len is_utf8 chars encode
 kept_row = (meaning_is_kept script).0
 
-honest_row : IsOverHonest toy (Some []) (Some passing) (steps toy server.at_first frames).0
+honest_row : IsOverHonest toy server.at_first (Some []) (Some passing) (steps toy server.at_first frames).0
 unfolding stepped
 honest_row = record {
   past = [];
   told = refl;
   events = passing;
   adds = refl;
-  honest = subst (λ replies. IsHonest toy server.at_first (stepped frames replies) (steps toy server.at_first frames).0) replies_row
-      (honest_steps server.at_first frames (frames_sent-in_grammar toy (λ epoch. key) (Some run) toy_laws kept_row free_row));
+  honest = subst (λ replies. IsHonest toy server.at_first (stepped (Hello ∷ frames) replies) (steps toy server.at_first frames).0) replies_row
+      (honest_steps server.at_first (Hello ∷ frames) (tt, frames_sent-in_grammar toy (λ epoch. key) (Some run) toy_laws kept_row free_row));
 }
 
-pub calm_row : IsCalm 0
+pub calm_row : IsUndisturbed 0
 calm_row = record {
   source = λ e. absurd (omega (arith, e));
   sink = λ e. absurd (omega (arith, e));
@@ -242,17 +240,14 @@ calm_row = record {
 }
 
 -- so what is said of such runs is said of this one
-headline_row : Headline toy (meaning script) (seen [] []) (seen passing (set_up_text ++ found_text)) 0 (steps toy server.at_first frames).0
+headline_row : Headline toy server.at_first (meaning script) (seen [] []) (seen passing (set_up_text ++ found_text)) 0 (steps toy server.at_first frames).0
 unfolding hex_on_literals utf8_valid_len is_utf8 chars encode
-headline_row = headline toy toy_laws script (seen [] []) end opens_row (steps toy server.at_first frames).0 honest_row (seen passing (set_up_text ++ found_text))
+headline_row = headline toy toy_laws script (seen [] []) end opens_row server.at_first (steps toy server.at_first frames).0 (record { next = refl; stage = refl }) honest_row (seen passing (set_up_text ++ found_text))
     (record { told = refl; q = 0; printed = sym (append_known-nothing (Some (set_up_text ++ found_text))) }) free_row calm_row
 
 -- The same session, cut by the link after so many of its events.
 
 -- no reply came, and one is to come
-awaits_next : IsAwaiting ForNext []
-awaits_next = record { allowed = record { ids = []; each = All-nil IsIdentifier; few = lit≤ tt; rest = reply_bytes (Next 0) ∷ []; first = refl }; more = λ e. absurd (cc) }
-
 pub awaits_took : (q : ℕ) → IsAwaiting (ForTook q) []
 awaits_took q = record { allowed = record { ids = []; each = All-nil IsIdentifier; few = lit≤ tt; rest = reply_bytes (Took q) ∷ []; first = refl }; more = λ e. absurd (cc) }
 
@@ -266,9 +261,10 @@ cut_at fs n before cut exchanged one_more = record { n = n; answers = []; before
 first_frames : (n : ℕ) → map bare (acknowledged 0 (take n setting_up)) ≡ map as_event (exchange [] (take n setting_up)) → 0 ≡ searches (take n setting_up) → AreExchanged [] (take n setting_up) (acknowledged 0 (take n setting_up))
 first_frames n each count = record { ids = All-nil (All IsIdentifier); count = count; each = each }
 
-away : (events : List Event) → AreCut (Hello ∷ []) events LinkFault → Opens toy 1 (script_lines script) (seen [] []) (ended (seen events []) (Some key) None (At LinkFault))
+away : (events : List Event) → IsTurned 0 0 events LinkFault → Opens toy 1 (script_lines script) (seen [] []) (ended (seen events []) (Some key) None (At LinkFault))
 unfolding hex_on_literals utf8_valid_len is_utf8 chars encode
-away events cut = inr (inl (record { cause = LinkFault; stops = refl; events = events; adds = refl; cut = cut; unprinted = refl; same_key = refl; history = refl }))
+away events turned =
+    inr (inl (record { cause = LinkFault; stops = refl; away = record { events = events; adds = refl; turned = turned }; unprinted = refl; same_key = refl; history = refl }))
 
 in_setup : (events : List Event) → AreCut setting_up events LinkFault → Opens toy 1 (script_lines script) (seen [] []) (ended (seen (greeting ++ events) []) (Some key) (Some (record { setup = setup; later = [] })) (At LinkFault))
 unfolding hex_on_literals utf8_valid_len is_utf8 chars encode
@@ -305,10 +301,10 @@ abbrev set_up_alone : History
 set_up_alone = Some (record { setup = setup; later = [] })
 
 after_0 : cut_run (take 0 passing) [] None
-after_0 = away [] (cut_at (Hello ∷ []) 0 [] [] AreExchanged-none (inl refl))
+after_0 = away [] (inl refl)
 
 after_1 : cut_run (take 1 passing) [] None
-after_1 = away (sent Hello ∷ []) (cut_at (Hello ∷ []) 0 [] (sent Hello ∷ []) AreExchanged-none (refl, ([], refl, inl awaits_next)))
+after_1 = away (sent Hello ∷ []) (refl, inl refl)
 
 after_2 : cut_run (take 2 passing) [] set_up_alone
 after_2 = in_setup [] (cut_at setting_up 0 [] [] AreExchanged-none (inl refl))

@@ -8,29 +8,34 @@ use Rattle.client_registry.specs.Run.{History}
 use Rattle.keyed_fn.specs.KeyedFn.{KeyedFn}
 use Rattle.sse_frames.specs.Exchange.{sent_among}
 use Rattle.sse_frames.specs.Frames.{FrameText, frame_bytes}
+use Rattle.sse_model.proofs.HistoryLaws.{sent_among-session}
+use Rattle.sse_model.specs.Epochs.{keys_under}
 use Rattle.script_meaning.proofs.Headline.{session_with-simulated}
-use Rattle.script_meaning.proofs.Sent.{sent_first}
+use Rattle.script_meaning.proofs.Sent.{frames_with_hello, sent_first}
 use Rattle.script_meaning.specs.Carries.{Outside}
-use Rattle.script_meaning.specs.Goes.{Goes}
+use Rattle.script_meaning.specs.Goes.{GoesFirst}
 use Rattle.script_meaning.specs.Headline.{SendsSimulated}
 use Rattle.script_meaning.specs.Meaning.{Meaning}
 use Rattle.script_meaning.specs.Runs.{Ended}
-use Rattle.script_meaning.specs.Session.{session_with, frames_with}
+use Rattle.script_meaning.specs.Session.{session_with}
 
-frames_among : (f : KeyedFn) (key : Option (List ℕ)) (h : History) → frames_with f key h ≡ sent_among (session_with f key h)
+frames_among : (f : KeyedFn) (key : Option (List ℕ)) (h : History) → frames_with_hello f key h ≡ sent_among (session_with f key h)
 frames_among f None h = refl
-frames_among f (Some key) h = refl
+frames_among f (Some key) h = sym (sent_among-session f (keys_under key h) h)
 
 -- of the history up to where it stopped, the command in hand included, and whatever the link replies
-pub sends_simulated : (f : KeyedFn) (m : Meaning) (now : Outside) (end : Ended) → Goes f m now end → IsKept m.history → SendsSimulated f end.key end.history now.told end.outside.told
+pub sends_simulated : (f : KeyedFn) (m : Meaning) (now : Outside) (end : Ended) → GoesFirst f m now end → IsKept m.history → SendsSimulated f end.key end.history now.told end.outside.told
 sends_simulated f m now end g kept =
     let first = sent_first f m now end g in record {
-      events = g.passes.events;
-      adds = g.passes.adds;
+      events = first.events;
+      adds = first.adds;
       passed = session_with f end.key end.history;
       made = session_with-simulated f end.key end.history (IsKept-first end.history m.history g.history kept);
-      n = first.0;
-      sent = first.1 ∙ commuted first.0 (frames_with f end.key end.history) ∙ ap (λ frames. take first.0 (map frame_bytes frames)) (frames_among f end.key end.history);
+      n = first.count;
+      sent =
+          first.sent
+          ∙ commuted first.count (frames_with_hello f end.key end.history)
+          ∙ ap (λ frames. take first.count (map frame_bytes frames)) (frames_among f end.key end.history);
     }
   where
     commuted : (n : ℕ) (frames : List FrameText) → map frame_bytes (take n frames) ≡ take n (map frame_bytes frames)

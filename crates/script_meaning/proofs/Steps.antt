@@ -35,7 +35,7 @@ pub record Continues (f : KeyedFn) (start here : Moment) : Type 0 where
 pub Continues-start : (f : KeyedFn) (start : Moment) → Continues f start start
 Continues-start f start = record { rest = λ end runs. runs }
 
--- what runs over the line that is read and those behind it runs over what is left
+-- what runs over the line that is read and those after it runs over what is left
 over_left : (R : List (Option Line) → Type 0) (left behind : Option (List (List ℕ))) (text : List ℕ) → TakesLine left behind text
     → ((texts : List (List ℕ)) → behind ≡ Some texts → R (line_in text ∷ lines_in texts)) → IfSome left (λ texts. R (lines_in texts))
 over_left R left behind text taken runs = subst (λ l. IfSome l (λ texts. R (lines_in texts))) (sym taken) (by behind refl)
@@ -183,9 +183,9 @@ module _ (f : KeyedFn) (key : List ℕ) (number : ℕ) (behind : Option (List (L
       by (Some texts) e = opens texts e
 
   -- the greeting is cut, also before anything of it is sent
-  pub at_key-away : IsTurnedAway key now end → OpensAtKey f key number behind now end
+  pub at_key-away : IsTurnedAway 0 0 key empty now end → OpensAtKey f key number behind now end
   at_key-away away = at_key (λ texts e. inr (inl away))
 
   -- the session is opened, and what follows runs from there
-  pub at_key-greeted : (next : Outside) → IsGreeted now next → RunsFrom f (moment (opened key) (number + 1) behind false next) end → OpensAtKey f key number behind now end
+  pub at_key-greeted : (next : Outside) → IsGreeted 0 0 now next → RunsFrom f (moment (opened key) (number + 1) behind false next) end → OpensAtKey f key number behind now end
   at_key-greeted next greeted runs = at_key (λ texts e. inr (inr (next, greeted, subst (λ l. RunsFrom f (moment (opened key) (number + 1) l false next) end) e runs)))

@@ -12,10 +12,10 @@ use Rattle.client_registry.specs.Command.{Command, Add, Delete, Search}
 use Rattle.client_registry.specs.Histories.{IsKept}
 use Rattle.client_registry.specs.Run.{Run, at_first}
 use Rattle.sse_agreement.proofs.Histories.{replies_agree}
+use Rattle.sse_agreement.specs.Taking.{Expects}
 use Rattle.sse_frames.specs.Exchange.{ForTook, asked}
-use Rattle.sse_frames.specs.Frames.{FrameText}
-use Rattle.sse_frames.specs.Frames as sending
-use Rattle.sse_frames.specs.Replies.{Page, IsIdentifier}
+use Rattle.sse_frames.specs.Frames.{FrameText, Hello}
+use Rattle.sse_frames.specs.Replies.{Next, Page, IsIdentifier}
 use Rattle.server_core.specs.State as server
 use Rattle.server_core.specs.Step.{steps}
 use Rattle.link_events.specs.Events.{Event}
@@ -53,7 +53,7 @@ commands = Add (document 5 (a ∷ [])) ∷ Delete 5 ∷ Add (document 5 (a ∷ c
 abbrev run : Run
 run = record { setup = setup; later = commands }
 
--- behind the first n of them
+-- after the first n of them
 abbrev behind : ℕ → Place
 behind n = record place { history = Some (record { setup = setup; later = take n commands }) }
 
@@ -83,7 +83,7 @@ adding_again = frames_by toy (behind 2) adds_again
 abbrev asking : List FrameText
 asking = frames_by toy (behind 3) finds
 
--- What passes, and what is printed, behind each.
+-- What passes, and what is printed, after each.
 
 abbrev answered : List Event
 answered = map sent asking ++ received (Page true (1 ∷ 5 ∷ [])) ∷ []
@@ -191,7 +191,7 @@ opens_row = inr (inr (
 -- What the headline supposes.
 
 abbrev frames : List FrameText
-frames = sending.Hello ∷ setting_up ++ adding ++ deleting ++ adding_again ++ asking
+frames = setting_up ++ adding ++ deleting ++ adding_again ++ asking
 
 free_row : IsCollisionFree (table_of toy (λ epoch. key) run) at_first run
 free_row = IsCollisionFree-from_test (table_of toy (λ epoch. key) run) at_first run refl
@@ -200,21 +200,25 @@ kept_row : IsKept (Some run)
 unfolding hex_on_literals utf8_valid_len is_utf8 chars encode
 kept_row = (meaning_is_kept script).0
 
-honest_row : IsOverHonest toy (Some []) (Some passing) (steps toy server.at_first frames).0
+expects_row : Expects 0 server.at_first
+expects_row = record { next = refl; stage = refl }
+
+honest_row : IsOverHonest toy server.at_first (Some []) (Some passing) (steps toy server.at_first frames).0
 unfolding stepped
 honest_row = record {
   past = [];
   told = refl;
   events = passing;
   adds = refl;
-  honest = subst (λ replies. IsHonest toy server.at_first (stepped frames replies) (steps toy server.at_first frames).0) (replies_agree toy (λ epoch. key) (Some run) toy_laws kept_row free_row)
-      (honest_steps server.at_first frames (frames_sent-in_grammar toy (λ epoch. key) (Some run) toy_laws kept_row free_row));
+  honest = subst (λ replies. IsHonest toy server.at_first (stepped (Hello ∷ frames) ((Next 0 ∷ []) ∷ replies)) (steps toy server.at_first frames).0)
+      (replies_agree toy (λ epoch. key) (Some run) server.at_first toy_laws kept_row free_row expects_row)
+      (honest_steps server.at_first (Hello ∷ frames) (tt, frames_sent-in_grammar toy (λ epoch. key) (Some run) toy_laws kept_row free_row));
 }
 
 -- so what is said of such runs is said of this one
-headline_row : Headline toy (meaning script) (seen [] []) (seen passing text) 0 (steps toy server.at_first frames).0
+headline_row : Headline toy server.at_first (meaning script) (seen [] []) (seen passing text) 0 (steps toy server.at_first frames).0
 unfolding hex_on_literals utf8_valid_len is_utf8 chars encode
-headline_row = headline toy toy_laws script (seen [] []) end opens_row (steps toy server.at_first frames).0 honest_row (seen passing text)
+headline_row = headline toy toy_laws script (seen [] []) end opens_row server.at_first (steps toy server.at_first frames).0 expects_row honest_row (seen passing text)
     (record { told = refl; q = 0; printed = sym (append_known-nothing (Some text)) }) free_row calm_row
 
 -- The same session, cut by the link after a frame was sent.

@@ -7,7 +7,8 @@ use Rattle.sse_frames.specs.Exchange.{first_answer}
 use Rattle.sse_frames.specs.Frames.{FrameText}
 use Rattle.link_events.specs.Events.{Event}
 use Rattle.sse_model.specs.Compared.{Collision, Labels, Places, Numbers}
-use Rattle.sse_model.specs.Histories.{frames_of_first, frames_behind, collision_of_first, collision_behind}
+use Rattle.sse_model.specs.Epochs.{keys_under}
+use Rattle.sse_model.specs.Histories.{frames_of_first, frames_of_next, collision_of_first, collision_of_next}
 use Rattle.sse_script.specs.Shown.{Cause, LabelClash, PlaceClash, NumberClash, NoMemory}
 use Rattle.sse_script.specs.Shown.{Shown, Found}
 use Rattle.sse_outside.specs.Fronts.{TookFront}
@@ -23,21 +24,21 @@ pub record Outside : Type 0 where
 
 -- the keys of a place, by epoch
 abbrev pub keys_at : Place → ℕ → List ℕ
-keys_at place epoch = place.key
+keys_at place = keys_under place.key place.history
 
 -- the frames that a line sends at a place, where it comes to this
 abbrev pub frames_by : KeyedFn → Place → Outcome → List FrameText
 frames_by f place (Collects d) = []
 frames_by f place (Refuses refusal) = []
 frames_by f place (SetsUp s) = frames_of_first f (keys_at place) s
-frames_by f place (Does commands shown) = frames_behind f (keys_at place) place.history commands
+frames_by f place (Does commands shown) = frames_of_next f (keys_at place) place.history commands
 
 -- two equal values of what it sends, which a client that looks finds
 abbrev pub collision_by : KeyedFn → Place → Outcome → Option Collision
 collision_by f place (Collects d) = None
 collision_by f place (Refuses refusal) = None
 collision_by f place (SetsUp s) = collision_of_first f (keys_at place) s
-collision_by f place (Does commands shown) = collision_behind f (keys_at place) place.history commands
+collision_by f place (Does commands shown) = collision_of_next f (keys_at place) place.history commands
 
 abbrev pub collision_cause : Collision → Cause
 collision_cause (Labels first second) = LabelClash first second
@@ -88,7 +89,7 @@ pub record IsCutShort (f : KeyedFn) (place : Place) (result : Outcome) (now end 
   pub no_clash : events ≢ [] → clash_in_hand f place result ≡ None
   pub unprinted : end.written ≡ now.written
 
--- it stops a run behind its frames: all of them were exchanged, and a proper front of its lines is printed
+-- it stops a run after its frames: all of them were exchanged, and a proper front of its lines is printed
 pub record IsUnprinted (f : KeyedFn) (place : Place) (result : Outcome) (now end : Outside) (stop : Stop) : Type 0 where
   pub stops : (stop ≡ SinkFault) ⊎ (stop ≡ At NoMemory)
   pub answers : List (List ℕ)

@@ -1,13 +1,13 @@
--- What passes over a link where frames have the replies that they are to have, and what where they don't.
-use Rattle.std.specs.Prelude.{◌≡◌, ◌≢◌, ◌⊎◌, ◌≤◌, ◌<◌, ◌^◌, ℕ, List, [], ◌∷◌, ◌++◌, length, map, take, drop, All, Option, option_map}
+-- What passes over a link after the greeting, where frames have the replies that they are to have, and where they don't.
+use Rattle.std.specs.Prelude.{◌≡◌, ◌≢◌, ◌⊎◌, ◌≤◌, ◌^◌, ℕ, List, [], ◌∷◌, ◌++◌, length, map, take, drop, All, Option, option_map}
 use Rattle.sse_frames.specs.Exchange as texts
-use Rattle.sse_frames.specs.Exchange.{Asked, ForNext, asked, expected, exchange, searches}
+use Rattle.sse_frames.specs.Exchange.{Asked, asked, expected, exchange, searches}
 use Rattle.sse_frames.specs.Frames.{FrameText, frame_bytes}
 use Rattle.sse_frames.specs.Replies as reply
-use Rattle.sse_frames.specs.Replies.{ReplyText, Next, InReplies, IsIdentifier, reply_bytes}
+use Rattle.sse_frames.specs.Replies.{ReplyText, InReplies, IsIdentifier, reply_bytes}
 use Rattle.link_events.specs.declared.mark.Mark.TheVariants.{Unknown}
 use Rattle.link_events.specs.Events.{Event, Sent, Received}
-use Rattle.sse_script.specs.Shown.{Cause, LinkFault, NoMemory, Clash, PeerElsewhere, BadReply}
+use Rattle.sse_script.specs.Shown.{Cause, LinkFault, NoMemory, Clash, BadReply}
 
 -- a frame or a reply as the event that it is, with no mark
 abbrev pub as_event : texts.Passed → Event
@@ -62,7 +62,6 @@ pub record EndsWith (asks : Asked) (replies : List (List ℕ)) (last : List ℕ)
 
 -- a reply that says why a frame isn't answered as expected
 abbrev pub IsNotice : Asked → ReplyText → Type 0
-IsNotice ForNext (Next q) = Unit {0}
 IsNotice asks (reply.Clash what place) = Unit {0}
 IsNotice asks reply.NoMemory = Unit {0}
 IsNotice asks reply.StoreFault = Unit {0}
@@ -76,19 +75,11 @@ pub record IsBadReply (asks : Asked) (replies : List (List ℕ)) (start : List �
   pub not_allowed : IsAllowed asks replies → ⊥
   pub no_notice : (notice : ReplyText) → InReplies notice → IsNotice asks notice → reply ≡ reply_bytes notice → ⊥
 
--- a server that is asked for the number of the update that it expects has taken something
-pub record IsElsewhere (low high got : ℕ) (replies : List (List ℕ)) : Type 0 where
-  pub none : (low ≡ 0) × (high ≡ 0)
-  pub some : got ≢ 0
-  pub fits : got < 2 ^ 32
-  pub ends : EndsWith ForNext replies (reply_bytes (Next got))
-
--- the cause for which a run stops behind these replies to a frame
+-- the cause for which a run stops after these replies to a frame
 abbrev pub ShowsInReplies : Asked → List (List ℕ) → Cause → Type 0
 ShowsInReplies asks replies LinkFault = IsAwaiting asks replies ⊎ EndsWith asks replies (reply_bytes reply.StoreFault)
 ShowsInReplies asks replies NoMemory = IsAllowed asks replies ⊎ EndsWith asks replies (reply_bytes reply.NoMemory)
 ShowsInReplies asks replies (Clash what place) = EndsWith asks replies (reply_bytes (reply.Clash what place))
-ShowsInReplies ForNext replies (PeerElsewhere low high got) = IsElsewhere low high got replies
 ShowsInReplies asks replies (BadReply start) = IsBadReply asks replies start
 ShowsInReplies _ _ _ = ⊥
 

@@ -1,6 +1,6 @@
 -- What follows from a run over any link, by the meaning of its script: what passed is the first of the session of the history
 -- up to where it stopped, and what was printed is the first of the meaning's lines with the answers that came.
-use Rattle.std.specs.Prelude.{◌≡◌, ◌⊎◌, ◌≤◌, ℕ, List, [], ◌++◌, take, drop, None, Option}
+use Rattle.std.specs.Prelude.{◌≡◌, ◌⊎◌, ◌≤◌, ℕ, List, [], ◌++◌, take, drop, None, Some, Option}
 use Rattle.std.specs.Io.KnownBytes.{append_known}
 use Rattle.client_registry.specs.Histories.{IsFirstOf}
 use Rattle.keyed_fn.specs.KeyedFn.{KeyedFn}
@@ -9,6 +9,7 @@ use Rattle.link_events.specs.Events.{Event}
 use Rattle.sse_script.specs.Shown.{Cause}
 use Rattle.script_meaning.specs.Carries.{Outside, text_with}
 use Rattle.script_meaning.specs.Exchange.{Told, Adds, AreExchanged, IsCut}
+use Rattle.script_meaning.specs.Greeting.{Greets, TurnsAway}
 use Rattle.script_meaning.specs.Meaning.{Meaning}
 use Rattle.script_meaning.specs.Runs.{Ended}
 use Rattle.script_meaning.specs.Session.{frames_with, IsFree}
@@ -35,17 +36,51 @@ pub record Passes (f : KeyedFn) (frames : List FrameText) (answers : List (List 
   pub left : IsLeft f end (drop n frames) cut
   pub whole : status_of end.stop ≤ 2 → AreExchanged answers frames events
 
+-- After the greeting.
+
+-- no session was opened, as no key line was read
+pub record IsUnopened (answers : List (List ℕ)) (now : Told) (end : Ended) : Type 0 where
+  pub key : end.key ≡ None
+  pub nothing : end.outside.told ≡ now
+  pub stops : status_of end.stop ≤ 7
+  pub none : answers ≡ []
+
+-- it wasn't opened, since it was turned away
+pub record IsUngreeted (low high : ℕ) (answers : List (List ℕ)) (now : Told) (end : Ended) : Type 0 where
+  pub key : List ℕ
+  pub same_key : end.key ≡ Some key
+  pub cause : Cause
+  pub stops : end.stop ≡ At cause
+  pub away : TurnsAway low high now end.outside.told cause
+  pub none : answers ≡ []
+
+-- it was opened, and then of the frames that are sent to a server that expects this update a front passed
+pub record IsOpened (f : KeyedFn) (low high : ℕ) (frames : (next : ℕ) → List FrameText) (answers : List (List ℕ)) (now : Told) (end : Ended) : Type 0 where
+  pub key : List ℕ
+  pub same_key : end.key ≡ Some key
+  pub greeted : Told
+  pub greets : Greets low high now greeted
+  pub passes : Passes f (frames greets.next) answers greeted end
+
+abbrev pub HasPassed : KeyedFn → (low high : ℕ) → (frames : (next : ℕ) → List FrameText) → List (List ℕ) → Told → Ended → Type 0
+HasPassed f low high frames answers now end = IsUnopened answers now end ⊎ IsUngreeted low high answers now end ⊎ IsOpened f low high frames answers now end
+
 -- a front of the meaning's lines is printed, with these answers
 pub record Prints (m : Meaning) (answers : List (List ℕ)) (now end : Option (List ℕ)) : Type 0 where
   pub p : ℕ
   pub written : end ≡ append_known now (take p (text_with answers m.shown))
 
-pub record Goes (f : KeyedFn) (m : Meaning) (now : Outside) (end : Ended) : Type 0 where
+-- a run goes as this meaning, with a server that may expect an update from low to high, to which these frames are sent then
+pub record Goes (f : KeyedFn) (m : Meaning) (low high : ℕ) (frames : (next : ℕ) → List FrameText) (now : Outside) (end : Ended) : Type 0 where
   pub key : (end.key ≡ None) ⊎ (end.key ≡ m.key)
   pub history : IsFirstOf end.history m.history
   pub answers : List (List ℕ)
-  pub passes : Passes f (frames_with f end.key end.history) answers now.told end
+  pub passes : HasPassed f low high frames answers now.told end
   pub prints : Prints m answers now.written end.outside.written
   -- at the end of the script or at a bad line that is all that it means
   pub ended : status_of end.stop ≤ 2
       → (end.stop ≡ m.end) × (end.key ≡ m.key) × (end.history ≡ m.history) × (end.outside.written ≡ append_known now.written (text_with answers m.shown))
+
+-- the same from the beginning of a script, with a server that has taken nothing: all frames of the history are sent to it
+abbrev pub GoesFirst : KeyedFn → Meaning → Outside → Ended → Type 0
+GoesFirst f m now end = Goes f m 0 0 (λ next. frames_with f end.key end.history) now end

@@ -3,7 +3,6 @@ use Rattle.std.specs.Prelude.{◌≡◌, ◌≢◌, ℕ, List, ◌++◌, flat_ma
 use Rattle.std.specs.Io.KnownBytes.{append_known}
 use Rattle.client_registry.specs.Run.{History}
 use Rattle.keyed_fn.specs.KeyedFn.{KeyedFn}
-use Rattle.server_core.specs.State as server
 use Rattle.server_core.specs.State.{ServerState}
 use Rattle.server_core.specs.Step.{steps}
 use Rattle.sse_frames.specs.Exchange.{Passed, sent_among}
@@ -17,17 +16,17 @@ use Rattle.script_meaning.specs.Meaning.{Meaning}
 use Rattle.script_meaning.specs.Session.{frames_of, session_of, simulated_with}
 use Rattle.script_meaning.specs.Stops.{stop_text, status_of}
 
--- what passed between these two moments is told, and is an honest transcript from a server that had taken nothing, which it
--- left in this state
-pub record IsOverHonest (f : KeyedFn) (now end : Told) (behind : ServerState) : Type 0 where
+-- what passed between these two moments is told, and is an honest transcript from a server in the first state, which it left in
+-- the second
+pub record IsOverHonest (f : KeyedFn) (before : ServerState) (now end : Told) (behind : ServerState) : Type 0 where
   pub past : List Event
   pub told : now ≡ Some past
   pub events : List Event
   pub adds : Adds now end events
-  pub honest : IsHonest f server.at_first events behind
+  pub honest : IsHonest f before events behind
 
 -- no device stopped the run, and memory wasn't wanting
-pub record IsCalm (status : ℕ) : Type 0 where
+pub record IsUndisturbed (status : ℕ) : Type 0 where
   pub source : status ≢ 3
   pub sink : status ≢ 4
   pub link : status ≢ 5
@@ -52,8 +51,8 @@ pub record SendsSimulated (f : KeyedFn) (key : Option (List ℕ)) (h : History) 
 -- between these two moments a script of this meaning was carried out, with this status: its lines were printed, each search
 -- with the identifiers of the live documents that hold its word, and a front of the line that says why it stopped; all that
 -- passed is what the meaning's history makes, which is what the simulator makes of its leakage and its draws, and the server at
--- the other end is one that was sent its frames
-pub record Headline (f : KeyedFn) (m : Meaning) (now end : Outside) (status : ℕ) (behind : ServerState) : Type 0 where
+-- the other end is one that was sent its frames from its first state on
+pub record Headline (f : KeyedFn) (before : ServerState) (m : Meaning) (now end : Outside) (status : ℕ) (behind : ServerState) : Type 0 where
   pub status_is : status ≡ status_of m.end
   pub q : ℕ
   pub printed : end.written ≡ append_known now.written (flat_map text_of m.shown ++ take q (stop_text m.end))
@@ -61,4 +60,4 @@ pub record Headline (f : KeyedFn) (m : Meaning) (now end : Outside) (status : �
   pub adds : Adds now.told end.told events
   pub session : map bare events ≡ map as_event (session_of f m)
   pub simulated : IsSimulated f m.key m.history events
-  pub stored : behind ≡ (steps f server.at_first (frames_of f m)).0
+  pub stored : behind ≡ (steps f before (frames_of f m)).0

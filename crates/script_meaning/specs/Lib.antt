@@ -4,8 +4,10 @@ pub mod Outcome
 pub mod Stops
 pub mod Meaning
 pub mod Exchange
+pub mod Greeting
 pub mod Carries
 pub mod Runs
 pub mod Session
 pub mod Goes
 pub mod Headline
+pub mod Continues

@@ -34,7 +34,7 @@ follow place number (Some (Command line) ∷ lines) refused =
     let result = outcome place line in
     showing (shown_by result) (follow (after result place) (number + 1) lines (refused || is_refusal result))
 
--- the meaning of lines, the first of which has this number: empty ones, then the key line and those behind it
+-- the meaning of lines, the first of which has this number: empty ones, then the key line and those after it
 abbrev pub meant_from : (number : ℕ) → List (Option Line) → Meaning
 meant_from number (Some Empty ∷ lines) = meant_from (number + 1) lines
 meant_from number (Some (Key key) ∷ lines) = follow (opened key) (number + 1) lines false

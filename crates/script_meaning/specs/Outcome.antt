@@ -6,7 +6,7 @@ use Rattle.client_registry.specs.Setup.{Setup, setup_of, setup_words}
 use Rattle.client_registry.specs.Command.{Command, Add, Delete, Search}
 use Rattle.client_registry.specs.Run.{History}
 use Rattle.client_registry.specs.Histories.{empty, is_set_up, begun_by, longer}
-use Rattle.client_registry.specs.Live.{found_in}
+use Rattle.client_registry.specs.Live.{matching_in}
 use Rattle.sse_script.specs.declared.refusal.Refusal.{Refusal}
 use Rattle.sse_script.specs.declared.refusal.Refusal.TheVariants.{NotSetUp, SetUpAlready}
 use Rattle.sse_script.specs.Shown.{Shown, SetUp, Added, Deleted, Found, Refused}
@@ -15,13 +15,13 @@ use Rattle.line_documents.specs.Refused.{bad_word, collect_refusal}
 use Rattle.script_meaning.specs.Lines.{Request, Doc, SetupLine, AddLine, Del, Find}
 use Rattle.script_meaning.specs.Refused.{index_refusal, add_refusal, delete_refusal}
 
--- where a script stands behind its key line: its key, the documents that were collected, and the history
+-- where a script stands after its key line: its key, the documents that were collected, and the history
 pub record Place : Type 0 where
   pub key : List ℕ
   pub documents : List Document
   pub history : History
 
--- behind the line of this key
+-- after the line of this key
 abbrev pub opened : List ℕ → Place
 opened key = record { key = key; documents = []; history = empty }
 
@@ -30,7 +30,7 @@ pub data Outcome : Type 0 where
   Collects : Document → Outcome
   Refuses : Refusal → Outcome
   SetsUp : Setup → Outcome
-  -- commands behind the setup, and the line that says they are done
+  -- commands after the setup, and the line that says they are done
   Does : List Command → Shown → Outcome
 
 -- refused where there is a cause, else this
@@ -52,13 +52,13 @@ after_setup h (Doc id words) = Refuses SetUpAlready
 after_setup h (SetupLine b big) = Refuses SetUpAlready
 after_setup h (AddLine id words) = unless (add_refusal h (document id words)) (Does (Add (document id words) ∷ []) (Added id))
 after_setup h (Del id) = unless (delete_refusal h id) (Does (Delete id ∷ []) (Deleted id))
-after_setup h (Find word) = unless (bad_word 0 (word ∷ [])) (Does (Search word ∷ []) (Found (found_in h word)))
+after_setup h (Find word) = unless (bad_word 0 (word ∷ [])) (Does (Search word ∷ []) (Found (matching_in h word)))
 
 -- what a line comes to at a place of the script
 abbrev pub outcome : Place → Request → Outcome
 outcome place line = if is_set_up place.history then after_setup place.history line else before_setup place.documents line
 
--- the place behind a line that came to this
+-- the place after a line that came to this
 abbrev pub after : Outcome → Place → Place
 after (Collects d) place = record place { documents = place.documents ++ d ∷ [] }
 after (Refuses refusal) place = place

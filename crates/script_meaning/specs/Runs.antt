@@ -4,11 +4,9 @@ use Rattle.std.specs.Io.KnownBytes.{append_known}
 use Rattle.client_registry.specs.Histories.{empty}
 use Rattle.client_registry.specs.Run.{History}
 use Rattle.keyed_fn.specs.KeyedFn.{KeyedFn}
-use Rattle.sse_frames.specs.Frames.{Hello}
-use Rattle.link_events.specs.Events.{Event}
 use Rattle.sse_script.specs.Shown.{Cause, BadLine, SourceFault, NoMemory}
 use Rattle.script_meaning.specs.Carries.{Outside, Carries, StopsIn}
-use Rattle.script_meaning.specs.Exchange.{Adds, AreExchanged, AreCut}
+use Rattle.script_meaning.specs.Greeting.{Greets, TurnsAway}
 use Rattle.script_meaning.specs.Lines.{Line, Empty, Key, Command, lines_in}
 use Rattle.script_meaning.specs.Outcome.{Place, Outcome, opened, outcome, after, is_refusal}
 use Rattle.script_meaning.specs.Stops.{Stop, AtEnd, At, stop_text}
@@ -53,31 +51,28 @@ Runs f place number (Some (Command line) ∷ lines) refused now end =
     ⊎ Stops f place result now end
     ⊎ ((next : Outside) × Carries f place result now next × Runs f (after result place) (number + 1) lines (refused || is_refusal result) next end)
 
--- the session is opened, which prints nothing: Hello was exchanged
-pub record IsGreeted (now next : Outside) : Type 0 where
-  pub events : List Event
-  pub adds : Adds now.told next.told events
-  pub exchanged : AreExchanged [] (Hello ∷ []) events
+-- a session is opened with a server that expects an update from low to high, which prints nothing
+pub record IsGreeted (low high : ℕ) (now next : Outside) : Type 0 where
+  pub greets : Greets low high now.told next.told
   pub unprinted : next.written ≡ now.written
 
--- or at most a part of its exchange passed before the run stopped
-pub record IsTurnedAway (key : List ℕ) (now : Outside) (end : Ended) : Type 0 where
+-- or a run with this key and history stops before it is opened
+pub record IsTurnedAway (low high : ℕ) (key : List ℕ) (before : History) (now : Outside) (end : Ended) : Type 0 where
   pub cause : Cause
   pub stops : end.stop ≡ At cause
-  pub events : List Event
-  pub adds : Adds now.told end.outside.told events
-  pub cut : AreCut (Hello ∷ []) events cause
+  pub away : TurnsAway low high now.told end.outside.told cause
   pub unprinted : end.outside.written ≡ now.written
   pub same_key : end.key ≡ Some key
-  pub history : end.history ≡ empty
+  pub history : end.history ≡ before
 
--- a run over these lines from before its key line: empty ones, the key line, the greeting, and what follows
+-- a run over these lines from before its key line, with a server that has taken nothing: empty ones, the key line, the
+-- greeting, and what follows
 abbrev pub Opens : KeyedFn → (number : ℕ) → List (Option Line) → Outside → Ended → Type 0
 Opens f number (Some Empty ∷ lines) now end = StopsReading now None empty end ⊎ Opens f (number + 1) lines now end
 Opens f number (Some (Key key) ∷ lines) now end =
     StopsReading now None empty end
-    ⊎ IsTurnedAway key now end
-    ⊎ ((next : Outside) × IsGreeted now next × Runs f (opened key) (number + 1) lines false next end)
+    ⊎ IsTurnedAway 0 0 key empty now end
+    ⊎ ((next : Outside) × IsGreeted 0 0 now next × Runs f (opened key) (number + 1) lines false next end)
 Opens f number _ now end = StopsHere now None empty (At (BadLine number)) end
 
 -- what follows the stop: a front of the last line is printed, and nothing else passes
@@ -108,6 +103,6 @@ RunsFrom f now end = IfSome now.left (λ texts. Runs f now.place now.number (lin
 abbrev pub OpensFrom : KeyedFn → (number : ℕ) → Option (List (List ℕ)) → Outside → Ended → Type 0
 OpensFrom f number left now end = IfSome left (λ texts. Opens f number (lines_in texts) now end)
 
--- the same at a key line, with these texts behind it
+-- the same at a key line, with these texts after it
 abbrev pub OpensAtKey : KeyedFn → (key : List ℕ) (number : ℕ) → Option (List (List ℕ)) → Outside → Ended → Type 0
 OpensAtKey f key number behind now end = IfSome behind (λ texts. Opens f number (Some (Key key) ∷ lines_in texts) now end)
