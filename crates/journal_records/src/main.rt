@@ -1,6 +1,6 @@
 //! Prints the records of a journal's file, one in a line, as hexadecimal digits; or why the file is no journal. It
 //! starts the journal as any user of it does, so it changes the file where that does: a file of less than nine bytes
-//! becomes a journal without records, and what stands behind the last record is cut (docs/FORMATS.md, "The journal").
+//! becomes a journal without records, and what stands after the last record is cut (docs/FORMATS.md, "The journal").
 //! With `count` it prints how many records there are, and with `append COUNT SIZE` it appends that many records of that
 //! many bytes, for the bench. It is how the journal and `FileDisk` are tried on real files.
 #![tactic(auto)]

@@ -20,7 +20,7 @@ pub enum Task {
 }
 
 impl Task {
-    /// The task that the words behind the file's name say.
+    /// The task that the words after the file's name say.
     pub fn of(words: &[String]) -> Option<Task> {
         match words {
             [] => Some(Task::Print),

@@ -3,7 +3,7 @@ use sse_journal::{AppendFault, StartFault};
 use sse_outside::DeviceFault;
 use std::test::Fail;
 
-/// An append makes four calls: two writes, each with a sync behind it. Each of them fails in turn, and then none, and a
+/// An append makes four calls: two writes, each with a sync after it. Each of them fails in turn, and then none, and a
 /// crash leaves each of eight images: it gives the two records of before, with the new one or without.
 #[test]
 fn a_crash_in_an_append_leaves_the_record_or_not(rt: HostRuntime) -> Result<(), Fail> {
@@ -85,7 +85,7 @@ fn a_crash_in_a_start_leaves_the_records(rt: HostRuntime) -> Result<(), Fail> {
     Ok(())
 }
 
-/// Behind two records stands an old one that is whole: it isn't there after a start, nor behind a record that is
+/// After two records stands an old one that is whole: it isn't there after a start, nor after a record that is
 /// appended then, whatever a crash leaves of that.
 #[test]
 fn what_stood_behind_the_end_never_comes_back(rt: HostRuntime) -> Result<(), Fail> {

@@ -23,7 +23,7 @@ fn a_file_gives_its_records_or_is_refused(rt: HostRuntime) -> Result<(), Fail> {
         (b"123456789", b"not a journal at 0", b"123456789"),
         (b"SSEJRNL2\0", b"not a journal at 0", b"SSEJRNL2\0"),
         (b"ssejrnl1\0", b"not a journal at 0", b"ssejrnl1\0"),
-        // records, and bytes behind a commit byte that isn't set
+        // records, and bytes after a commit byte that isn't set
         (TWO, b"a bb ", TWO),
         (
             b"SSEJRNL1\x01\0\0\0\x01a\x01\0\0\0\x02bb\x01",

@@ -18,7 +18,7 @@ pub(crate) fn disk_of(alloc: Global, bytes: &[u8]) -> Result<MemDisk, DeviceFaul
     Ok(disk)
 }
 
-/// The records that starting gives, each with a space behind it, or the text of its refusal.
+/// The records that starting gives, each with a space after it, or the text of its refusal.
 pub(crate) fn started(alloc: Global, disk: &mut MemDisk) -> Result<Vec<u8>, Fail> {
     match Journal::start(alloc, disk) {
         Ok(journal) => records_of(alloc, &journal, disk),
@@ -46,7 +46,7 @@ pub(crate) fn images_with(
     Ok(Some(found))
 }
 
-/// The records of a journal, read from the first to the last, each with a space behind it.
+/// The records of a journal, read from the first to the last, each with a space after it.
 fn records_of(alloc: Global, journal: &Journal, disk: &mut MemDisk) -> Result<Vec<u8>, Fail> {
     let mut records = Vec::new(alloc);
     let mut payload = Vec::new(alloc);

@@ -24,7 +24,7 @@ torn_cut way len image =
     else take len image ++ others (drop len image)
 
 -- from an image and the file as it reads, what these changes leave: each takes the last digit of the rest of the number,
--- to the base 4, and behind a sync the whole number is there again
+-- to the base 4, and after a sync the whole number is there again
 abbrev pub picked : (pick rest : ℕ) (file image : List ℕ) (changes : List Change) → List ℕ
 picked pick rest file image [] = image
 picked pick rest file image (Wrote at bytes ∷ changes) = picked pick (rest / 4) (behind (Wrote at bytes) file) (torn_write (rest % 4) at bytes image) changes

@@ -130,34 +130,3 @@ impl Disk for SteadyDisk {
         Ok(())
     }
 }
-
-#[cfg(test)]
-mod tests {
-    use super::*;
-    use std::test::Fail;
-
-    /// What a disk holds behind a write, a cut and two writes more.
-    fn written<D: Disk>(disk: &mut D, out: &mut [u8]) -> Result<u64, DeviceFault> {
-        disk.write_at(0, b"abc")?;
-        disk.cut(0)?;
-        disk.write_at(0, b"defg")?;
-        disk.sync()?;
-        disk.write_at(0, b"h")?;
-        disk.read_at(0, out)?;
-        Ok(disk.len()?)
-    }
-
-    /// Through the trait; an empty disk has no byte at its front and none far behind it.
-    #[test]
-    fn a_steady_disk_keeps_what_is_written(rt: HostRuntime) -> Result<(), Fail> {
-        let mut disk = SteadyDisk::new(rt.alloc());
-        let mut out = [0; 5];
-        assert_eq!(rt; disk.len(), Ok(0));
-        assert_eq!(rt; disk.read_at(0, &mut out), Ok(0));
-        assert_eq!(rt; disk.read_at(u64::MAX, &mut out), Ok(0));
-        assert_eq!(rt; written(&mut disk, &mut out), Ok(4));
-        assert_eq!(rt; out, *b"hefg\0");
-        assert_eq!(rt; disk.read_at(3, &mut out), Ok(1));
-        Ok(())
-    }
-}

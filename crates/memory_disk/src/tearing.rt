@@ -8,7 +8,7 @@ use crate::disk_call::DiskCall;
 use crate::recorded::overwrite;
 use std::alloc::{AllocError, Global};
 
-/// Puts bytes over those at a place, or behind the end where the place lies past it.
+/// Puts bytes over those at a place, or after the end where the place lies past it.
 fn put(file: &mut Vec<u8>, at: u64, bytes: &[u8]) -> Result<(), AllocError>
     ensures { OnOk result (file.new.items ≡ overwritten at bytes.now file.old.items) }
 {
@@ -81,7 +81,7 @@ fn tear_cut(alloc: Global, image: &mut Vec<u8>, way: u64, len: u64) -> Result<()
     Ok(())
 }
 
-/// Goes on behind a call: the file, its image, and the digits that are left.
+/// Goes on after a call: the file, its image, and the digits that are left.
 pub(crate) fn tear(
     alloc: Global,
     file: &mut Vec<u8>,

@@ -1,4 +1,4 @@
--- What stands behind each call of an append, over any disk.
+-- What stands after each call of an append, over any disk.
 use Rattle.std.proofs.Common.{◌≡◌, inl, ℕ, ◌+◌, List, [], ◌∷◌, ◌++◌, length, drop, refl, sym, ◌∙◌, ap, subst, arith, append_assoc, length-append, ◌≤◌}
 use Rattle.std.specs.Prelude.{All, Some, IfSome, Option, None}
 use Rattle.std.specs.Option.{option_map}
@@ -37,13 +37,13 @@ written_commit payloads payload =
     back = ap (λ (l : List ℕ). drop (length (front payloads) + 1) l) (sym (append_assoc (front payloads) (0 ∷ []) (framed payload ++ 0 ∷ [])))
         ∙ drop_at (front payloads ++ 0 ∷ []) (framed payload ++ 0 ∷ []) (length (front payloads) + 1) (length-append (front payloads) (0 ∷ []))
 
--- images behind a call, where those before it are one file
+-- images after a call, where those before it are one file
 pub images_from : (old new : List ℕ → Type 0) (bytes : List ℕ) (step : List ℕ → List ℕ → Type 0) (P : List ℕ → Type 0) → Only bytes old → Follows step old new → ((c : List ℕ) → step bytes c → P c) → (c : List ℕ) → new c → P c
 images_from old new bytes step P only follows each c left =
     let from = follows c left in
     each c (subst (λ (d : List ℕ). step d c) (only from.0 from.1) from.2)
 
--- The calls of an append, one behind the other.
+-- The calls of an append, one after the other.
 module _ {D : Type 0} (content : D → Option (List ℕ)) (images : D → List ℕ → Type 0) (moment : D → ℕ) (left_since : D → ℕ → List ℕ → Type 0) (payloads : List (List ℕ)) (payload : List ℕ) (are : All IsPayload payloads) (is : IsPayload payload) (end : ℕ) (ends : end ≡ length (front payloads)) (bytes : List ℕ) (bytes_are : bytes ≡ framed payload ++ 0 ∷ []) where
   abbrev P : List ℕ → Type 0
   P = GivesWithOrWithout payloads payload

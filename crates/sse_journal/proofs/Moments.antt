@@ -8,7 +8,7 @@ module _ {D : Type 0} (moment : D → ℕ) (left_since : D → ℕ → List ℕ 
   pub started : (disk : D) (P : List ℕ → Type 0) → ((c : List ℕ) → left_since disk (moment disk) c → P c) → LeavesOnly moment left_since disk disk P
   started disk P begins = record { begins = begins; later = omega arith; since = λ t le c left. inl left }
 
-  -- two runs, one behind the other
+  -- two runs, one after the other
   pub goes_on_to : (a b c : D) (P : List ℕ → Type 0) → LeavesOnly moment left_since a b P → LeavesOnly moment left_since b c P → LeavesOnly moment left_since a c P
   goes_on_to a b c P first second = record {
     begins = first.begins;

@@ -1,4 +1,4 @@
--- What stands behind each call of a repair, over any disk.
+-- What stands after each call of a repair, over any disk.
 use Rattle.std.proofs.Common.{◌≡◌, ◌≢◌, inr, ℕ, ◌+◌, ◌<◌, ◌≤◌, List, [], ◌∷◌, ◌++◌, length, take, drop, refl, sym, ◌∙◌, ap, subst, arith, append_assoc, length-append}
 use Rattle.std.specs.Prelude.{All, Some, None, IfSome, Option}
 use Rattle.std.specs.Option.{option_map}

@@ -20,7 +20,7 @@ only_those payloads bytes image gives same others gives_others = subst (λ (ps :
 pub walked_gives : (bytes : List ℕ) (end records commit : ℕ) → (w : IsWalked bytes end records commit) → Gives w.payloads bytes
 walked_gives bytes end records commit w = subst (Gives w.payloads) (sym w.are) (unset_gives w.payloads commit w.tail w.payloads_are w.unset)
 
--- behind a sync that succeeded, where the disk tells its content
+-- after a sync that succeeded, where the disk tells its content
 pub after_sync : (o m : Option (List ℕ)) (images : List ℕ → Type 0) (X : List ℕ → Type 0) → m ≡ o → IfSome o (λ file. Only file images) → ((bytes : List ℕ) → IsAllOf bytes m images → X bytes) → IfSome o X
 after_sync None m images X kept only to = tt
 after_sync (Some bytes) m images X kept only to = to bytes (record { reads = kept; durable = only })

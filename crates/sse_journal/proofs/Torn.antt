@@ -17,7 +17,7 @@ torn_front at n d c torn le =
     ext_get_or 0 (take at c) (take at d) (omega (arith, length-take at c, length-take at d, torn.no_shorter)) (λ i lt.
     get_or-take at c i 0 (omega (arith, lt, length-take at c)) ∙ torn.same i (omega (arith, lt, le, length-take at c)) (inl (omega (arith, lt, length-take at c))) ∙ sym (get_or-take at d i 0 (omega (arith, lt, length-take at c))))
 
--- the same behind it, where it lies within
+-- the same after it, where it lies within
 pub torn_behind : (at n : ℕ) (d c : List ℕ) → Torn at n d c → at + n ≤ length d → drop (at + n) c ≡ drop (at + n) d
 torn_behind at n d c torn le =
     ext_get_or 0 (drop (at + n) c) (drop (at + n) d) (omega (arith, length-drop (at + n) c, length-drop (at + n) d, torn.no_shorter, torn.no_longer, le)) (λ i lt.
@@ -30,7 +30,7 @@ front_push payloads payload =
     append_assoc magic (flat_map record_bytes payloads) (record_bytes payload)
     ∙ ap (λ (l : List ℕ). magic ++ l) (ap (λ (l : List ℕ). flat_map record_bytes payloads ++ l) (sym (append-nil (record_bytes payload))) ∙ sym (flat_map-append record_bytes payloads (payload ∷ [])))
 
--- the file with a record behind its closed commit
+-- the file with a record after its closed commit
 abbrev pub staged : List (List ℕ) → List ℕ → List ℕ
 staged payloads payload = front payloads ++ 0 ∷ (framed payload ++ 0 ∷ [])
 
@@ -38,7 +38,7 @@ pub length-staged : (payloads : List (List ℕ)) (payload : List ℕ) → length
 length-staged payloads payload = length-around (front payloads) 0 (framed payload ++ 0 ∷ [])
 
 module _ (payloads : List (List ℕ)) (are : All IsPayload payloads) (payload : List ℕ) (is : IsPayload payload) where
-  -- a torn write behind the closed commit leaves the records
+  -- a torn write after the closed commit leaves the records
   pub behind_commit : (n : ℕ) (c : List ℕ) → Torn (length (front payloads) + 1) n (file payloads) c → Gives payloads c
   behind_commit n c torn = inr (record {
     payloads_are = are;
@@ -57,7 +57,7 @@ module _ (payloads : List (List ℕ)) (are : All IsPayload payloads) (payload : 
           ∙ ap (λ (l : List ℕ). l ++ drop (length (front payloads) + 1) c) (torn_front _ n (file payloads) c torn (omega (arith, size)) ∙ take_all _ (file payloads) (omega (arith, size)))
           ∙ append_assoc (front payloads) (0 ∷ []) (drop (length (front payloads) + 1) c)
 
-  -- the record stands whole behind its commit, whatever a torn write leaves there
+  -- the record stands whole after its commit, whatever a torn write leaves there
   pub at_commit : (c : List ℕ) → Torn (length (front payloads)) 1 (staged payloads payload) c → GivesWithOrWithout payloads payload c
   at_commit c torn = elim (cases_eq commit 1) [
     | inl is_set ↦ inr (inr (record {
@@ -100,7 +100,7 @@ module _ (payloads : List (List ℕ)) (are : All IsPayload payloads) (payload : 
       All-push : All IsPayload (payloads ++ payload ∷ [])
       All-push = all_push IsPayload payloads payload are is
 
--- a cut behind a closed commit that bytes follow leaves the records: the commit keeps its byte
+-- a cut after a closed commit that bytes follow leaves the records: the commit keeps its byte
 pub cut_behind : (payloads : List (List ℕ)) (commit : ℕ) (tail c : List ℕ) → All IsPayload payloads → commit ≢ 1 → Shortened (length (front payloads) + 1) (front payloads ++ commit ∷ tail) c → Gives payloads c
 cut_behind payloads commit tail c are not_set cut = inr (record {
   payloads_are = are;
@@ -153,7 +153,7 @@ front_nil = refl
 pub torn_magic : (d c : List ℕ) → length d < 9 → Torn 0 8 d c → Gives [] c
 torn_magic d c short torn = inl (omega (arith, short, torn.no_longer), refl)
 
--- and so does a torn write of the first commit behind them
+-- and so does a torn write of the first commit after them
 pub torn_first_commit : (d c : List ℕ) → take 8 d ≡ magic → length d ≡ 8 → Torn 8 1 d c → Gives [] c
 torn_first_commit d c is size torn = elim (cases_eq (length c) 8) [
   | inl eight ↦ inl (omega (arith, eight), refl)

@@ -6,7 +6,7 @@ use Rattle.std.specs.Int.{w32, to_be_bytes}
 abbrev pub magic : List ℕ
 magic = codes "SSEJRNL1"
 
--- what stands behind a record's commit byte: its length in four bytes, the most significant first, and its payload
+-- what stands after a record's commit byte: its length in four bytes, the most significant first, and its payload
 unfoldable pub framed : (payload : List ℕ) → List ℕ
 framed payload = to_be_bytes w32 (length payload) ++ payload
 
@@ -14,11 +14,11 @@ framed payload = to_be_bytes w32 (length payload) ++ payload
 abbrev pub record_bytes : (payload : List ℕ) → List ℕ
 record_bytes payload = 1 ∷ framed payload
 
--- the front of a file with these records, up to the commit byte behind them
+-- the front of a file with these records, up to the commit byte after them
 unfoldable pub front : (payloads : List (List ℕ)) → List ℕ
 front payloads = magic ++ flat_map record_bytes payloads
 
--- the file with these records: behind them a commit byte that isn't set, and nothing more
+-- the file with these records: after them a commit byte that isn't set, and nothing more
 abbrev pub file : (payloads : List (List ℕ)) → List ℕ
 file payloads = front payloads ++ 0 ∷ []
 

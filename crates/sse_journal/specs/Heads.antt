@@ -18,7 +18,7 @@ pub record IsRecord (n : ℕ) (rest : List ℕ) : Type 0 where
   pub are : rest ≡ record_bytes payload ++ drop (5 + n) rest
   pub more : 5 + n < length rest
 
--- a commit byte that is set and isn't the last byte, and no record there with a byte more behind it
+-- a commit byte that is set and isn't the last byte, and no record there with a byte more after it
 pub record IsBad (rest : List ℕ) : Type 0 where
   pub tail : List ℕ
   pub are : rest ≡ 1 ∷ tail

@@ -5,7 +5,7 @@ use Rattle.sse_journal.specs.declared.journal.Journal.{Journal}
 use Rattle.sse_journal.specs.Files.{front, IsPayload, Gives}
 use Rattle.sse_journal.specs.Holds.{IsSettled}
 
--- the place of the commit byte behind its records
+-- the place of the commit byte after its records
 abbrev pub end_of : Journal → ℕ
 end_of j = j.end
 

@@ -6,14 +6,14 @@ use Rattle.sse_journal.specs.Files.{front, record_bytes, IsPayload}
 abbrev pub place_of : (payloads : List (List ℕ)) (k : ℕ) → ℕ
 place_of payloads k = length (front (take k payloads))
 
--- at the front of these bytes stands this record, with at least one byte more behind it
+-- at the front of these bytes stands this record, with at least one byte more after it
 pub record Begins (payload rest : List ℕ) : Type 0 where
   pub is : IsPayload payload
   pub tail : List ℕ
   pub are : rest ≡ record_bytes payload ++ tail
   pub more : tail ≢ []
 
--- read at the k-th place: the k-th record and the place of the next one, and nothing exactly behind the last
+-- read at the k-th place: the k-th record and the place of the next one, and nothing exactly after the last
 abbrev pub IsRead : (payloads : List (List ℕ)) (k : ℕ) → Option ℕ → List ℕ → Type 0
 IsRead payloads k None out = k ≡ length payloads
 IsRead payloads k (Some next) out = (k < length payloads) × (out ≡ get_or payloads k []) × (next ≡ place_of payloads (k + 1))

@@ -32,6 +32,6 @@ pub record IsNoRecordAt (bytes : List ℕ) (at : ℕ) : Type 0 where
   pub at_is : at ≡ length (front payloads)
   pub bad : IsBad rest
 
--- a file of at least nine bytes that doesn't begin as a journal, or where no record stands behind this commit byte
+-- a file of at least nine bytes that doesn't begin as a journal, or where no record stands after this commit byte
 abbrev pub IsNoJournalAt : (bytes : List ℕ) (place : ℕ) → Type 0
 IsNoJournalAt bytes place = ((place ≡ 0) × (9 ≤ length bytes) × (take 8 bytes ≢ magic)) ⊎ IsNoRecordAt bytes place

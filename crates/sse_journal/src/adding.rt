@@ -18,7 +18,7 @@ fn join(buffer: &mut Vec<u8>, size: &[u8], payload: &[u8])
     let _ = buffer.push(0);
 }
 
-/// Writes what stands behind a record's commit byte, and the next commit byte, which isn't set.
+/// Writes what stands after a record's commit byte, and the next commit byte, which isn't set.
 pub(crate) fn frame(buffer: &mut Vec<u8>, payload: &[u8])
     requires payload { IsPayload payload.now }
     requires room { length payload.now + 5 ≤ vec_capacity buffer.old }
@@ -30,7 +30,7 @@ pub(crate) fn frame(buffer: &mut Vec<u8>, payload: &[u8])
     join(buffer, &size, payload);
 }
 
-/// Puts the body of a record behind the commit byte at the end, and then sets that byte. Each step is durable before
+/// Puts the body of a record after the commit byte at the end, and then sets that byte. Each step is durable before
 /// the next: a commit byte that is set over a body that a crash tore would make a record of anything.
 pub(crate) fn append_at<D: Disk>(disk: &mut D, end: u64, body: &[u8]) -> Result<(), DeviceFault>
     requires end { end < 2 ^ 63 }

@@ -11,7 +11,7 @@ pub(crate) enum Head {
     End(u8),
     /// A record whose payload has so many bytes.
     Record(u32),
-    /// A commit byte that is set, with no whole record and next commit byte behind it.
+    /// A commit byte that is set, with no whole record and next commit byte after it.
     Bad,
 }
 

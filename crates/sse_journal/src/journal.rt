@@ -106,7 +106,7 @@ impl Journal {
         self.buffer.reserve(n as usize + 5)
     }
 
-    /// Appends a record of 1 to 2^27 bytes for which there is room (`reserve`), by two writes with a sync behind each.
+    /// Appends a record of 1 to 2^27 bytes for which there is room (`reserve`), by two writes with a sync after each.
     /// It takes no memory but what the disk takes.
     ///
     /// From `Ok` on every crash leaves the record there. A crash at any moment of the call, and after an error, leaves
@@ -159,7 +159,7 @@ impl Journal {
     }
 
     /// Reads the record at a place into `out`, in the place of what was there, and gives the next place; `None` exactly
-    /// where the place is the end or behind it. The first place is `first`. The file isn't changed.
+    /// where the place is the end or after it. The first place is `first`. The file isn't changed.
     ///
     /// Errors: `DiskFault` where the disk failed; `NotAJournal(at)` where the bytes that were read there are no record,
     /// which never comes at a place of a record over a disk that tells its content; `NoMemory` where there is none for

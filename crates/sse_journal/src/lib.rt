@@ -1,4 +1,4 @@
-//! The journal: records appended to one file of a disk, which outlive a crash at any moment. It stands on the trait
+//! The journal: records appended to one file of a disk, which outlive a crash at any moment. It depends on the trait
 //! `Disk` of `sse_outside` and on nothing else, so that each contract holds over every disk, and knows nothing of what a
 //! record means. Callers use `append`: from its `Ok` on every crash leaves the record there, and a crash within the call
 //! leaves the records of before, with the new one or without; and `start`: it gives exactly the records of the file, or

@@ -7,8 +7,8 @@ ghost use Rattle.sse_outside.specs.Causes.{Rose};
 use crate::StartFault;
 use sse_outside::Disk;
 
-/// Cuts what stands behind the commit byte at the end of the records. The cut is made durable before that byte is
-/// written: if a crash tore it to 1 with bytes behind it, these would count as a record.
+/// Cuts what stands after the commit byte at the end of the records. The cut is made durable before that byte is
+/// written: if a crash tore it to 1 with bytes after it, these would count as a record.
 pub(crate) fn cut_tail<D: Disk>(disk: &mut D, end: u64) -> Result<(), StartFault>
     requires limit { end < 2 ^ 63 }
     requires within { IfSome (D.content disk.old) (λ bytes. end + 1 ≤ length bytes) }

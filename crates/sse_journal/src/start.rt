@@ -11,7 +11,7 @@ use crate::repair::{clear_commit, cut_tail, new_file};
 use crate::walk::{Walked, walk};
 use sse_outside::{Disk, Failed};
 
-/// Cuts what stands behind the commit byte at the end of the records, where bytes do.
+/// Cuts what stands after the commit byte at the end of the records, where bytes do.
 fn trim<D: Disk>(disk: &mut D, size: u64, end: u64, commit: u8) -> Result<(), StartFault>
     requires end { end < size }
     requires limit { size ≤ 2 ^ 63 }

@@ -34,7 +34,7 @@ shortened_cut n file = record {
   same = λ i lt in_new. get_or-take n file i 0 lt;
 }
 
--- what is read behind a call is one of its images
+-- what is read after a call is one of its images
 reads_behind : (x : Change) (file : List ℕ) (images : List ℕ → Type 0) → images file → left_behind x file images (behind x file)
 reads_behind (Wrote at bytes) file images is = (file, is, torn_written at bytes file)
 reads_behind (FailedToWrite at bytes) file images is = (file, is, torn_same at (length bytes) file)

@@ -18,14 +18,14 @@ consumed-told None (Some ys) bytes same taken = absurd (false≢true same)
 consumed-told (Some xs) None bytes same taken = absurd taken
 consumed-told (Some xs) (Some ys) bytes same taken = ap Some taken
 
--- bytes that were put behind
+-- bytes that were put after
 pub appended-told : (old new : Option (List ℕ)) (bytes : List ℕ) → is_some old ≡ is_some new → Appends old new bytes → new ≡ append_known old bytes
 appended-told None None bytes same added = refl
 appended-told None (Some ys) bytes same added = absurd (false≢true same)
 appended-told (Some xs) None bytes same added = absurd added
 appended-told (Some xs) (Some ys) bytes same added = ap Some added
 
--- no byte was put behind
+-- no byte was put after
 pub nothing_appended-told : (old new : Option (List ℕ)) (bytes : List ℕ) (n : ℕ) → is_some old ≡ is_some new → n ≡ 0 → Appends old new (take n bytes) → new ≡ old
 nothing_appended-told None None bytes n same zero added = refl
 nothing_appended-told None (Some ys) bytes n same zero added = absurd (false≢true same)

@@ -1,4 +1,4 @@
--- A disk in memory as the record of its calls: what a read gives and what a stop may leave, behind each of them.
+-- A disk in memory as the record of its calls: what a read gives and what a stop may leave, after each of them.
 use Rattle.std.specs.Prelude.{◌≡◌, ℕ, ◌≤◌, List, [], ◌∷◌, length, take}
 use Rattle.sse_outside.specs.Images.{overwritten, Torn, Shortened}
 
@@ -10,7 +10,7 @@ pub data Change : Type 0 where
   FailedToCut : (len : ℕ) → Change
   Synced : Change
 
--- the file as it reads behind a call: a call that failed leaves it
+-- the file as it reads after a call: a call that failed leaves it
 abbrev pub behind : Change → List ℕ → List ℕ
 behind (Wrote at bytes) file = overwritten at bytes file
 behind (FailedToWrite at bytes) file = file
@@ -22,7 +22,7 @@ abbrev pub file_behind : List ℕ → List Change → List ℕ
 file_behind file [] = file
 file_behind file (change ∷ changes) = file_behind (behind change file) changes
 
--- what a stop behind a call may leave, from what it might have left before
+-- what a stop after a call may leave, from what it might have left before
 abbrev pub left_behind : Change → List ℕ → (List ℕ → Type 0) → List ℕ → Type 0
 left_behind (Wrote at bytes) file images c = (d : List ℕ) × images d × Torn at (length bytes) d c
 left_behind (FailedToWrite at bytes) file images c = (d : List ℕ) × images d × Torn at (length bytes) d c

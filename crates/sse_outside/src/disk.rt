@@ -14,10 +14,10 @@ use crate::{DeviceFault, Failed};
 /// is a number that never falls, and `left_since` are the files that may be there after a crash at any moment from
 /// that one on, within a call or between two. `faults` is its count of faults.
 ///
-/// Between two syncs that succeed, a range that was written and what lies behind the old end may hold any bytes
+/// Between two syncs that succeed, a range that was written and what lies after the old end may hold any bytes
 /// after a crash, the length lies between those that the file had, a tail that was cut may be there in part with
 /// any bytes, and all else stays. After a sync that succeeds a crash leaves what a read gives. A call that answers
-/// an error may have done its work in part: the file then reads as one of its images behind the call.
+/// an error may have done its work in part: the file then reads as one of its images after the call.
 pub trait Disk {
     ghost content: { Self → Option (List ℕ) };
 
@@ -40,7 +40,7 @@ pub trait Disk {
         ensures cause { HasCause (faults self.old) (faults self.new) result };
 
     /// Puts the bytes of the file from byte `at` on, counted from 0, at the front of `out`, as many as there are
-    /// and as fit, and answers how many: none where `at` is at or behind the end.
+    /// and as fit, and answers how many: none where `at` is at or after the end.
     ///
     /// With `Failed` the count of faults rose, and else it stays; what `out` holds after `Failed` is left open.
     fn read_at(&mut self, at: u64, out: &mut [u8]) -> Result<usize, Failed>
@@ -53,7 +53,7 @@ pub trait Disk {
         ensures time { Elapses (moment self.old) (moment self.new) (left_since self.old) (left_since self.new) (images self.new) }
         ensures cause { HasCause (faults self.old) (faults self.new) result };
 
-    /// Writes `bytes` over those from byte `at` on, which is at most the length, and behind the end. An end above
+    /// Writes `bytes` over those from byte `at` on, which is at most the length, and after the end. An end above
     /// 2^63 is refused.
     ///
     /// With `DeviceFault::Failed` the count of faults rose, and with any other answer it stays. The bytes are there

@@ -96,7 +96,7 @@ fn len_of(file: &File) -> Result<u64, Failed>
     }
 }
 
-/// Reads from byte `at` on until `out` is full or the file ends, and no byte behind the first 2^63.
+/// Reads from byte `at` on until `out` is full or the file ends, and no byte after the first 2^63.
 fn read_full<F: FileExt>(file: &F, at: u64, out: &mut [u8]) -> Result<usize, Failed>
     ensures bound { ReadsAtMost result out.new }
 {

@@ -77,7 +77,7 @@ mod tests {
     use super::*;
     use std::test::Fail;
 
-    /// The second and the third read fail, and the next one gives what came behind the first.
+    /// The second and the third read fail, and the next one gives what came after the first.
     #[test]
     fn listed_reads_fail_and_lose_nothing(rt: HostRuntime) -> Result<(), Fail> {
         let fails = vec![in rt.alloc(); 1, 2]?;

@@ -13,7 +13,7 @@ pub(crate) const MOST_BYTES: u64 = 1 << 63;
 /// bytes are told, those of standard input or of a file can't be.
 ///
 /// A read that a signal interrupts is tried again, up to 2^64 - 1 times. Every other error of the reader is a fault,
-/// and so is a read behind 2^63 bytes in all, for which the reader isn't asked.
+/// and so is a read after 2^63 bytes in all, for which the reader isn't asked.
 #[derive(Drop)]
 pub struct StdSource<R: Read> {
     reader: R,
