@@ -1,0 +1,6 @@
+mod Bodies
+pub mod Taking
+mod Answering
+mod Replaying
+pub mod Once
+mod Starting
