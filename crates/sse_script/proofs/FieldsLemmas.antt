@@ -32,7 +32,7 @@ pub fields_of-spaces : (bytes : List ℕ) → fields_of (drop (spaces bytes) byt
 fields_of-spaces [] = refl
 fields_of-spaces (b ∷ bytes) = spaces_step b bytes (is_space b) refl (fields_of-spaces bytes)
 
--- the first text of a line, and the fields behind it, which are those of the bytes behind
+-- the first text of a line, and the fields after it, which are those of the bytes after
 pub record StartsWith (bytes first behind : List ℕ) : Type 0 where
   pub rest : List (List ℕ)
   pub parts : slice_split is_space bytes ≡ first ∷ rest
@@ -76,19 +76,19 @@ run_is_field bytes some =
     let run = first_run bytes in
     ap (λ parts. filter is_field parts) run.parts ∙ (filter_field (take (field_len bytes) bytes) run.rest some ∙ ap (λ (fields : List (List ℕ)). take (field_len bytes) bytes ∷ fields) run.fields)
 
--- what one cut behind the spaces and one behind the run of other bytes give
+-- what one cut after the spaces and one after the run of other bytes give
 pub record Cut (bytes fields field rest : List ℕ) : Type 0 where
   pub behind : fields ≡ drop (spaces bytes) bytes
   pub front : field ≡ take (field_len fields) fields
   pub back : rest ≡ drop (field_len fields) fields
 
--- an empty run behind the spaces: there is no field
+-- an empty run after the spaces: there is no field
 pub fields_of_none : (bytes fields field rest : List ℕ) → Cut bytes fields field rest → length field ≡ 0 → fields_of bytes ≡ []
 fields_of_none bytes fields field rest cut none =
     let short : field_len fields ≡ 0 = sym (length-prefix_len (λ byte. not (is_space byte)) fields) ∙ (ap length (sym cut.front) ∙ none) in
     no_field bytes (ap field_len (sym cut.behind) ∙ short)
 
--- the run behind the spaces is the first field
+-- the run after the spaces is the first field
 pub fields_of_some : (bytes fields field rest : List ℕ) → Cut bytes fields field rest → 0 < length field → fields_of bytes ≡ field ∷ fields_of rest
 fields_of_some bytes fields field rest cut some =
     let first : fields_of fields ≡ take (field_len fields) fields ∷ fields_of (drop (field_len fields) fields) = run_is_field fields (rw (← cut.front) some) in

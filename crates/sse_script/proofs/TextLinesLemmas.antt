@@ -24,7 +24,7 @@ longer b c cs n e =
     ∙ ap (λ k. take k (b ∷ c ∷ cs) ∷ lines_of (drop (n + 1) (c ∷ cs))) (sym front)
     ∙ ap (λ k. take (1 + n) (b ∷ c ∷ cs) ∷ lines_of (drop k (b ∷ c ∷ cs))) (sym rest)
 
--- the first line of a text and the lines behind it, where the first byte is an ending or isn't
+-- the first line of a text and the lines after it, where the first byte is an ending or isn't
 either : (t : Bool) (b : ℕ) (bs : List ℕ) (n : ℕ) → (0 < length bs → lines_of bs ≡ take n bs ∷ lines_of (drop (n + 1) bs))
     → (length bs ≡ 0 → n ≡ 0)
     → cond t ([] ∷ lines_of bs) (onto_first b (lines_of bs))
@@ -33,7 +33,7 @@ either true b bs n others none = refl
 either false b [] n others none = rw (none refl) refl
 either false b (c ∷ cs) n others none = longer b c cs n (others (omega arith))
 
--- a text that has bytes is its first line, and the lines of what stands behind that
+-- a text that has bytes is its first line, and the lines of what stands after that
 pub lines_of-first : (text : List ℕ) → 0 < length text → lines_of text ≡ before_first (λ b. b == 10) text ∷ lines_of (after_first (λ b. b == 10) text)
 lines_of-first [] some = absurd (omega arith)
 lines_of-first (b ∷ bs) some =
@@ -45,7 +45,7 @@ lines_of-first (b ∷ bs) some =
 
 -- ---- where the first line of a text ends that comes in pieces
 
--- behind a piece with no ending
+-- after a piece with no ending
 pub position_or_len-unended : (xs ys : List ℕ) → position_or_len (λ b. b == 10) xs ≡ length xs
     → position_or_len (λ b. b == 10) (xs ++ ys) ≡ length xs + position_or_len (λ b. b == 10) ys
 position_or_len-unended xs ys all =
@@ -122,7 +122,7 @@ pub prepend_known-none : (xs : List ℕ) (known : Option (List ℕ)) → xs ≡ 
 prepend_known-none xs None none = refl
 prepend_known-none xs (Some ys) none = ap (λ l. Some (l ++ ys)) none
 
--- ---- what a reader of lines takes: `line` is what it has of a line, `pending` what it has read behind that
+-- ---- what a reader of lines takes: `line` is what it has of a line, `pending` what it has read after that
 
 -- where the line ends in what is pending
 ended : (line pending more : List ℕ) (n : ℕ) → position_or_len (λ b. b == 10) line ≡ length line → n ≡ position_or_len (λ b. b == 10) pending → n < length pending

@@ -4,7 +4,6 @@ use Rattle.std.specs.Option.{option_map}
 use Rattle.std.specs.List.{onto_first}
 use Rattle.std.specs.declared.option.Option.{Option}
 use Rattle.std.specs.Io.KnownBytes.{prepend_known}
-use Rattle.sse_script.specs.declared.line_reader.TheConstants.{MAX_LINE}
 use Rattle.sse_script.specs.declared.next_line.NextLine.{NextLine}
 use Rattle.sse_script.specs.declared.next_line.NextLine.TheVariants.{Line, TooLong, End}
 
@@ -25,10 +24,10 @@ bytes_to_come pending handed_out = length pending + (2 ^ 63 - handed_out)
 abbrev pub TakesLine : Option (List (List ℕ)) → Option (List (List ℕ)) → List ℕ → Type 0
 TakesLine old new line = old ≡ option_map (λ lines. line ∷ lines) new
 
--- the first of the lines is gone, and it was longer than a line may be
+-- the first of the lines is gone, and it was longer than a line may be, which is 2^19 bytes
 pub record SkipsLine (old new : Option (List (List ℕ))) : Type 0 where
   pub long : List ℕ
-  pub above : MAX_LINE < length long
+  pub above : 2 ^ 19 < length long
   pub skipped : TakesLine old new long
 
 -- what one reading takes of the lines that are left

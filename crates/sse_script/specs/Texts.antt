@@ -7,7 +7,7 @@ use Rattle.sse_script.specs.declared.refusal.Refusal.TheVariants.{NotSetUp, SetU
 use Rattle.sse_script.specs.Shown.{Cause, BadWords, BadLine, SourceFault, LinkFault, DiskFault, NoMemory, LabelClash, PlaceClash, NumberClash, Clash, PeerElsewhere, BadReply, NoJournal, HasRecords, BadRecord, WrongKey}
 use Rattle.sse_script.specs.Shown.{Shown, SetUp, Added, Deleted, Found, Resumed, Refused, Stopped}
 
--- behind `refused: `
+-- after `refused: `
 abbrev pub refusal_text : Refusal → List (List ℕ)
 refusal_text NotSetUp = codes "not set up" ∷ []
 refusal_text SetUpAlready = codes "set up already" ∷ []
@@ -30,7 +30,7 @@ refusal_text HistoryFull = codes "history is full" ∷ []
 abbrev pub equal_text : List ℕ → ℕ → ℕ → List (List ℕ)
 equal_text things first second = things ∷ decimal first ∷ codes " and " ∷ decimal second ∷ codes " are equal" ∷ []
 
--- behind `stopped: `; of a reply the first 16 bytes are shown, in lower-case hexadecimal digits
+-- after `stopped: `; of a reply the first 16 bytes are shown, in lower-case hexadecimal digits
 abbrev pub cause_text : Cause → List (List ℕ)
 cause_text BadWords = codes "words" ∷ []
 cause_text (BadLine number) = codes "line " ∷ decimal number ∷ []
@@ -50,7 +50,7 @@ cause_text HasRecords = codes "journal has records" ∷ []
 cause_text (BadRecord number) = codes "record " ∷ decimal number ∷ []
 cause_text WrongKey = codes "key" ∷ []
 
--- each identifier behind a space
+-- each identifier after a space
 abbrev pub ids_text : List ℕ → List ℕ
 ids_text ids = flat_map (λ id. 32 ∷ decimal id) ids
 

@@ -1,7 +1,7 @@
 /// Why a run stops before the end of its script. Numbers of words and of blocks count from 0, numbers of lines from 1.
-#[derive(Clone, Copy, Debug)]
+#[derive(Clone, Copy)]
 pub enum Cause<'a> {
-    /// The words behind the program's name aren't those of a run.
+    /// The words after the program's name aren't those of a run.
     BadWords,
     /// The line isn't in the grammar, or stands where its kind may not.
     BadLine { number: u64 },

@@ -6,7 +6,7 @@ use std::marker::Model;
 
 /// The fields of a line that are still to come, from the left.
 ///
-/// A field is a run of bytes other than a space (byte 20); spaces before, between and behind fields don't count.
+/// A field is a run of bytes other than a space (byte 20); spaces before, between and after fields don't count.
 /// Contracts see the list of the fields, so `length` of it is the measure of a loop over `next`.
 #[derive(Drop)]
 pub struct Fields<'a> {
@@ -48,7 +48,7 @@ impl<'a> Fields<'a> {
     }
 }
 
-/// The first field of the bytes, and the bytes behind it.
+/// The first field of the bytes, and the bytes after it.
 fn next_field(bytes: &[u8]) -> Option<(&[u8], &[u8])>
     ensures some { IfSome result (λ found. fields_of bytes.now ≡ found.0.now ∷ fields_of found.1.now) }
     ensures none { IfNone result (fields_of bytes.now ≡ []) }

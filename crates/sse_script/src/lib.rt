@@ -36,6 +36,3 @@ pub use refusal::Refusal;
 pub use shown::Shown;
 pub use std::alloc::AllocError as NoMemory;
 pub use stop_line::print_stop;
-
-#[cfg(test)]
-mod tests;

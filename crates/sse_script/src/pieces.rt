@@ -24,7 +24,7 @@ pub fn at_most_16(bytes: &[u8]) -> &[u8]
     }
 }
 
-/// How many identifiers there are, and each behind a space; the line's end behind it.
+/// How many identifiers there are, and each after a space; the line's end after it.
 pub fn found(alloc: Global, ids: &[u64]) -> Result<String, AllocError>
     ensures { IfOk result (λ text. string_bytes text
         ≡ concat (codes "found " ∷ decimal (length ids.now) ∷ codes ":" ∷ ids_text ids.now ∷ (10 ∷ []) ∷ [])) }
@@ -36,7 +36,7 @@ pub fn found(alloc: Global, ids: &[u64]) -> Result<String, AllocError>
     Ok(text)
 }
 
-/// Puts each identifier, behind a space, at the end of the text.
+/// Puts each identifier, after a space, at the end of the text.
 fn push_ids(text: &mut String, ids: &[u64]) -> Result<(), AllocError>
     ensures { OnOk result (string_bytes text.new ≡ string_bytes text.old ++ ids_text ids.now) }
 {

@@ -36,7 +36,7 @@ fn grammar(line: &[u8]) -> Option<Line<'_>>
     }
 }
 
-/// The line of this kind with these fields behind it.
+/// The line of this kind with these fields after it.
 fn by_kind<'a>(kind: &[u8], fields: Fields<'a>) -> Option<Line<'a>>
     ensures { option_map line_view result ≡ line_by_kind (kind.now ∷ fields.entry) }
 {
@@ -75,7 +75,7 @@ fn key_line(mut fields: Fields<'_>) -> Option<Line<'_>>
     Some(Line::Key(key))
 }
 
-/// A number, and the fields behind it.
+/// A number, and the fields after it.
 fn numbered(mut fields: Fields<'_>) -> Option<(u64, Fields<'_>)>
     ensures { option_map (λ parts. lines.Doc parts.0 parts.1) result ≡ lines.document_line lines.Doc fields.entry }
 {

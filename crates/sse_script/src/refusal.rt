@@ -1,7 +1,7 @@
 use std::error::Error;
 use std::fmt;
 
-/// Why a command is refused; its text is what the printed line has behind `refused: `. Positions of words and numbers
+/// Why a command is refused; its text is what the printed line has after `refused: `. Positions of words and numbers
 /// of words count from 0.
 #[derive(Clone, Copy, Debug)]
 pub enum Refusal {

@@ -1,7 +1,7 @@
 use crate::{Cause, Refusal};
 
 /// What one printed line says. `print` writes the line; specs/Texts.antt has the text of each.
-#[derive(Clone, Copy, Debug)]
+#[derive(Clone, Copy)]
 pub enum Shown<'a> {
     /// A setup was carried out, of so many words and blocks.
     SetUp { words: u32, blocks: u32 },

@@ -12,7 +12,7 @@ returns-in-PlaceClash-clause-text c = rw c.in-PlaceClash.is c.push_equal-in-Plac
 pub returns-in-NumberClash-clause-text : goal.returns-in-NumberClash-clause-text
 returns-in-NumberClash-clause-text c = rw c.in-NumberClash.is c.push_equal-in-NumberClash.ensures.text
 
--- three pairs behind a text
+-- three pairs after a text
 three : (old a b d e f g : List ℕ) → ((old ++ (a ++ b)) ++ (d ++ e)) ++ (f ++ g) ≡ old ++ (a ++ (b ++ (d ++ (e ++ (f ++ (g ++ []))))))
 three old a b d e f g =
     append_assoc (old ++ (a ++ b)) (d ++ e) (f ++ g)

@@ -5,7 +5,7 @@ use Rattle.std.specs.Io.KnownBytes.{prepend_known}
 use Rattle.sse_script.specs.TextLines.{bytes_to_come}
 use Rattle.sse_script.proofs.line_reader.LineReader.skip_line.Given as goal
 
--- the same stands behind the line that is passed over
+-- the same stands after the line that is passed over
 abbrev pub invariant-skipping : goal.invariant-skipping
 invariant-skipping g l = record {
   rest : option_map (after_first (λ b. b == 10)) (prepend_known l.self (g.S.Source.remaining l.source))

@@ -1,0 +1,6 @@
+pub mod Words
+pub mod Inputs
+pub mod LineWords
+pub mod LineResultViews
+pub mod Stops
+pub mod Causes

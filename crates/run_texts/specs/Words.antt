@@ -1,0 +1,19 @@
+-- The words of a command line, and what they ask for.
+use Rattle.std.specs.Prelude.{ℕ, List, [], ◌∷◌, Option, None, Some, codes, bytes_eq, if◌then◌else◌}
+use Rattle.run_texts.specs.declared.words.Mode.{Mode as Asked}
+use Rattle.run_texts.specs.declared.words.Mode.TheVariants as asked
+
+-- what a run is to do
+pub data Mode : Type 0 where
+  -- carry out a script from an empty store
+  Run : Mode
+
+-- what these words ask for; nothing where they are no words of the program
+abbrev pub mode_of : List (List ℕ) → Option Mode
+mode_of [] = None
+mode_of (word ∷ []) = if bytes_eq word (codes "run") then Some Run else None
+mode_of (word ∷ next ∷ words) = None
+
+-- the same of the code's own modes
+abbrev pub mode_view : Asked → Mode
+mode_view asked.Run = Run

@@ -1,0 +1,32 @@
+ghost use Rattle.std.specs.Prelude.{◌≡◌};
+
+use crate::{PeerStop, PlanStop};
+
+/// What ends a run in a command.
+#[derive(Drop)]
+pub enum CommandStop {
+    /// Nothing of it was sent.
+    Planning(PlanStop),
+    /// It ended in the exchange with the server.
+    Exchange(PeerStop),
+}
+
+impl From<PlanStop> for CommandStop {
+    ghost use Rattle.run_texts.specs.declared.command_stop.CommandStop.TheVariants.{Planning};
+
+    ghost from_gives = { λ plan stop. stop ≡ Planning plan };
+
+    fn from(stop: PlanStop) -> CommandStop {
+        CommandStop::Planning(stop)
+    }
+}
+
+impl From<PeerStop> for CommandStop {
+    ghost use Rattle.run_texts.specs.declared.command_stop.CommandStop.TheVariants.{Exchange};
+
+    ghost from_gives = { λ peer stop. stop ≡ Exchange peer };
+
+    fn from(stop: PeerStop) -> CommandStop {
+        CommandStop::Exchange(stop)
+    }
+}
