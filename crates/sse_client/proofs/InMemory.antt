@@ -3,7 +3,8 @@ use Rattle.std.proofs.Common.{◌≡◌, ℕ, List, [], ◌++◌, Option, None, 
 use Rattle.std.specs.Prelude.{IfSome}
 use Rattle.keyed_fn.specs.KeyedFn.{KeyedFn}
 use Rattle.server_core.specs.State.{ServerState, at_first}
-use Rattle.script_meaning.specs.Headline.{IsOverHonest, IsCalm, Headline}
+use Rattle.sse_agreement.specs.Taking.{Expects}
+use Rattle.script_meaning.specs.Headline.{IsOverHonest, IsUndisturbed, Headline}
 use Rattle.script_meaning.specs.Meaning.{meaning}
 use Rattle.script_meaning.specs.Session.{IsFree}
 use Rattle.link_events.proofs.Honest.{IsServed-dropped}
@@ -11,9 +12,9 @@ use Rattle.link_events.specs.Events.{Event, Remote}
 use Rattle.link_events.specs.Served as links
 use Rattle.link_events.specs.Served.{IsServed, idle}
 use Rattle.sse_link.specs.Told.{Told, told_first, served}
-use Rattle.sse_client.specs.Stands.{seen, IsHonest, HasHeadline}
+use Rattle.sse_client.specs.Stands.{outside_of, HasHonestStatus, HasHeadline}
 use Rattle.sse_client.specs.OverServer.{HasRunOverServer, PrintsAsRun, PrintsAsMeant}
-use Rattle.sse_client.proofs.Opening.{IfSome-then}
+use Rattle.sse_client.proofs.WholeRun.{IfSome-then}
 
 abbrev remote : ServerState → Option Remote
 remote state = Some (record { state = state })
@@ -23,8 +24,12 @@ state_in other None = other
 state_in other (Some r) = r.state
 
 -- what an honest transcript is, where nothing had passed before it
-over_honest : (f : KeyedFn) (past events : List Event) (state : ServerState) → past ≡ [] → links.IsHonest f at_first events state → IsOverHonest f (Some past) (Some events) state
+over_honest : (f : KeyedFn) (past events : List Event) (state : ServerState) → past ≡ [] → links.IsHonest f at_first events state → IsOverHonest f at_first (Some past) (Some events) state
 over_honest f past events state none honest = record { past = past; told = refl; events = events; adds = ap (λ xs. Some (xs ++ events)) (sym none); honest = honest }
+
+-- a server that has taken nothing expects a setup's first frame
+fresh_expects : Expects 0 at_first
+fresh_expects = record { next = refl; stage = refl }
 
 -- A link that is lent.
 
@@ -33,38 +38,38 @@ module _ (f : KeyedFn) (old new : Told) (fresh : old ≡ told_first at_first) (k
   over_server-honest =
       subst (λ s. IsServed f (idle s) new.events (idle new.state)) (ap (state_in at_first) kept ∙ ap (λ (t : Told). t.began) fresh) (IsServed-dropped f (idle new.began) (served new) new.events honest)
 
-  over : IsOverHonest f (Some old.events) (Some new.events) new.state
+  over : IsOverHonest f at_first (Some old.events) (Some new.events) new.state
   over = over_honest f old.events new.events new.state (ap (λ (t : Told). t.events) fresh) over_server-honest
 
   module _ (remaining before after : Option (List ℕ)) (status : ℕ) where
-    pub over_server-runs : IfSome remaining (λ bytes. IsHonest f bytes (seen (Some old.events) before) (seen (Some new.events) after) status)
-        → IfSome remaining (λ bytes. HasRunOverServer f bytes (seen (Some old.events) before) (seen (Some new.events) after) status)
-    over_server-runs = IfSome-then remaining (λ bytes. IsHonest f bytes (seen (Some old.events) before) (seen (Some new.events) after) status)
-        (λ bytes. HasRunOverServer f bytes (seen (Some old.events) before) (seen (Some new.events) after) status)
-        (λ bytes run. record { run = run.run; stopped = run.stopped new.state over })
+    pub over_server-runs : IfSome remaining (λ bytes. HasHonestStatus f bytes (outside_of (Some old.events) before) (outside_of (Some new.events) after) status)
+        → IfSome remaining (λ bytes. HasRunOverServer f bytes (outside_of (Some old.events) before) (outside_of (Some new.events) after) status)
+    over_server-runs = IfSome-then remaining (λ bytes. HasHonestStatus f bytes (outside_of (Some old.events) before) (outside_of (Some new.events) after) status)
+        (λ bytes. HasRunOverServer f bytes (outside_of (Some old.events) before) (outside_of (Some new.events) after) status)
+        (λ bytes run. record { run = run.run; stopped = run.stopped at_first new.state fresh_expects over })
 
-    pub over_server-headline : IsCalm status → IfSome remaining (λ bytes. HasHeadline f bytes (seen (Some old.events) before) (seen (Some new.events) after) status)
-        → IfSome remaining (λ bytes. IsFree f (meaning bytes).key (meaning bytes).history → Headline f (meaning bytes) (seen (Some old.events) before) (seen (Some new.events) after) status new.state)
-    over_server-headline calm = IfSome-then remaining (λ bytes. HasHeadline f bytes (seen (Some old.events) before) (seen (Some new.events) after) status)
-        (λ bytes. IsFree f (meaning bytes).key (meaning bytes).history → Headline f (meaning bytes) (seen (Some old.events) before) (seen (Some new.events) after) status new.state)
-        (λ bytes headline free. headline new.state over free calm)
+    pub over_server-headline : IsUndisturbed status → IfSome remaining (λ bytes. HasHeadline f bytes (outside_of (Some old.events) before) (outside_of (Some new.events) after) status)
+        → IfSome remaining (λ bytes. IsFree f (meaning bytes).key (meaning bytes).history → Headline f at_first (meaning bytes) (outside_of (Some old.events) before) (outside_of (Some new.events) after) status new.state)
+    over_server-headline calm = IfSome-then remaining (λ bytes. HasHeadline f bytes (outside_of (Some old.events) before) (outside_of (Some new.events) after) status)
+        (λ bytes. IsFree f (meaning bytes).key (meaning bytes).history → Headline f at_first (meaning bytes) (outside_of (Some old.events) before) (outside_of (Some new.events) after) status new.state)
+        (λ bytes headline free. headline at_first new.state fresh_expects over free calm)
 
 -- A link that is made and dropped: what is printed.
 
 module _ (f : KeyedFn) (old new : Told) (first : ServerState) (fresh : old ≡ told_first first) (honest : links.IsHonest f at_first new.events new.state) (remaining before after : Option (List ℕ)) (status : ℕ) where
-  pub in_memory-runs : IfSome remaining (λ bytes. HasRunOverServer f bytes (seen (Some old.events) before) (seen (Some new.events) after) status)
+  pub in_memory-runs : IfSome remaining (λ bytes. HasRunOverServer f bytes (outside_of (Some old.events) before) (outside_of (Some new.events) after) status)
       → IfSome remaining (λ bytes. PrintsAsRun f bytes before after status)
-  in_memory-runs = IfSome-then remaining (λ bytes. HasRunOverServer f bytes (seen (Some old.events) before) (seen (Some new.events) after) status) (λ bytes. PrintsAsRun f bytes before after status)
+  in_memory-runs = IfSome-then remaining (λ bytes. HasRunOverServer f bytes (outside_of (Some old.events) before) (outside_of (Some new.events) after) status) (λ bytes. PrintsAsRun f bytes before after status)
       (λ bytes run. record {
         told = Some new.events;
         state = new.state;
         over = over_honest f [] new.events new.state refl honest;
-        runs = subst (λ (t : Told). HasRunOverServer f bytes (seen (Some t.events) before) (seen (Some new.events) after) status) fresh run;
+        runs = subst (λ (t : Told). HasRunOverServer f bytes (outside_of (Some t.events) before) (outside_of (Some new.events) after) status) fresh run;
       })
 
-  pub in_memory-headline : IfSome remaining (λ bytes. IsFree f (meaning bytes).key (meaning bytes).history → Headline f (meaning bytes) (seen (Some old.events) before) (seen (Some new.events) after) status new.state)
+  pub in_memory-headline : IfSome remaining (λ bytes. IsFree f (meaning bytes).key (meaning bytes).history → Headline f at_first (meaning bytes) (outside_of (Some old.events) before) (outside_of (Some new.events) after) status new.state)
       → IfSome remaining (λ bytes. PrintsAsMeant f bytes before after status)
   in_memory-headline =
-      IfSome-then remaining (λ bytes. IsFree f (meaning bytes).key (meaning bytes).history → Headline f (meaning bytes) (seen (Some old.events) before) (seen (Some new.events) after) status new.state)
+      IfSome-then remaining (λ bytes. IsFree f (meaning bytes).key (meaning bytes).history → Headline f at_first (meaning bytes) (outside_of (Some old.events) before) (outside_of (Some new.events) after) status new.state)
       (λ bytes. PrintsAsMeant f bytes before after status)
       (λ bytes headline free. record { status_is = (headline free).status_is; q = (headline free).q; printed = (headline free).printed })

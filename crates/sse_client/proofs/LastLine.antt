@@ -12,13 +12,13 @@ use Rattle.script_meaning.specs.Exchange.{Told}
 use Rattle.script_meaning.specs.Stops as ends
 use Rattle.script_meaning.specs.Stops.{status_of, stop_text}
 use Rattle.sse_client.specs.LastLine.{HasLastLine, HasShortLine, IsWholeOrRose}
-use Rattle.sse_client.specs.Stands.{seen, OpensTo}
-use Rattle.sse_client.proofs.Opening.{has_run}
+use Rattle.sse_client.specs.Stands.{outside_of, OpensTo}
+use Rattle.sse_client.proofs.WholeRun.{has_run}
 
 module _ (f : KeyedFn) (now : Outside) (told told' : Told) (written written' : Option (List ℕ)) (stop : ends.Stop) (status : ℕ) (same : told' ≡ told) (is : status ≡ status_of stop) where
   -- a run with its last line
-  pub has_last_line : (remaining : Option (List ℕ)) → OpensTo f (lines_left [] remaining) now (seen told written) stop → written' ≡ append_known written (stop_text stop)
-      → IfSome remaining (λ bytes. HasLastLine f bytes now (seen told' written') status)
+  pub has_last_line : (remaining : Option (List ℕ)) → OpensTo f (lines_left [] remaining) now (outside_of told written) stop → written' ≡ append_known written (stop_text stop)
+      → IfSome remaining (λ bytes. HasLastLine f bytes now (outside_of told' written') status)
   unfolding has_run
   has_last_line None o whole = tt
   has_last_line (Some bytes) o whole = record {
@@ -27,8 +27,8 @@ module _ (f : KeyedFn) (now : Outside) (told told' : Told) (written written' : O
   }
 
   -- and with a front of it
-  pub has_short_line : (remaining : Option (List ℕ)) → OpensTo f (lines_left [] remaining) now (seen told written) stop → TookFront written written' (stop_text stop)
-      → IfSome remaining (λ bytes. HasShortLine f bytes now (seen told' written') status)
+  pub has_short_line : (remaining : Option (List ℕ)) → OpensTo f (lines_left [] remaining) now (outside_of told written) stop → TookFront written written' (stop_text stop)
+      → IfSome remaining (λ bytes. HasShortLine f bytes now (outside_of told' written') status)
   unfolding has_run
   has_short_line None o short = tt
   has_short_line (Some bytes) o short = record {
@@ -37,9 +37,9 @@ module _ (f : KeyedFn) (now : Outside) (told told' : Told) (written written' : O
   }
 
   -- what the last line and the sink's counts come to, where the count of faults stayed up to it unless the sink is what failed
-  pub last_line : (remaining : Option (List ℕ)) (f0 f1 f2 s0 s1 s2 : ℕ) → OpensTo f (lines_left [] remaining) now (seen told written) stop
+  pub last_line : (remaining : Option (List ℕ)) (f0 f1 f2 s0 s1 s2 : ℕ) → OpensTo f (lines_left [] remaining) now (outside_of told written) stop
       → TookOrRose written written' (stop_text stop) f1 f2 s1 s2 → (stop ≢ ends.SinkFault → f1 ≡ f0) → s0 ≤ s1
-      → IsWholeOrRose (IfSome remaining (λ bytes. HasLastLine f bytes now (seen told' written') status)) (IfSome remaining (λ bytes. HasShortLine f bytes now (seen told' written') status)) status f0 f2 s0 s2
+      → IsWholeOrRose (IfSome remaining (λ bytes. HasLastLine f bytes now (outside_of told' written') status)) (IfSome remaining (λ bytes. HasShortLine f bytes now (outside_of told' written') status)) status f0 f2 s0 s2
   last_line remaining f0 f1 f2 s0 s1 s2 o (inl whole) steady fewer = inl (has_last_line remaining o whole.0, λ other. whole.1 ∙ steady (λ e. other (is ∙ ap status_of e)))
   last_line remaining f0 f1 f2 s0 s1 s2 o (inr (short, inl rose)) steady fewer =
       let before : f1 ≡ f0 = steady (λ e. omega (arith, short.short, ap (λ s. length (stop_text s)) e)) in

@@ -13,7 +13,7 @@ use Rattle.sse_frames.specs.Frames.{FrameText, SearchFrame, IsBytes, frame_bytes
 use Rattle.sse_frames.specs.Replies.{ReplyText, Page, BadList, NoMemory, OutOfPlace, reply_bytes}
 use Rattle.sse_frames.specs.Sending.{page_each, pages_of, pages}
 use Rattle.server_core.specs.Refusal.{in_place}
-use Rattle.server_core.specs.Search.{found}
+use Rattle.server_core.specs.Search.{search_result}
 use Rattle.server_core.specs.State.{ServerState}
 use Rattle.server_core.specs.Step.{step, taken, answers}
 use Rattle.link_events.proofs.Honest.{Serves-frame, Answers-either}
@@ -25,7 +25,7 @@ use Rattle.sse_model.specs.Names.{name, Token}
 use Rattle.sse_script.specs.Shown.{Cause}
 use Rattle.script_meaning.specs.Exchange.{Told, IsCut, AreCut, as_event, bare, sent_in}
 use Rattle.sse_client.specs.Exchanges.{HasCut, NoneLacks, HasOwnMemory}
-use Rattle.sse_client.specs.declared.peer_stop.PeerStop.{PeerStop}
+use Rattle.run_texts.specs.declared.peer_stop.PeerStop.{PeerStop}
 
 -- Replies that don't say that the server lacked memory.
 
@@ -61,7 +61,7 @@ other_step : (f : KeyedFn) (s : ServerState) (token : List ℕ) → AllByRecursi
 other_step f s token = by (in_place s (SearchFrame token))
   where
     by : (placed : Bool) → AllByRecursion IsOther (map reply_bytes (stepped f s token placed).1)
-    by true = other_found (found f s (keys_of_bytes token))
+    by true = other_found (search_result f s (keys_of_bytes token))
     by false = (other (reply_bytes OutOfPlace) (inr (inr refl)), tt)
 
 other_answered : (f : KeyedFn) (s : ServerState) (token : List ℕ) (mark : Mark) (after : ServerState) (replies : List (List ℕ)) → Answers f s (SearchFrame token) mark after replies → AllByRecursion IsOther replies

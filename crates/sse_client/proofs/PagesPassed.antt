@@ -25,8 +25,8 @@ use Rattle.sse_client.specs.Exchanges.{HasSearched, HasCut}
 use Rattle.sse_client.specs.Stops.{cause_of_fault}
 use Rattle.script_meaning.proofs.Honest.{bare_received, events_received}
 use Rattle.sse_client.proofs.PagesRead.{joined, full_pages, pages-full, page-pages, at_place}
-use Rattle.sse_client.proofs.Parts.{AreCut-first, no_notice-answer, shows_fault}
-use Rattle.sse_client.proofs.Reading.{IsReading, page_replies, page_replies-push, adds_reply, joined_ids, all_received, full_in_replies}
+use Rattle.sse_client.proofs.PartOfExchange.{AreCut-first, no_notice-answer, shows_fault}
+use Rattle.sse_client.proofs.PagesUnderWay.{IsReading, page_replies, page_replies-push, adds_reply, joined_ids, all_received, full_in_replies}
 
 -- the last page ends the search
 pub HasSearched-last : (old now new : Told) (token items items' found : List ℕ) (count : ℕ) (reply ids : List ℕ) → IsReading old now token items count

@@ -1,4 +1,4 @@
--- Pages that come one behind the other: full ones and then the last are the pages of one answer, and each page of an answer may stand there.
+-- Pages that come one after the other: full ones and then the last are the pages of one answer, and each page of an answer may stand there.
 use Rattle.std.proofs.Common.{◌≡◌, ℕ, zero, suc, ◌+◌, ◌*◌, ◌<◌, ◌≤◌, Bool, true, false, List, [], ◌∷◌, ◌++◌, length, take, drop, map, refl, sym, ap, subst, ◌∙◌, length-take, length-drop, arith}
 use Rattle.std.specs.Prelude.{flat_map}
 use Rattle.std.specs.Int.{div_ceil}
@@ -83,6 +83,6 @@ page_in zero ids rs r more above e = only_page rs r more e
 page_in (suc n) ids rs r more above e =
     some_page (length rs) r (at_place IsSomePage rs r more (subst (AllByRecursion IsSomePage) (sym e) (some_pages n ids (omega (arith, above)))))
 
--- each reply among an answer's pages is a page, and not empty behind another
+-- each reply among an answer's pages is a page, and not empty after another
 pub page-pages : (ids : List ℕ) (rs : List ReplyText) (r : ReplyText) (more : List ReplyText) → rs ++ r ∷ more ≡ pages ids → IsPageBehind (length rs) r
 page-pages ids rs r more e = page_in (div_ceil (length ids) 8192) ids rs r more (div_ceil_times (length ids) 8192 (omega arith)).1 e

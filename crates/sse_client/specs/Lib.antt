@@ -2,12 +2,11 @@ pub mod Stops
 pub mod SetupFaults
 pub mod UpdateFaults
 pub mod UpdatePlans
-pub mod OutcomeViews
 pub mod Stages
-pub mod Words
 pub mod Progress
-pub mod Causes
 pub mod Exchanges
+pub mod Calls
 pub mod Stands
+pub mod Turns
 pub mod OverServer
 pub mod LastLine

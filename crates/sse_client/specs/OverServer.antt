@@ -2,7 +2,7 @@
 use Rattle.std.specs.Prelude.{◌≡◌, ◌≤◌, ℕ, List, [], ◌++◌, flat_map, take, Option, Some}
 use Rattle.std.specs.Io.KnownBytes.{append_known}
 use Rattle.keyed_fn.specs.KeyedFn.{KeyedFn}
-use Rattle.server_core.specs.State.{ServerState}
+use Rattle.server_core.specs.State.{ServerState, at_first}
 use Rattle.script_meaning.specs.Carries.{Outside}
 use Rattle.script_meaning.specs.Exchange.{Told}
 use Rattle.script_meaning.specs.Headline.{IsOverHonest}
@@ -10,7 +10,7 @@ use Rattle.script_meaning.specs.Meaning.{Meaning, meaning}
 use Rattle.script_meaning.specs.Session.{IsFree}
 use Rattle.script_meaning.specs.Stops.{status_of, stop_text}
 use Rattle.sse_script.specs.Texts.{text_of}
-use Rattle.sse_client.specs.Stands.{seen, HasRun}
+use Rattle.sse_client.specs.Stands.{outside_of, HasRun}
 
 -- a whole run: where its history up to its stop has no collision, no collision and no reply stopped it
 pub record HasRunOverServer (f : KeyedFn) (bytes : List ℕ) (now last : Outside) (status : ℕ) : Type 0 where
@@ -21,8 +21,8 @@ pub record HasRunOverServer (f : KeyedFn) (bytes : List ℕ) (now last : Outside
 pub record PrintsAsRun (f : KeyedFn) (bytes : List ℕ) (old new : Option (List ℕ)) (status : ℕ) : Type 0 where
   pub told : Told
   pub state : ServerState
-  pub over : IsOverHonest f (Some []) told state
-  pub runs : HasRunOverServer f bytes (seen (Some []) old) (seen told new) status
+  pub over : IsOverHonest f at_first (Some []) told state
+  pub runs : HasRunOverServer f bytes (outside_of (Some []) old) (outside_of told new) status
 
 -- a script of this meaning has this status and printed its lines, and a front of the line that says why it stopped
 pub record PrintsMeaning (m : Meaning) (old new : Option (List ℕ)) (status : ℕ) : Type 0 where

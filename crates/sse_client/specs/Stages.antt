@@ -1,20 +1,21 @@
--- The key of a session, and how many words a line has.
-use Rattle.std.specs.Prelude.{ℕ, List, length}
-use Rattle.sse_script.specs.Lines.{Line, Empty, Key, Doc, SetupLine, AddLine, Del, Find}
+-- The keys of a session.
+use Rattle.std.specs.Prelude.{ℕ, List}
+use Rattle.keyed_fn.specs.KeyFormulas.{plain_key}
+use Rattle.keyed_fn.specs.KeyedFn.{KeyedFn}
+use Rattle.word_keys.specs.HashNumbers.{numbers_of_key}
 use Rattle.sse_client.specs.declared.session.Stage.{Stage}
 use Rattle.sse_client.specs.declared.session.Stage.TheVariants.{Collecting, Searching}
 
--- the key of a session
+-- the key of the client that it holds
 abbrev pub key_of : Stage → List ℕ
 key_of (Collecting client docs) = client.key
 key_of (Searching client) = client.key
 
--- how many words of a document a line has
-abbrev pub words_in : Line → ℕ
-words_in Empty = 0
-words_in (Key key) = 0
-words_in (Doc id words) = length words
-words_in (SetupLine b big) = 0
-words_in (AddLine id words) = length words
-words_in (Del id) = 0
-words_in (Find word) = 0
+-- the two numbers under which its tables hash identifiers and words
+abbrev pub hash_keys_of : Stage → ℕ × ℕ
+hash_keys_of (Collecting client docs) = docs.keys
+hash_keys_of (Searching client) = client.state.registry.keys
+
+-- those of a master key, which are its part 13
+abbrev pub hash_keys_under : KeyedFn → List ℕ → ℕ × ℕ
+hash_keys_under f key = numbers_of_key (plain_key f key 13)

@@ -4,14 +4,16 @@ use Rattle.client_core.specs.StandsFor.{StandsFor}
 use Rattle.client_registry.specs.Acceptance.{setup_refusal}
 use Rattle.client_registry.specs.Histories.{is_set_up}
 use Rattle.client_registry.specs.Live.{in_order}
-use Rattle.client_registry.specs.Run.{History, Run}
+use Rattle.client_registry.specs.Run.{History, Run, at_first}
 use Rattle.keyed_fn.specs.KeyedFn.{KeyedFn}
 use Rattle.server_core.specs.State.{ServerState}
-use Rattle.script_meaning.specs.Headline.{IsOverHonest, IsCalm, Headline, SendsSimulated}
+use Rattle.sse_agreement.specs.Taking.{Expects}
+use Rattle.script_meaning.specs.Headline.{IsOverHonest, IsUndisturbed, Headline, SendsSimulated}
 use Rattle.script_meaning.specs.Meaning.{meaning}
 use Rattle.script_meaning.specs.Session.{IsFree}
-use Rattle.sse_script.specs.Shown.{Cause, BadWords, BadLine, SourceFault, NoMemory}
-use Rattle.script_meaning.specs.Carries.{Outside, with_answers, IsSent, Carries, StopsIn}
+use Rattle.sse_script.specs.Shown.{Cause, BadWords, NoMemory}
+use Rattle.sse_model.specs.Epochs.{keys_under}
+use Rattle.script_meaning.specs.Carries.{Outside, keys_at, with_answers, IsSent, Carries, StopsIn}
 use Rattle.script_meaning.specs.Exchange.{Told}
 use Rattle.script_meaning.specs.Lines.{Request, script_lines}
 use Rattle.script_meaning.specs.Outcome.{Place, Outcome, outcome, after, shown_by, is_refusal}
@@ -21,37 +23,38 @@ use Rattle.script_meaning.specs.Runs.{Ended, ended, Opens, Ends, Moment, RunsFro
 use Rattle.script_meaning.specs.Stops as ends
 use Rattle.script_meaning.specs.Stops.{status_of}
 use Rattle.sse_script.specs.Lines.{Line, Doc, SetupLine, AddLine, Del, Find}
-use Rattle.sse_client.specs.Stages.{key_of}
-use Rattle.sse_client.specs.OutcomeViews.{outcome_view, refuses}
-use Rattle.sse_client.specs.Stops.{peer_cause}
-use Rattle.sse_client.specs.declared.outcome.Outcome.{Outcome as Came}
-use Rattle.sse_client.specs.declared.run.Refusals.{Refusals}
-use Rattle.sse_client.specs.declared.run.Refusals.TheVariants as refusals
+use Rattle.sse_client.specs.Stages.{key_of, hash_keys_of, hash_keys_under}
+use Rattle.run_texts.specs.LineResultViews.{line_result_view, refuses}
+use Rattle.run_texts.specs.Stops.{command_cause, input_cause}
+use Rattle.run_texts.specs.declared.line_result.LineResult.{LineResult}
+use Rattle.sse_client.specs.declared.lines.Refusals.{Refusals}
+use Rattle.sse_client.specs.declared.lines.Refusals.TheVariants as refusals
 use Rattle.sse_client.specs.declared.session.Stage.{Stage}
 use Rattle.sse_client.specs.declared.session.Stage.TheVariants.{Collecting, Searching}
-use Rattle.sse_client.specs.declared.stop.Stop.{Stop}
-use Rattle.sse_client.specs.declared.stop.Stop.TheVariants as stops
+use Rattle.run_texts.specs.declared.stop_cause.StopCause.{StopCause}
+use Rattle.run_texts.specs.declared.stop_cause.StopCause.TheVariants as stops
 
 -- a session that is set up stands for this run
 abbrev pub IsReady : KeyedFn → List ℕ → Run → Stage → Type 0
 IsReady f key run (Collecting client docs) = ⊥
-IsReady f key run (Searching client) = StandsFor f key run client.state
+IsReady f key run (Searching client) = StandsFor f (keys_under key (Some run)) at_first run client.state
 
--- a session collects the documents of a place that isn't set up, and behind the setup it stands for the history of the place
+-- a session collects the documents of a place that isn't set up, and after the setup it stands for the history of the place
 abbrev pub IsStage : KeyedFn → Stage → Place → Type 0
-IsStage f (Collecting client docs) place = (docs ≡ place.documents) × (is_set_up place.history ≡ false)
-IsStage f (Searching client) place = (run : Run) × (place.history ≡ Some run) × StandsFor f place.key run client.state
+IsStage f (Collecting client docs) place = (docs.documents ≡ place.documents) × (is_set_up place.history ≡ false)
+IsStage f (Searching client) place = (run : Run) × (place.history ≡ Some run) × StandsFor f (keys_at place) at_first run client.state
 
--- a session stands at a place of its script, under its key
+-- a session stands at a place of its script, under its key, and hashes under numbers that are made of that key
 pub record IsAt (f : KeyedFn) (stage : Stage) (place : Place) : Type 0 where
   pub key : key_of stage ≡ place.key
   pub stands : IsStage f stage place
+  pub hashed : hash_keys_of stage ≡ hash_keys_under f place.key
 
 -- a session may stop in this line: no refusal stands that is found without memory, as those of the stage, of the identifier
 -- zero, of a setup's size, of a bad word, and of a deletion
 abbrev pub MayStop : KeyedFn → Stage → Line → Type 0
 MayStop f (Collecting client docs) (Doc id words) = id ≢ 0
-MayStop f (Collecting client docs) (SetupLine b big) = setup_refusal docs b big ≡ None
+MayStop f (Collecting client docs) (SetupLine b big) = setup_refusal docs.documents b big ≡ None
 MayStop f (Searching client) (AddLine id words) = id ≢ 0
 MayStop f (Searching client) (Del id) = (place : Place) → IsAt f (Searching client) place → delete_refusal place.history id ≡ None
 MayStop f (Searching client) (Find word) = bad_word 0 (word ∷ []) ≡ None
@@ -59,36 +62,35 @@ MayStop f _ _ = ⊥
 
 -- a session goes on at this stage, with this outcome of a command: it exchanged all frames of what the command comes to at
 -- this place, and shows that with the answers that came to its searches
-pub record GoesOn (f : KeyedFn) (old new : Told) (next : Stage) (came : Came) (place : Place) (result : Outcome) : Type 0 where
+pub record GoesOn (f : KeyedFn) (old new : Told) (next : Stage) (came : LineResult) (place : Place) (result : Outcome) : Type 0 where
   pub answers : List (List ℕ)
   pub sent : IsSent f place result old new answers
-  pub shown : outcome_view came ≡ with_answers (map in_order answers) (shown_by result)
+  pub shown : line_result_view came ≡ with_answers (map in_order answers) (shown_by result)
   pub refuses : refuses came ≡ is_refusal result
   pub stands : IsAt f next (after result place)
 
 -- wherever a session may stand, it does with a command what is to be done there
-abbrev pub Takes : KeyedFn → Stage → Request → Told → Told → Stage → Came → Type 0
+abbrev pub Takes : KeyedFn → Stage → Request → Told → Told → Stage → LineResult → Type 0
 Takes f stage request old new next came = (place : Place) → IsAt f stage place → GoesOn f old new next came place (outcome place request)
 
 -- what is seen of a run
-abbrev pub seen : Told → Option (List ℕ) → Outside
-seen told written = record { told = told; written = written }
+abbrev pub outside_of : Told → Option (List ℕ) → Outside
+outside_of told written = record { told = told; written = written }
 
 -- wherever a session may stand, a command stops the run there, for this cause, and prints nothing
 abbrev pub StopsWithin : KeyedFn → Stage → Request → Told → Told → Cause → Type 0
 StopsWithin f stage request old new cause =
-    (place : Place) → IsAt f stage place → (written : Option (List ℕ)) → StopsIn f place (outcome place request) (seen old written) (seen new written) (ends.At cause)
+    (place : Place) → IsAt f stage place → (written : Option (List ℕ)) → StopsIn f place (outcome place request) (outside_of old written) (outside_of new written) (ends.At cause)
 
 -- what stopped a run before the end of its script
-abbrev pub stop_seen : Stop → ends.Stop
-stop_seen stops.Words = ends.At BadWords
-stop_seen (stops.Line number) = ends.At (BadLine number)
-stop_seen stops.Source = ends.At SourceFault
-stop_seen stops.Sink = ends.SinkFault
-stop_seen stops.Memory = ends.At NoMemory
-stop_seen (stops.Peer stop) = ends.At (peer_cause stop)
+abbrev pub stop_view : StopCause → ends.Stop
+stop_view stops.Words = ends.At BadWords
+stop_view (stops.Input stop) = ends.At (input_cause stop)
+stop_view stops.Sink = ends.SinkFault
+stop_view stops.Memory = ends.At NoMemory
+stop_view (stops.Command stop) = ends.At (command_cause stop)
 
--- a command is carried out: all its frames were exchanged and its lines printed, and the session goes on behind it
+-- a command is carried out: all its frames were exchanged and its lines printed, and the session goes on after it
 pub record HasCarried (f : KeyedFn) (place : Place) (result : Outcome) (now next : Outside) (stage : Stage) (refused : Bool) : Type 0 where
   pub carries : Carries f place result now next
   pub stands : IsAt f stage (after result place)
@@ -122,11 +124,11 @@ pub record HasRun (f : KeyedFn) (bytes : List ℕ) (now last : Outside) (status 
   pub ends : Ends end last
   pub status_is : status ≡ status_of end.stop
 
--- a whole run that, over an honest link from a server that had taken nothing, no collision and no reply stopped, where its
--- history up to its stop has no collision
-pub record IsHonest (f : KeyedFn) (bytes : List ℕ) (now last : Outside) (status : ℕ) : Type 0 where
+-- a whole run that, over an honest link from a server that expects a setup's first frame, whatever else it holds, no collision
+-- and no reply stopped, where its history up to its stop has no collision
+pub record HasHonestStatus (f : KeyedFn) (bytes : List ℕ) (now last : Outside) (status : ℕ) : Type 0 where
   pub run : HasRun f bytes now last status
-  pub stopped : (state : ServerState) → IsOverHonest f now.told last.told state → IsFree f run.end.key run.end.history → status ≤ 7
+  pub stopped : (before state : ServerState) → Expects 0 before → IsOverHonest f before now.told last.told state → IsFree f run.end.key run.end.history → status ≤ 7
 
 -- a whole run in which the frames that were sent are the first that the simulator makes of the history up to its stop, the
 -- command in hand included, whatever the link replied
@@ -137,5 +139,5 @@ pub record HasSimulatedRun (f : KeyedFn) (bytes : List ℕ) (now last : Outside)
 -- where nothing disturbed a run, it did what its script means
 abbrev pub HasHeadline : KeyedFn → List ℕ → Outside → Outside → ℕ → Type 0
 HasHeadline f bytes now last status =
-    (state : ServerState) → IsOverHonest f now.told last.told state → IsFree f (meaning bytes).key (meaning bytes).history → IsCalm status
-    → Headline f (meaning bytes) now last status state
+    (before state : ServerState) → Expects 0 before → IsOverHonest f before now.told last.told state → IsFree f (meaning bytes).key (meaning bytes).history → IsUndisturbed status
+    → Headline f before (meaning bytes) now last status state

@@ -1,61 +1,76 @@
-ghost use Rattle.std.specs.Prelude.{◌≡◌, ◌≢◌, ◌≤◌, ◌<◌, ◌^◌, ℕ, [], ◌∷◌, Some, Err, length, take, IfOk, IfErr, OnOk, IfSome, IsErrOf};
-ghost use Rattle.sse_outside.specs.Causes.{Rose};
-ghost use Rattle.sse_frames.specs.Frames.{Hello, IsFrame};
-ghost use Rattle.sse_frames.specs.Replies.{Next, StoreFault, reply_bytes};
-ghost use Rattle.sse_frames.specs.Seen.{seen_reply};
-ghost use Rattle.sse_client.specs.Exchanges.{HasExchanged, HasCut};
+ghost use Rattle.std.specs.Prelude.{◌≡◌, ◌≢◌, ◌<◌, ◌^◌, ℕ, [], ◌∷◌, true, Some, IfErr, IfSome, OnOk};
+ghost use Rattle.link_events.specs.Events.{Sent};
+ghost use Rattle.link_events.specs.declared.mark.Mark.{Mark};
+ghost use Rattle.run_texts.specs.Causes.{PeerCause};
+ghost use Rattle.run_texts.specs.Stops.{peer_cause};
+ghost use Rattle.script_meaning.specs.Exchange.{Adds};
+ghost use Rattle.script_meaning.specs.Greeting.{Greets, TurnsAway};
+ghost use Rattle.sse_client.specs.Calls.{shows, KeepsLink};
 ghost use Rattle.sse_client.specs.Progress.{IsAnswered, IsUnanswered, next_number};
-ghost use Rattle.sse_client.specs.Causes.{PeerCause};
-ghost use Rattle.sse_client.specs.Stops.{peer_cause};
+ghost use Rattle.sse_frames.specs.Frames.{IsFrame};
+ghost use Rattle.sse_frames.specs.Replies.{Next, StoreFault, reply_bytes};
+ghost use Rattle.sse_frames.specs.FrameViews.{reply_view};
+ghost use Rattle.sse_outside.specs.Causes.{Rose};
 
-use crate::peer_stop::PeerStop;
+use crate::peer_fault::{stop_of_link, stop_of_reply};
+use crate::reply_buffer::ReplyBuffer;
 use client_replies::fault_of;
+use run_texts::PeerStop;
 use sse_frames::{Frame, Reply, read_reply, write_frame};
 use sse_link::Link;
 use std::alloc::Global;
 
-/// Sends a frame of the grammar and receives its first reply at the front of `room`, and answers how many bytes it has.
+/// Sends a frame of the grammar.
+pub(crate) fn send<L: Link>(link: &mut L, frame: &[u8]) -> Result<(), PeerStop>
+    requires frame { IsFrame frame.now }
+    ensures due { OnOk result (L.reply_due link.new ≡ true) }
+    ensures sent { OnOk result ((mark : Mark) × Adds (L.transcript link.old) (L.transcript link.new) (Sent frame.now mark ∷ [])) }
+    ensures unanswered { IfErr result (λ stop. IsUnanswered (L.transcript link.old) (L.transcript link.new) frame.now (peer_cause stop)) }
+    ensures keeps { KeepsLink PeerCause (shows (L.transcript link.old) (L.faults link.old) (L.began link.old)) (shows (L.transcript link.new) (L.faults link.new) (L.began link.new)) result }
+{
+    match link.send(frame) {
+        Ok(()) => Ok(()),
+        Err(fault) => Err(stop_of_link(fault)),
+    }
+}
+
+/// Sends a frame of the grammar and receives its first reply.
 pub(crate) fn exchange<L: Link>(
     link: &mut L,
     frame: &[u8],
-    room: &mut [u8],
-) -> Result<usize, PeerStop>
+    buffer: &mut ReplyBuffer,
+) -> Result<(), PeerStop>
     requires frame { IsFrame frame.now }
-    requires room { 65544 ≤ length room.old }
-    ensures answered { IfOk result (λ n. IsAnswered (L.transcript link.old) (L.transcript link.new) frame.now (take n room.new)) }
+    ensures answered { OnOk result (IsAnswered (L.transcript link.old) (L.transcript link.new) frame.now buffer.new) }
     ensures unanswered { IfErr result (λ stop. IsUnanswered (L.transcript link.old) (L.transcript link.new) frame.now (peer_cause stop)) }
-    ensures size { IfOk result (λ n. n ≤ length room.new) }
     ensures began { L.began link.new ≡ L.began link.old }
-    ensures store_fault { IfOk result (λ n. take n room.new ≡ reply_bytes StoreFault → Rose (L.faults link.old) (L.faults link.new)) }
-    ensures steady { IfOk result (λ n. take n room.new ≢ reply_bytes StoreFault → L.faults link.new ≡ L.faults link.old) }
+    ensures store_fault { OnOk result (buffer.new ≡ reply_bytes StoreFault → Rose (L.faults link.old) (L.faults link.new)) }
+    ensures steady { OnOk result (buffer.new ≢ reply_bytes StoreFault → L.faults link.new ≡ L.faults link.old) }
     ensures cause { IfErr result (PeerCause (L.faults link.old) (L.faults link.new)) }
-    ensures no_label_clash { (first second : ℕ) → result ≢ Err (PeerStop.LabelClash first second) }
-    ensures no_place_clash { (first second : ℕ) → result ≢ Err (PeerStop.PlaceClash first second) }
 {
-    link.send(frame)?;
-    let size = link.recv(room)?;
-    Ok(size)
+    send(link, frame)?;
+    buffer.receive(link)
 }
 
-/// Opens the session: sends Hello, to which a server that has taken nothing answers Next(0).
-pub(crate) fn greet<L: Link>(alloc: Global, link: &mut L, room: &mut [u8]) -> Result<(), PeerStop>
-    requires { 65544 ≤ length room.old }
-    ensures opened { OnOk result (HasExchanged (L.transcript link.old) (L.transcript link.new) [] (Hello ∷ [])) }
-    ensures turned_away { IfErr result (λ stop. HasCut (L.transcript link.old) (L.transcript link.new) (Hello ∷ []) (peer_cause stop)) }
-    ensures began { L.began link.new ≡ L.began link.old }
-    ensures steady { OnOk result (L.faults link.new ≡ L.faults link.old) }
-    ensures cause { IfErr result (PeerCause (L.faults link.old) (L.faults link.new)) }
-    ensures no_label_clash { (first second : ℕ) → result ≢ Err (PeerStop.LabelClash first second) }
-    ensures no_place_clash { (first second : ℕ) → result ≢ Err (PeerStop.PlaceClash first second) }
+/// Opens the session: sends Hello, to which a server answers by the number of the update that it expects: one that has taken
+/// nothing by 0.
+pub(crate) fn greet<L: Link>(
+    alloc: Global,
+    link: &mut L,
+    buffer: &mut ReplyBuffer,
+) -> Result<(), PeerStop>
+    ensures opened { OnOk result (Greets 0 0 (L.transcript link.old) (L.transcript link.new)) }
+    ensures turned_away { IfErr result (λ stop. TurnsAway 0 0 (L.transcript link.old) (L.transcript link.new) (peer_cause stop)) }
+    ensures keeps { KeepsLink PeerCause (shows (L.transcript link.old) (L.faults link.old) (L.began link.old)) (shows (L.transcript link.new) (L.faults link.new) (L.began link.new)) result }
 {
     let mut hello = Vec::new(alloc);
     write_frame(&Frame::Hello, &mut hello)?;
-    let size = exchange(link, &hello, room)?;
-    let (reply, _) = room.split_at(size);
+    exchange(link, &hello, buffer)?;
+    let reply = buffer.reply();
     match next_in(reply) {
         Some(0) => Ok(()),
         Some(got) => Err(PeerStop::Elsewhere { got }),
-        None => Err(PeerStop::of_fault(fault_of(reply), reply)),
+        None => Err(stop_of_reply(fault_of(reply), reply)),
     }
 }
 
@@ -81,7 +96,7 @@ fn next_in(bytes: &[u8]) -> Option<u32>
 
 /// The number of a Next reply.
 fn number_of(reply: Reply<'_>) -> Option<u32>
-    ensures { result ≡ next_number (seen_reply reply.entry) }
+    ensures { result ≡ next_number (reply_view reply.entry) }
 {
     match reply {
         Reply::Next(number) => Some(number),

@@ -1,19 +1,19 @@
 ghost use Rattle.std.specs.Prelude.{◌≡◌, Some};
 ghost use Rattle.sse_client.specs.UpdateFaults.{update_of_line, update_of_command};
 
-use crate::peer_stop::PeerStop;
 use client_core::CommandFault;
 use client_registry::Zero;
 use line_documents::LineFault;
+use run_texts::PlanStop;
 use sse_script::Refusal;
 
 /// Why an addition or a deletion isn't planned.
-#[derive(Debug, Drop)]
+#[derive(Drop)]
 pub(crate) enum UpdateFault {
     /// The command is refused.
     Refused(Refusal),
     /// The run ends: two values are equal, or there is no memory.
-    Stopped(PeerStop),
+    Stopped(PlanStop),
 }
 
 impl From<Zero> for UpdateFault {
@@ -33,7 +33,7 @@ impl From<LineFault> for UpdateFault {
     fn from(fault: LineFault) -> UpdateFault {
         match fault {
             LineFault::Refused(refusal) => UpdateFault::Refused(refusal),
-            LineFault::NoMemory => UpdateFault::Stopped(PeerStop::Memory),
+            LineFault::NoMemory => UpdateFault::Stopped(PlanStop::Memory),
         }
     }
 }
@@ -52,12 +52,12 @@ impl From<CommandFault> for UpdateFault {
             }),
             CommandFault::HistoryFull => UpdateFault::Refused(Refusal::HistoryFull),
             CommandFault::LabelClash { first, second } => UpdateFault::Stopped(
-                PeerStop::LabelClash { first, second },
+                PlanStop::LabelClash { first, second },
             ),
             CommandFault::NumberClash { first, second } => UpdateFault::Stopped(
-                PeerStop::NumberClash { first, second },
+                PlanStop::NumberClash { first, second },
             ),
-            CommandFault::NoMemory => UpdateFault::Stopped(PeerStop::Memory),
+            CommandFault::NoMemory => UpdateFault::Stopped(PlanStop::Memory),
         }
     }
 }

@@ -1,115 +1,107 @@
-ghost use Rattle.std.specs.Prelude.{◌≡◌, ◌≢◌, ◌≤◌, ◌^◌, ◌∷◌, [], ℕ, List, Option, false, None, Err, length, IfErr, IfOk, IfSome, OnOk, OnErr};
+ghost use Rattle.std.specs.Prelude.{◌≡◌, ◌≤◌, ◌^◌, ◌∷◌, [], ℕ, List, Option, false, None, Err, length, IfErr, IfOk, IfSome, OnErr};
 ghost use Rattle.client_core.specs.StandsFor.{CanCommit};
 ghost use Rattle.client_registry.specs.Command.{Command, Add, Delete};
 ghost use Rattle.keyed_fn.specs.KeyedFn.{KeyedFn, keyed_fn};
-ghost use Rattle.sse_frames.specs.Frames.{IsFrame};
-ghost use Rattle.sse_script.specs.Shown.{Shown};
-ghost use Rattle.sse_script.specs.declared.refusal.Refusal.{Refusal as Reason};
 ghost use Rattle.line_documents.specs.LineDocument.{document};
+ghost use Rattle.run_texts.specs.Causes.{CommandCause};
+ghost use Rattle.run_texts.specs.LineResultViews.{line_result_view, refuses};
+ghost use Rattle.run_texts.specs.Stops.{command_cause};
+ghost use Rattle.run_texts.specs.declared.plan_stop.PlanStop.{PlanStop as WhyUnsent};
+ghost use Rattle.script_meaning.specs.Carries.{StopsIn, with_answers};
 ghost use Rattle.script_meaning.specs.Outcome.{Place, Does, unless};
 ghost use Rattle.script_meaning.specs.Refused.{add_refusal, delete_refusal};
 ghost use Rattle.script_meaning.specs.Stops as ends;
-ghost use Rattle.script_meaning.specs.Carries.{StopsIn, with_answers};
-ghost use Rattle.sse_client.specs.Causes.{PeerCause};
-ghost use Rattle.sse_client.specs.OutcomeViews.{outcome_view, refuses};
+ghost use Rattle.sse_client.specs.Calls.{shows, KeepsLink};
 ghost use Rattle.sse_client.specs.Stages.{key_of};
-ghost use Rattle.sse_client.specs.Stands.{IsAt, GoesOn, seen};
-ghost use Rattle.sse_client.specs.Stops.{peer_cause};
+ghost use Rattle.sse_client.specs.Stands.{IsAt, GoesOn, outside_of};
 ghost use Rattle.sse_client.specs.UpdatePlans.{IsRefused, IsUpdatePlan};
 ghost use Rattle.sse_client.specs.declared.session.Stage.TheVariants.{Searching};
+ghost use Rattle.sse_frames.specs.Frames.{IsFrame};
+ghost use Rattle.sse_script.specs.Shown.{Shown};
+ghost use Rattle.sse_script.specs.declared.refusal.Refusal.{Refusal as Reason};
 
-use crate::outcome::Outcome;
-use crate::peer_stop::PeerStop;
+use crate::reply_buffer::ReplyBuffer;
+use crate::sending::catch_up;
 use crate::session::Stage;
-use crate::setting_up::catch_up;
+use crate::tools::Tools;
 use crate::update_fault::UpdateFault;
 use client_core::{Client, PlannedUpdate, Ready};
 use client_registry::DocId;
 use keyed_fn::Keyed;
 use line_documents::document_of;
+use run_texts::{CommandStop, LineResult};
 use sse_link::Link;
 use sse_script::{Fields, Refusal};
-use std::alloc::Global;
-use word_keys::PreparedMaster;
 
 /// Plans the addition of an `add` line. The session stands where it stood.
 pub(crate) fn plan_addition<K: Keyed>(
-    alloc: Global,
-    keyed: &K,
-    master: &PreparedMaster<K>,
+    tools: &Tools<'_, K>,
     client: &mut Client<Ready>,
     id: u64,
     fields: Fields<'_>,
 ) -> Result<PlannedUpdate, UpdateFault>
-    requires prepared { master.now ≡ client.old.key }
+    requires prepared { tools.now.master ≡ client.old.key }
     requires words { length fields ≤ 2 ^ 19 }
     ensures key { client.new.key ≡ client.old.key }
     ensures stands { (place : Place) → IsAt (keyed_fn K.prf K.pad) (Searching client.old) place → IsAt (keyed_fn K.prf K.pad) (Searching client.new) place }
     ensures plan { (place : Place) → IsAt (keyed_fn K.prf K.pad) (Searching client.old) place → IsUpdatePlan (keyed_fn K.prf K.pad) place (add_refusal place.history (document id fields.entry)) (Add (document id fields.entry)) result }
     ensures zero { id ≡ 0 → result ≡ Err (UpdateFault.Refused Refusal.Zero) }
-    ensures not_link { result ≢ Err (UpdateFault.Stopped PeerStop.Link) }
     ensures frame { IfOk result (λ planned. IsFrame planned.frame.items) }
     ensures commits { IfOk result (λ planned. CanCommit client.new.state planned) }
 {
-    let doc = document_of(alloc, id, fields)?;
-    Ok(client.plan_add(alloc, keyed, master, doc)?)
+    let doc = document_of(tools.alloc, id, fields)?;
+    Ok(client.plan_add(tools.alloc, tools.keyed, &tools.master, doc)?)
 }
 
 /// Plans the deletion of a `del` line. The session stands where it stood.
 pub(crate) fn plan_deletion<K: Keyed>(
-    alloc: Global,
-    keyed: &K,
-    master: &PreparedMaster<K>,
+    tools: &Tools<'_, K>,
     client: &mut Client<Ready>,
     id: u64,
 ) -> Result<PlannedUpdate, UpdateFault>
-    requires prepared { master.now ≡ client.old.key }
+    requires prepared { tools.now.master ≡ client.old.key }
     ensures key { client.new.key ≡ client.old.key }
     ensures stands { (place : Place) → IsAt (keyed_fn K.prf K.pad) (Searching client.old) place → IsAt (keyed_fn K.prf K.pad) (Searching client.new) place }
     ensures plan { (place : Place) → IsAt (keyed_fn K.prf K.pad) (Searching client.old) place → IsUpdatePlan (keyed_fn K.prf K.pad) place (delete_refusal place.history id) (Delete id) result }
     ensures refused { (place : Place) → IsAt (keyed_fn K.prf K.pad) (Searching client.old) place → IfSome (delete_refusal place.history id) (λ refusal. result ≡ Err (UpdateFault.Refused refusal)) }
-    ensures not_link { result ≢ Err (UpdateFault.Stopped PeerStop.Link) }
     ensures frame { IfOk result (λ planned. IsFrame planned.frame.items) }
     ensures commits { IfOk result (λ planned. CanCommit client.new.state planned) }
 {
     let id = DocId::new(id)?;
-    Ok(client.plan_delete(alloc, keyed, master, id)?)
+    Ok(client.plan_delete(tools.alloc, tools.keyed, &tools.master, id)?)
 }
 
 /// Carries out an update by its plan, or says why there is none, and the session stands where it stood. `done` is its outcome
 /// once the server has acknowledged it.
-pub(crate) fn carry_out<L: Link>(
+pub(crate) fn send_update<L: Link>(
     client: Client<Ready>,
     planned: Result<PlannedUpdate, UpdateFault>,
-    done: Outcome,
+    done: LineResult,
     link: &mut L,
-    room: &mut [u8],
-) -> Result<(Stage, Outcome), PeerStop>
+    buffer: &mut ReplyBuffer,
+) -> Result<(Stage, LineResult), CommandStop>
     requires commits { IfOk planned (CanCommit client.state) }
     requires frame { IfOk planned (λ planned. IsFrame planned.frame.items) }
-    requires not_link { planned ≢ Err (UpdateFault.Stopped PeerStop.Link) }
     requires accepts { refuses done ≡ false }
-    requires room { 65544 ≤ length room.old }
-    ensures goes_on { IfOk result (λ went. (f : KeyedFn) (place : Place) (refusal : Option Reason) (c : Command) (shown : Shown) → IsAt f (Searching client) place → IsUpdatePlan f place refusal c planned → outcome_view done ≡ with_answers [] (shown ∷ []) →
+    ensures goes_on { IfOk result (λ went. (f : KeyedFn) (place : Place) (refusal : Option Reason) (c : Command) (shown : Shown) → IsAt f (Searching client) place → IsUpdatePlan f place refusal c planned → line_result_view done ≡ with_answers [] (shown ∷ []) →
         GoesOn f (L.transcript link.old) (L.transcript link.new) went.0 went.1 place (unless refusal (Does (c ∷ []) shown))) }
     ensures stops { IfErr result (λ stop. (f : KeyedFn) (place : Place) (refusal : Option Reason) (c : Command) (shown : Shown) → IsAt f (Searching client) place → IsUpdatePlan f place refusal c planned →
-        (written : Option (List ℕ)) → StopsIn f place (unless refusal (Does (c ∷ []) shown)) (seen (L.transcript link.old) written) (seen (L.transcript link.new) written) (ends.At (peer_cause stop))) }
+        (written : Option (List ℕ)) → StopsIn f place (unless refusal (Does (c ∷ []) shown)) (outside_of (L.transcript link.old) written) (outside_of (L.transcript link.new) written) (ends.At (command_cause stop))) }
     ensures may_stop { OnErr result (IsRefused planned → ⊥) }
+    ensures as_planned { (stop : WhyUnsent) → planned ≡ Err (UpdateFault.Stopped stop) → result ≡ Err (CommandStop.Planning stop) }
     ensures same_key { IfOk result (λ went. key_of went.0 ≡ client.key) }
-    ensures began { L.began link.new ≡ L.began link.old }
-    ensures steady { OnOk result (L.faults link.new ≡ L.faults link.old) }
-    ensures cause { IfErr result (PeerCause (L.faults link.old) (L.faults link.new)) }
+    ensures keeps { KeepsLink CommandCause (shows (L.transcript link.old) (L.faults link.old) (L.began link.old)) (shows (L.transcript link.new) (L.faults link.new) (L.began link.new)) result }
 {
     match planned {
         Ok(planned) => {
-            let ready = catch_up(client.commit(planned), link, room)?;
+            let ready = catch_up(client.commit(planned), link, buffer)?;
             Ok((Stage::Searching(ready), done))
         }
         Err(fault) => match fault {
             UpdateFault::Refused(refusal) => {
-                Ok((Stage::Searching(client), Outcome::Refused(refusal)))
+                Ok((Stage::Searching(client), LineResult::Refused(refusal)))
             }
-            UpdateFault::Stopped(stop) => Err(stop),
+            UpdateFault::Stopped(stop) => Err(CommandStop::Planning(stop)),
         },
     }
 }

@@ -3,15 +3,16 @@ use Rattle.sse_script.specs.Views.{line_view}
 use Rattle.sse_script.specs.declared.line.Line.{Line}
 use Rattle.script_meaning.proofs.Steps.{IsBadFirst, opens-key}
 use Rattle.script_meaning.specs.Lines.{line_read}
-use Rattle.sse_client.proofs.Passing.{IfErr-from}
-use Rattle.sse_client.proofs.Running.{line_in-read, line_in-none, IfErr-line, opening-next, bad_first, key_told, opening-bad, opening-input, opening-end}
+use Rattle.run_texts.specs.Causes.{InputCause}
+use Rattle.sse_client.proofs.TranscriptsJoined.{IfErr-from, may_stop-ok}
+use Rattle.sse_client.proofs.RunGoesOn.{line_in-read, line_in-none, IfErr-line, opening-next, bad_first, key_told, opening-bad, opening-input, opening-end}
 use Rattle.sse_client.proofs.run.key_line.Goals as goal
 
 pub returns-in_err-advance-clause-stopped : goal.returns-in_err-advance-clause-stopped
 returns-in_err-advance-clause-stopped g c =
     let stop = c.in_err-advance.field-0.0 in
     IfErr-from c.from_residual.result stop _ c.from_residual.ensures.1
-    (λ f now. opening-input f _ _ now c.lines.input.number _ (c.lines.invariant.opening f now) _ stop c.in_err-advance.ensures.kind
+    (λ f now. opening-input f _ _ now c.lines.input.number _ (c.lines.invariant.opening f now) _ stop
     (λ m e. c.in_err-advance.ensures.too_long m (search e)) (λ m e. let n = c.in_err-advance.ensures.counted_long m (search e) in omega (arith, n, c.lines.invariant.few)))
 
 pub returns-then-not-branch-clause-stopped : goal.returns-then-not-branch-clause-stopped
@@ -20,7 +21,7 @@ returns-then-not-branch-clause-stopped g c f now =
 
 pub returns-in_err-line-clause-stopped : goal.returns-in_err-line-clause-stopped
 returns-in_err-line-clause-stopped g c =
-    let text = c.advance.new.self.line.items in
+    let text = c.advance.new.self.line in
     IfErr-line c.from_residual-in_err-line.result c.in_err-line.field-0.0 c.advance.new.self.number _ c.from_residual-in_err-line.ensures.1 c.in_err-line.ensures.bad
     (λ f now. opening-bad f _ _ now c.lines.input.number _ (c.lines.invariant.opening f now) _ text c.advance.new.self.number (c.in_ok-advance.ensures.line (search rules))
     (subst IsBadFirst (sym (line_in-none text (sym c.in_err-line.ensures.read))) tt)
@@ -31,7 +32,7 @@ lines-preserved g c = record {
   source = c.in_ok-advance.ensures.steady ∙ c.lines.invariant.source;
   few = omega (arith, c.lines.invariant.few, c.in_ok-advance.ensures.counted, c.in_ok-advance.ensures.less (search rules));
   opening = λ f now.
-      let text = c.advance.new.self.line.items in
+      let text = c.advance.new.self.line in
       opening-next f _ _ now c.lines.input.number _ (c.lines.invariant.opening f now) _ text c.advance.new.self.number (c.in_ok-advance.ensures.line (search rules))
       (line_in-read c.in_ok-line.field-0 text c.in_ok-line.ensures.read ∙ ap (λ (line : Line). Some (line_read (line_view line))) c.in-Empty.is)
       (omega (arith, c.in_ok-advance.ensures.counted, c.lines.invariant.few));
@@ -39,14 +40,23 @@ lines-preserved g c = record {
 
 pub returns-in-Key-clause-key : goal.returns-in-Key-clause-key
 returns-in-Key-clause-key g c f now end opens =
-    let text = c.advance.new.self.line.items in
+    let text = c.advance.new.self.line in
     opens-key f _ _ now (c.lines.input.number + 1) _ (c.lines.invariant.opening f now) _ text (c.in_ok-advance.ensures.line (search rules)) c.in-Key.bytes
     (line_in-read c.in_ok-line.field-0 text c.in_ok-line.ensures.read ∙ ap (λ (line : Line). Some (line_read (line_view line))) c.in-Key.is) end
     (key_told f c.new.result c.in-Key.bytes c.advance.new.self.number (c.lines.input.number + 1) _ now end c.new.ensures (omega (arith, c.in_ok-advance.ensures.counted, c.lines.invariant.few)) opens)
 
 pub returns-in_default-clause-stopped : goal.returns-in_default-clause-stopped
 returns-in_default-clause-stopped g c f now =
-    let text = c.advance.new.self.line.items in
+    let text = c.advance.new.self.line in
     opening-bad f _ _ now c.lines.input.number _ (c.lines.invariant.opening f now) _ text c.number-in_default.result (c.in_ok-advance.ensures.line (search rules))
     (subst IsBadFirst (sym (line_in-read c.in_ok-line.field-0 text c.in_ok-line.ensures.read)) (bad_first c.in_ok-line.field-0 c.in_default.not-Empty c.in_default.not-Key))
     (omega (arith, c.in_ok-advance.ensures.counted, c.lines.invariant.few, c.number-in_default.ensures))
+
+pub returns-in_err-advance-clause-source : goal.returns-in_err-advance-clause-source
+returns-in_err-advance-clause-source g c =
+    let new = g.S.Source.faults c.advance.new.source in
+    let stop = c.in_err-advance.field-0.0 in
+    record {
+      steady = may_stop-ok c.from_residual.result stop c.from_residual.ensures.1 _;
+      cause = IfErr-from c.from_residual.result stop (InputCause (g.S.Source.faults c.args.source.now) new) c.from_residual.ensures.1 (subst (λ before. InputCause before new stop) c.lines.invariant.source c.in_err-advance.ensures.cause);
+    }

@@ -8,10 +8,10 @@ use Rattle.sse_client.proofs.run.key_line.Given as goal
 abbrev pub invariant-lines : goal.invariant-lines
 invariant-lines g l = record {
   source : g.S.Source.faults l.source ≡ g.S.Source.faults l.fn.source;
-  few : l.input.number + bytes_to_come l.input.reader (g.S.Source.handed_out l.source) ≤ 2 ^ 63;
+  few : l.input.number + bytes_to_come l.input.pending (g.S.Source.handed_out l.source) ≤ 2 ^ 63;
   opening : (f : KeyedFn) (now : Outside)
-      → ContinuesOpening f (l.fn.input.number + 1) (lines_left l.fn.input.reader (g.S.Source.remaining l.fn.source)) now (l.input.number + 1) (lines_left l.input.reader (g.S.Source.remaining l.source));
+      → ContinuesOpening f (l.fn.input.number + 1) (lines_left l.fn.input.pending (g.S.Source.remaining l.fn.source)) now (l.input.number + 1) (lines_left l.input.pending (g.S.Source.remaining l.source));
 }
 
 abbrev pub decreases-lines : goal.decreases-lines
-decreases-lines g l = bytes_to_come l.input.reader (g.S.Source.handed_out l.source)
+decreases-lines g l = bytes_to_come l.input.pending (g.S.Source.handed_out l.source)

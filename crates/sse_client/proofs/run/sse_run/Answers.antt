@@ -1,6 +1,6 @@
 use Rattle.keyed_fn.specs.KeyedFn.{IsKeyedFn, keyed_fn}
-use Rattle.sse_client.specs.Stands.{seen, HasRun, IsHonest, HasSimulatedRun, HasHeadline}
-use Rattle.sse_client.proofs.Opening.{IfSome-then, run-honest, run-simulated, run-headline}
+use Rattle.sse_client.specs.Stands.{outside_of, HasRun, HasHonestStatus, HasSimulatedRun, HasHeadline}
+use Rattle.sse_client.proofs.WholeRun.{IfSome-then, run-honest, run-simulated, run-headline}
 use Rattle.sse_client.proofs.run.sse_run.Goals as goal
 
 pub returns-in-Some-Run-clause-honest : goal.returns-in-Some-Run-clause-honest
@@ -13,10 +13,10 @@ returns-in-Some-Run-clause-honest g c = λ asked.
       pad_bytes = g.met.K.Keyed.pad_bytes;
       pad_prefix = g.met.K.Keyed.pad_prefix;
     } in
-    let now = seen (g.L.Link.transcript c.args.link.now) (g.W.Sink.written c.args.sink.now) in
-    let last = seen (g.L.Link.transcript c.whole_run.new.link) (g.W.Sink.written c.whole_run.new.sink) in
-    IfSome-then (g.S.Source.remaining c.args.source.now) (λ bytes. HasRun f bytes now last c.whole_run.result) (λ bytes. IsHonest f bytes now last c.whole_run.result)
-    (λ bytes run. record { run = run; stopped = λ state honest free. run-honest f laws bytes now last c.whole_run.result state run honest free })
+    let now = outside_of (g.L.Link.transcript c.args.link.now) (g.W.Sink.written c.args.sink.now) in
+    let last = outside_of (g.L.Link.transcript c.whole_run.new.link) (g.W.Sink.written c.whole_run.new.sink) in
+    IfSome-then (g.S.Source.remaining c.args.source.now) (λ bytes. HasRun f bytes now last c.whole_run.result) (λ bytes. HasHonestStatus f bytes now last c.whole_run.result)
+    (λ bytes run. record { run = run; stopped = λ before state expects honest free. run-honest f laws bytes now last c.whole_run.result before state run expects honest free })
     c.whole_run.ensures.runs
 
 pub returns-in-Some-Run-clause-headline : goal.returns-in-Some-Run-clause-headline
@@ -29,17 +29,17 @@ returns-in-Some-Run-clause-headline g c = λ asked.
       pad_bytes = g.met.K.Keyed.pad_bytes;
       pad_prefix = g.met.K.Keyed.pad_prefix;
     } in
-    let now = seen (g.L.Link.transcript c.args.link.now) (g.W.Sink.written c.args.sink.now) in
-    let last = seen (g.L.Link.transcript c.whole_run.new.link) (g.W.Sink.written c.whole_run.new.sink) in
+    let now = outside_of (g.L.Link.transcript c.args.link.now) (g.W.Sink.written c.args.sink.now) in
+    let last = outside_of (g.L.Link.transcript c.whole_run.new.link) (g.W.Sink.written c.whole_run.new.sink) in
     IfSome-then (g.S.Source.remaining c.args.source.now) (λ bytes. HasRun f bytes now last c.whole_run.result) (λ bytes. HasHeadline f bytes now last c.whole_run.result)
-    (λ bytes run state honest free calm. run-headline f laws bytes now last c.whole_run.result state run honest free calm)
+    (λ bytes run before state expects honest free calm. run-headline f laws bytes now last c.whole_run.result before state run expects honest free calm)
     c.whole_run.ensures.runs
 
 pub returns-in-Some-Run-clause-simulated : goal.returns-in-Some-Run-clause-simulated
 returns-in-Some-Run-clause-simulated g c = λ asked.
     let f = keyed_fn g.K.Keyed.prf g.K.Keyed.pad in
-    let now = seen (g.L.Link.transcript c.args.link.now) (g.W.Sink.written c.args.sink.now) in
-    let last = seen (g.L.Link.transcript c.whole_run.new.link) (g.W.Sink.written c.whole_run.new.sink) in
+    let now = outside_of (g.L.Link.transcript c.args.link.now) (g.W.Sink.written c.args.sink.now) in
+    let last = outside_of (g.L.Link.transcript c.whole_run.new.link) (g.W.Sink.written c.whole_run.new.sink) in
     IfSome-then (g.S.Source.remaining c.args.source.now) (λ bytes. HasRun f bytes now last c.whole_run.result) (λ bytes. HasSimulatedRun f bytes now last c.whole_run.result)
     (λ bytes run. run-simulated f bytes now last c.whole_run.result run)
     c.whole_run.ensures.runs

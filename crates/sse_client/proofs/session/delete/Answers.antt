@@ -6,11 +6,11 @@ use Rattle.script_meaning.specs.Refused.{delete_refusal}
 use Rattle.sse_script.specs.Lines as lines
 use Rattle.sse_script.specs.Shown as says
 use Rattle.sse_client.specs.Stands.{IsAt, GoesOn, MayStop}
-use Rattle.sse_client.specs.Stops.{peer_cause}
+use Rattle.run_texts.specs.Stops.{command_cause}
 use Rattle.sse_client.specs.declared.session.Stage.{Stage}
 use Rattle.sse_client.specs.declared.session.Stage.TheVariants.{Collecting, Searching}
-use Rattle.sse_client.proofs.Taking.{behind, is_up, takes-not_set_up}
-use Rattle.sse_client.proofs.Updated.{of_good, of_fault, of_stop, stops_as, not_refused}
+use Rattle.sse_client.proofs.CommandTaken.{behind, is_up, takes-not_set_up}
+use Rattle.sse_client.proofs.UpdateCarriedOut.{of_good, of_fault, of_stop, stops_as, not_refused}
 use Rattle.sse_client.proofs.session.delete.Goals as goal
 
 pub returns-in-Collecting-clause-takes : goal.returns-in-Collecting-clause-takes
@@ -24,26 +24,26 @@ returns-in-Searching-clause-takes g c =
     let f = keyed_fn g.K.Keyed.prf g.K.Keyed.pad in
     let client = c.in-Searching.client in
     let old = g.L.Link.transcript c.args.link.now in
-    let new = g.L.Link.transcript c.carry_out.new.link in
-    of_good c.carry_out.result _ _ (λ done goes place a.
+    let new = g.L.Link.transcript c.send_update.new.link in
+    of_good c.send_update.result _ _ (λ done goes place a.
     let here : IsAt f (Searching client) place = subst (λ (s : Stage). IsAt f s place) c.in-Searching.is a in
     subst (GoesOn f old new done.0 done.1 place) (sym (behind place (requests.Del c.args.id) (is_up f client place here)))
     (goes f place (delete_refusal place.history c.args.id) (Delete c.args.id) (says.Deleted c.args.id) (c.plan_deletion-planned.ensures.stands place here) (c.plan_deletion-planned.ensures.plan place here) refl))
-    c.carry_out.ensures.goes_on
+    c.send_update.ensures.goes_on
 
 pub returns-in-Searching-clause-stops : goal.returns-in-Searching-clause-stops
 returns-in-Searching-clause-stops g c =
     let f = keyed_fn g.K.Keyed.prf g.K.Keyed.pad in
     let client = c.in-Searching.client in
     let old = g.L.Link.transcript c.args.link.now in
-    let new = g.L.Link.transcript c.carry_out.new.link in
-    of_fault c.carry_out.result _ _ (λ stop stops place a written.
+    let new = g.L.Link.transcript c.send_update.new.link in
+    of_fault c.send_update.result _ _ (λ stop stops place a written.
     let here : IsAt f (Searching client) place = subst (λ (s : Stage). IsAt f s place) c.in-Searching.is a in
-    stops_as f place old new written (peer_cause stop) (sym (behind place (requests.Del c.args.id) (is_up f client place here)))
+    stops_as f place old new written (command_cause stop) (sym (behind place (requests.Del c.args.id) (is_up f client place here)))
     (stops f place (delete_refusal place.history c.args.id) (Delete c.args.id) (says.Deleted c.args.id) (c.plan_deletion-planned.ensures.stands place here) (c.plan_deletion-planned.ensures.plan place here) written))
-    c.carry_out.ensures.stops
+    c.send_update.ensures.stops
 
 pub returns-in-Searching-clause-may_stop : goal.returns-in-Searching-clause-may_stop
 returns-in-Searching-clause-may_stop g c =
     let f = keyed_fn g.K.Keyed.prf g.K.Keyed.pad in
-    of_stop c.carry_out.result _ _ (λ unrefused. subst (λ s. MayStop f s (lines.Del c.args.id)) (sym c.in-Searching.is) (λ place here. not_refused _ _ unrefused (c.plan_deletion-planned.ensures.refused place here))) c.carry_out.ensures.may_stop
+    of_stop c.send_update.result _ _ (λ unrefused. subst (λ s. MayStop f s (lines.Del c.args.id)) (sym c.in-Searching.is) (λ place here. not_refused _ _ unrefused (c.plan_deletion-planned.ensures.refused place here))) c.send_update.ensures.may_stop

@@ -1,12 +1,15 @@
-use Rattle.std.proofs.Common.{◌≡◌, inl, inr, sym, subst, ap, ◌∙◌}
+use Rattle.std.proofs.Common.{◌≡◌, Ok, inl, inr, sym, subst, ap, ◌∙◌}
 use Rattle.keyed_fn.specs.KeyedFn.{keyed_fn}
 use Rattle.sse_script.specs.Views.{line_view}
 use Rattle.sse_script.specs.declared.line.Line.{Line}
 use Rattle.script_meaning.specs.Lines as requests
 use Rattle.script_meaning.specs.Lines.{line_read}
-use Rattle.sse_client.proofs.Taking.{takes_own, stops_own, takes_under, stop_under, stops_if_memory}
+use Rattle.run_texts.specs.Stops.{command_cause, plan_cause}
+use Rattle.run_texts.specs.declared.command_stop.CommandStop.TheVariants.{Planning}
+use Rattle.sse_client.proofs.TranscriptsJoined.{IfErr-from, may_stop}
+use Rattle.sse_client.proofs.CommandTaken.{takes_own, stops_own, stops_if_memory}
 use Rattle.std.specs.Prelude.{OnErr}
-use Rattle.sse_client.specs.Stands.{MayStop}
+use Rattle.sse_client.specs.Stands.{MayStop, StopsWithin}
 use Rattle.sse_client.proofs.session.take_line.Goals as goal
 
 pub returns-in-Empty-clause-takes : goal.returns-in-Empty-clause-takes
@@ -15,21 +18,22 @@ returns-in-Empty-clause-takes g c = λ request e. elim c.in-Empty.is [
   | inr is ↦ absurd (let no : requests.Key is.0 ≡ requests.Command request = sym (ap (λ (line : Line). line_read (line_view line)) is.1) ∙ e in cc)
 ]
 
-pub returns-in-Doc-clause-takes : goal.returns-in-Doc-clause-takes
-returns-in-Doc-clause-takes g c =
+pub returns-in_ok-collect-in-Doc-clause-takes : goal.returns-in_ok-collect-in-Doc-clause-takes
+returns-in_ok-collect-in-Doc-clause-takes g c =
     let f = keyed_fn g.K.Keyed.prf g.K.Keyed.pad in
     let told = g.L.Link.transcript c.args.link.now in
     let own = requests.Doc c.in-Doc.id c.in-Doc.words in
-    takes_own f c.args.stage told told (line_read (line_view c.args.line)) own (ap (λ (line : Line). line_read (line_view line)) c.in-Doc.is) c.collect.result
-    (takes_under f told c.args.stage own c.collect.result c.collect.ensures.takes)
+    takes_own f c.args.stage told told (line_read (line_view c.args.line)) own (ap (λ (line : Line). line_read (line_view line)) c.in-Doc.is) (Ok c.in_ok-collect-in-Doc.field-0) (c.in_ok-collect-in-Doc.ensures.takes f told)
 
-pub returns-in-Doc-clause-stops : goal.returns-in-Doc-clause-stops
-returns-in-Doc-clause-stops g c =
+pub returns-in_err-collect-in-Doc-clause-stops : goal.returns-in_err-collect-in-Doc-clause-stops
+returns-in_err-collect-in-Doc-clause-stops g c =
     let f = keyed_fn g.K.Keyed.prf g.K.Keyed.pad in
     let told = g.L.Link.transcript c.args.link.now in
     let own = requests.Doc c.in-Doc.id c.in-Doc.words in
-    stops_own f c.args.stage told told (line_read (line_view c.args.line)) own (ap (λ (line : Line). line_read (line_view line)) c.in-Doc.is) c.collect.result
-    (stops_if_memory f told c.args.stage own c.collect.result c.collect.ensures.memory)
+    let stop = c.in_err-collect-in-Doc.field-0.0 in
+    stops_own f c.args.stage told told (line_read (line_view c.args.line)) own (ap (λ (line : Line). line_read (line_view line)) c.in-Doc.is) c.from_residual.result
+    (IfErr-from c.from_residual.result (Planning stop) (λ e. StopsWithin f c.args.stage own told told (command_cause e)) c.from_residual.ensures.1
+    (subst (λ s. StopsWithin f c.args.stage own told told (plan_cause s)) (sym c.in_err-collect-in-Doc.ensures.memory) (stops_if_memory f told c.args.stage own)))
 
 pub returns-in-Setup-clause-takes : goal.returns-in-Setup-clause-takes
 returns-in-Setup-clause-takes g c =
@@ -71,8 +75,11 @@ returns-in-Del-clause-stops g c =
     stops_own (keyed_fn g.K.Keyed.prf g.K.Keyed.pad) c.args.stage (g.L.Link.transcript c.args.link.now) (g.L.Link.transcript c.delete.new.link) (line_read (line_view c.args.line)) (requests.Del c.in-Del.id)
     (ap (λ (line : Line). line_read (line_view line)) c.in-Del.is) c.delete.result c.delete.ensures.stops
 
-pub returns-in-Doc-clause-may_stop : goal.returns-in-Doc-clause-may_stop
-returns-in-Doc-clause-may_stop g c = subst (λ (line : Line). OnErr c.collect.result (MayStop (keyed_fn g.K.Keyed.prf g.K.Keyed.pad) c.args.stage (line_view line))) (sym c.in-Doc.is) (stop_under (keyed_fn g.K.Keyed.prf g.K.Keyed.pad) c.args.stage _ c.collect.result c.collect.ensures.may_stop)
+pub returns-in_err-collect-in-Doc-clause-may_stop :
+    goal.returns-in_err-collect-in-Doc-clause-may_stop
+returns-in_err-collect-in-Doc-clause-may_stop g c =
+    let f = keyed_fn g.K.Keyed.prf g.K.Keyed.pad in
+    subst (λ (line : Line). OnErr c.from_residual.result (MayStop f c.args.stage (line_view line))) (sym c.in-Doc.is) (may_stop c.from_residual.result _ (c.in_err-collect-in-Doc.ensures.may_stop f))
 
 pub returns-in-Setup-clause-may_stop : goal.returns-in-Setup-clause-may_stop
 returns-in-Setup-clause-may_stop g c = subst (λ (line : Line). OnErr c.set_up.result (MayStop (keyed_fn g.K.Keyed.prf g.K.Keyed.pad) c.args.stage (line_view line))) (sym c.in-Setup.is) c.set_up.ensures.may_stop

@@ -1,0 +1,357 @@
+-- How a session takes a command: what it comes to where the session stands, and that this is done.
+use Rattle.std.proofs.Common.{◌≡◌, inl, inr, ℕ, true, false, List, [], ◌∷◌, ◌++◌, length, refl, sym, ap, subst, ◌∙◌}
+use Rattle.std.specs.Prelude.{Option, None, Some, Result, Ok, Err, OnOk, OnErr, IfOk, IfErr, option_map, if◌then◌else◌}
+use Rattle.client_core.specs.StandsFor.{with_command}
+use Rattle.client_core.specs.declared.client.Client.{Client}
+use Rattle.client_core.specs.declared.ready.Ready.{Ready}
+use Rattle.client_registry.specs.Acceptance.{blocks_of, setup_refusal}
+use Rattle.client_registry.specs.Command.{Search}
+use Rattle.client_registry.specs.Document.{Document}
+use Rattle.client_registry.specs.Documents.{words_of}
+use Rattle.client_registry.specs.Histories.{is_set_up, longer}
+use Rattle.client_registry.specs.Live.{matching_in}
+use Rattle.client_registry.specs.Run.{History, Run, at_first}
+use Rattle.client_registry.specs.Setup.{Setup, setup_of}
+use Rattle.index_setup.proofs.BuildErrors.{size_accepted}
+use Rattle.index_setup.specs.Entries.{key_table, label_clash, place_clash}
+use Rattle.index_setup.specs.Refused.{build_refusal}
+use Rattle.index_setup.specs.declared.fault.BuildFault.{BuildFault}
+use Rattle.keyed_fn.specs.KeyFormulas.{token_of}
+use Rattle.keyed_fn.specs.KeyedFn.{KeyedFn}
+use Rattle.sse_frames.specs.Frames.{FrameText, SearchFrame}
+use Rattle.sse_model.specs.Histories.{frames_of_next, collision_of_next}
+use Rattle.sse_model.specs.Names.{table}
+use Rattle.sse_model.specs.Wire.{frames_of_setup}
+use Rattle.sse_script.specs.Lines as read
+use Rattle.sse_script.specs.Shown as says
+use Rattle.sse_script.specs.declared.refusal.Refusal.{Refusal}
+use Rattle.sse_script.specs.declared.refusal.Refusal.TheVariants as refusals
+use Rattle.line_documents.specs.LineDocument.{document}
+use Rattle.line_documents.specs.Refused.{bad_word, collect_refusal}
+use Rattle.line_documents.specs.LineFaults.{SaysRefusal}
+use Rattle.line_documents.specs.declared.line_fault.LineFault.{LineFault}
+use Rattle.line_documents.specs.declared.line_fault.LineFault.TheVariants as faults
+use Rattle.line_documents.proofs.Passed.{neither, word_passed}
+use Rattle.script_meaning.proofs.Going.{Adds-nothing, AreExchanged-none}
+use Rattle.script_meaning.specs.Carries.{keys_at, frames_by, collision_cause, clash_in_hand, IsSent, StopsIn}
+use Rattle.script_meaning.specs.Exchange.{Told, AreExchanged, AreCut}
+use Rattle.script_meaning.specs.Lines.{Line, Command, Request, Doc, SetupLine, Find}
+use Rattle.script_meaning.specs.Outcome.{Place, Outcome, Collects, Refuses, SetsUp, Does, unless, before_setup, after_setup, outcome, after}
+use Rattle.script_meaning.specs.Refused.{index_refusal, size_refused}
+use Rattle.script_meaning.specs.Stops.{At}
+use Rattle.sse_client.specs.SetupFaults.{setup_answer}
+use Rattle.sse_client.specs.Stages.{key_of, hash_keys_of, hash_keys_under}
+use Rattle.sse_client.specs.Exchanges.{HasExchanged, HasSearched, HasCut}
+use Rattle.run_texts.specs.LineResultViews.{line_result_view, refuses}
+use Rattle.sse_client.specs.Stands.{IsReady, IsStage, IsAt, GoesOn, MayStop, Takes, StopsWithin, outside_of}
+use Rattle.run_texts.specs.Stops.{command_cause, plan_cause}
+use Rattle.run_texts.specs.declared.line_result.LineResult.{LineResult}
+use Rattle.run_texts.specs.declared.line_result.LineResult.TheVariants as line_results
+use Rattle.run_texts.specs.declared.command_stop.CommandStop.{CommandStop}
+use Rattle.run_texts.specs.declared.plan_stop.PlanStop.{PlanStop}
+use Rattle.run_texts.specs.declared.plan_stop.PlanStop.TheVariants as plans
+use Rattle.sse_client.specs.declared.session.Stage.{Stage}
+use Rattle.sse_client.specs.declared.session.Stage.TheVariants.{Collecting, Searching}
+use Rattle.sse_client.proofs.PlansOfUpdates.{StandsFor-search}
+use Rattle.sse_client.proofs.DocumentCollected.{IsAnswer, IsAdded, inside}
+use Rattle.sse_client.proofs.PartOfExchange.{AreCut-memory}
+use Rattle.sse_client.proofs.SetupPlan.{clash_cause, no_clash-planned, IsRefusedPlan, refused_size, stopped_plan}
+
+-- What a command comes to.
+
+module _ (place : Place) (line : Request) where
+  pub before : is_set_up place.history ≡ false → outcome place line ≡ before_setup place.documents line
+  before e = ap (λ up. if up then after_setup place.history line else before_setup place.documents line) e
+
+  pub behind : is_set_up place.history ≡ true → outcome place line ≡ after_setup place.history line
+  behind e = ap (λ up. if up then after_setup place.history line else before_setup place.documents line) e
+
+-- Commands that send nothing.
+
+module _ (f : KeyedFn) (told : Told) (next : Stage) (came : LineResult) (place : Place) where
+  quiet_sent : (result : Outcome) → frames_by f place result ≡ [] → clash_in_hand f place result ≡ None → IsSent f place result told told []
+  quiet_sent result none no_clash = record {
+    events = [];
+    adds = Adds-nothing told;
+    exchanged = subst (λ fs. AreExchanged [] fs []) (sym none) AreExchanged-none;
+    no_clash = no_clash;
+  }
+
+  pub goes-refused : (refusal : Refusal) → line_result_view came ≡ says.Refused refusal ∷ [] → refuses came ≡ true → IsAt f next place → GoesOn f told told next came place (Refuses refusal)
+  goes-refused refusal view refused at = record { answers = []; sent = quiet_sent (Refuses refusal) refl refl; shown = view; refuses = refused; stands = at }
+
+  pub goes-collected : (d : Document) → line_result_view came ≡ [] → refuses came ≡ false → IsAt f next (after (Collects d) place) → GoesOn f told told next came place (Collects d)
+  goes-collected d view refused at = record { answers = []; sent = quiet_sent (Collects d) refl refl; shown = view; refuses = refused; stands = at }
+
+-- A document.
+
+comes-doc : (place : Place) (id : ℕ) (texts : List (List ℕ)) (docs : List Document) (r : Option Refusal) → is_set_up place.history ≡ false → docs ≡ place.documents → collect_refusal docs (document id texts) ≡ r
+    → outcome place (Doc id texts) ≡ unless r (Collects (document id texts))
+comes-doc place id texts docs r none same e =
+    before place (Doc id texts) none
+    ∙ ap (λ ds. unless (collect_refusal ds (document id texts)) (Collects (document id texts))) (sym same)
+    ∙ ap (λ r. unless r (Collects (document id texts))) e
+
+-- where a session collects, it takes a document or refuses it
+pub takes-doc : {T : Type 0} (f : KeyedFn) (told : Told) (id : ℕ) (texts : List (List ℕ)) (docs new : List Document) (next : Stage) (came : LineResult) (done : Result T LineFault) (place : Place)
+    → is_set_up place.history ≡ false → docs ≡ place.documents → ((ds : List Document) (after : Place) → new ≡ ds → after ≡ record place { documents = ds } → IsAt f next after)
+    → IsAdded done docs new (document id texts) (collect_refusal docs (document id texts)) → IsAnswer done (Ok came) → GoesOn f told told next came place (outcome place (Doc id texts))
+takes-doc f told id texts docs new next came (Ok u) place none same at h a =
+    let d = document id texts in
+    let is : came ≡ line_results.Nothing = inside came line_results.Nothing (Ok came) refl a.nothing in
+    subst (GoesOn f told told next came place) (sym (comes-doc place id texts docs None none same h.accepted))
+    (goes-collected f told next came place d (ap line_result_view is) (ap refuses is) (at (place.documents ++ d ∷ []) _ (h.added ∙ ap (λ ds. ds ++ d ∷ []) same) refl))
+takes-doc f told id texts docs new next came (Err (faults.Refused shown)) place none same at h a = by (collect_refusal docs (document id texts)) refl h.refused
+  where
+    is : came ≡ line_results.Refused shown
+    is = inside came (line_results.Refused shown) (Ok came) refl (a.refused shown refl)
+
+    by : (r : Option Refusal) → collect_refusal docs (document id texts) ≡ r → Some shown ≡ r → GoesOn f told told next came place (outcome place (Doc id texts))
+    by None e tells = absurd (cc)
+    by (Some refusal) e tells =
+        let line : shown ≡ refusal = cc in
+        subst (GoesOn f told told next came place) (sym (comes-doc place id texts docs (Some refusal) none same e))
+        (goes-refused f told next came place refusal (ap line_result_view is ∙ ap (λ l. says.Refused l ∷ []) line) (ap refuses is) (at place.documents place (h.kept ∙ same) refl))
+takes-doc f told id texts docs new next came (Err faults.NoMemory) place none same at h a = let no : Ok came ≡ Err plans.Memory = a.memory refl in absurd (cc)
+
+-- A search.
+
+-- one word is searched for with one frame, in which no values are compared
+frames-search : (f : KeyedFn) (key word : List ℕ) (h : History) → is_set_up h ≡ true → frames_of_next f (λ epoch. key) h (Search word ∷ []) ≡ SearchFrame (token_of f key word) ∷ []
+frames-search f key word None up = absurd (cc)
+frames-search f key word (Some run) up = refl
+
+no_clash-search : (f : KeyedFn) (key word : List ℕ) (h : History) → collision_of_next f (λ epoch. key) h (Search word ∷ []) ≡ None
+no_clash-search f key word None = refl
+no_clash-search f key word (Some run) = refl
+
+module _ (f : KeyedFn) (place : Place) (word : List ℕ) where
+  abbrev searching : Outcome
+  searching = Does (Search word ∷ []) (says.Found (matching_in place.history word))
+
+  comes-find : (r : Option Refusal) → is_set_up place.history ≡ true → bad_word 0 (word ∷ []) ≡ r → outcome place (Find word) ≡ unless r searching
+  comes-find r up e = behind place (Find word) up ∙ ap (λ r. unless r searching) e
+
+  token_at : (key : List ℕ) → key ≡ place.key → is_set_up place.history ≡ true → SearchFrame (token_of f key word) ∷ [] ≡ frames_by f place searching
+  token_at key same up = ap (λ k. SearchFrame (token_of f k word) ∷ []) same ∙ sym (frames-search f place.key word place.history up)
+
+  no_clash : clash_in_hand f place searching ≡ None
+  no_clash = ap (option_map collision_cause) (no_clash-search f place.key word place.history)
+
+  module _ (old new : Told) (up : is_set_up place.history ≡ true) where
+    pub takes-find : (next : Stage) (came : LineResult) (key ids : List ℕ) → key ≡ place.key → bad_word 0 (word ∷ []) ≡ None → HasSearched old new (SearchFrame (token_of f key word)) ids
+        → line_result_view came ≡ says.Found ids ∷ [] → refuses came ≡ false → IsAt f next (after searching place) → GoesOn f old new next came place (outcome place (Find word))
+    takes-find next came key ids same good s view fine at =
+        subst (GoesOn f old new next came place) (sym (comes-find None up good))
+        (record {
+          answers = s.answer ∷ [];
+          sent = record {
+            events = s.exchanged.events;
+            adds = s.exchanged.adds;
+            exchanged = subst (λ fs. AreExchanged (s.answer ∷ []) fs s.exchanged.events) (token_at key same up) s.exchanged.exchanged;
+            no_clash = no_clash;
+          };
+          shown = view ∙ ap (λ found. says.Found found ∷ []) s.rising;
+          refuses = fine;
+          stands = at;
+        })
+
+    pub stops-find : (key : List ℕ) (c : says.Cause) → key ≡ place.key → bad_word 0 (word ∷ []) ≡ None → HasCut old new (SearchFrame (token_of f key word) ∷ []) c
+        → (written : Option (List ℕ)) → StopsIn f place (outcome place (Find word)) (outside_of old written) (outside_of new written) (At c)
+    stops-find key c same good cut written =
+        subst (λ result. StopsIn f place result (outside_of old written) (outside_of new written) (At c)) (sym (comes-find None up good))
+        (inr (inl (record {
+          cause = c;
+          stops = refl;
+          events = cut.events;
+          adds = cut.adds;
+          cut = subst (λ fs. AreCut fs cut.events c) (token_at key same up) cut.cut;
+          no_clash = λ _. no_clash;
+          unprinted = refl;
+        })))
+
+  -- a field that is no word is refused
+  pub takes-bad_word : {T : Type 0} (told : Told) (next : Stage) (came : LineResult) (fault : LineFault) (answer : Result LineResult PlanStop) → is_set_up place.history ≡ true → IsAnswer {T = T} (Err fault) answer → answer ≡ Ok came
+      → SaysRefusal fault (bad_word 0 (word ∷ [])) → IsAt f next place → GoesOn f told told next came place (outcome place (Find word))
+  takes-bad_word told next came (faults.Refused shown) answer up a ok tells at = by (bad_word 0 (word ∷ [])) refl tells
+    where
+      is : came ≡ line_results.Refused shown
+      is = inside came (line_results.Refused shown) answer ok (a.refused shown refl)
+
+      by : (r : Option Refusal) → bad_word 0 (word ∷ []) ≡ r → Some shown ≡ r → GoesOn f told told next came place (outcome place (Find word))
+      by None e tells = absurd (cc)
+      by (Some refusal) e tells =
+          let line : shown ≡ refusal = cc in
+          subst (GoesOn f told told next came place) (sym (comes-find (Some refusal) up e))
+          (goes-refused f told next came place refusal (ap line_result_view is ∙ ap (λ l. says.Refused l ∷ []) line) (ap refuses is) at)
+  takes-bad_word told next came faults.NoMemory answer up a ok tells at = let no : answer ≡ Err plans.Memory = a.memory refl in absurd (cc)
+
+-- where there was no memory before anything was sent, the run stops there
+pub stops-memory : (f : KeyedFn) (told : Told) (place : Place) (result : Outcome) (written : Option (List ℕ)) → StopsIn f place result (outside_of told written) (outside_of told written) (At says.NoMemory)
+stops-memory f told place result written =
+    inr (inl (record { cause = says.NoMemory; stops = refl; events = []; adds = Adds-nothing told; cut = AreCut-memory (frames_by f place result); no_clash = λ some. absurd (some refl); unprinted = refl }))
+
+-- a field's fault that isn't a refusal is want of memory
+pub stops-bad_word : {T : Type 0} (f : KeyedFn) (told : Told) (place : Place) (result : Outcome) (written : Option (List ℕ)) (fault : LineFault) (answer : Result LineResult PlanStop) (stop : PlanStop) → IsAnswer {T = T} (Err fault) answer → answer ≡ Err stop
+    → StopsIn f place result (outside_of told written) (outside_of told written) (At (plan_cause stop))
+stops-bad_word f told place result written (faults.Refused shown) answer stop a err = let no : answer ≡ Ok (line_results.Refused shown) = a.refused shown refl in absurd (cc)
+stops-bad_word f told place result written faults.NoMemory answer stop a err =
+    let is : plans.Memory ≡ stop = cc (a.memory refl, err) in
+    subst (λ s. StopsIn f place result (outside_of told written) (outside_of told written) (At (plan_cause s))) is (stops-memory f told place result written)
+
+-- where there was no memory for a command that sends nothing
+pub stops_if_memory : (f : KeyedFn) (told : Told) (stage : Stage) (request : Request) → StopsWithin f stage request told told says.NoMemory
+stops_if_memory f told stage request = λ place a written. stops-memory f told place (outcome place request) written
+
+-- a session that searches is set up
+pub is_up : (f : KeyedFn) (client : Client Ready) (place : Place) → IsAt f (Searching client) place → is_set_up place.history ≡ true
+is_up f client place at = ap is_set_up at.stands.1
+
+-- after a search the session stands for the history with it
+pub searching_still : (f : KeyedFn) (client : Client Ready) (place : Place) (word : List ℕ) → bad_word 0 (word ∷ []) ≡ None → IsAt f (Searching client) place → IsAt f (Searching client) (after (searching f place word) place)
+searching_still f client place word good at = record {
+  key = at.key;
+  stands = (with_command at.stands.0 (Search word), ap (longer (Search word ∷ [])) at.stands.1, StandsFor-search f (keys_at place) at.stands.0 word client.state (word_passed 0 word (neither _ None good).0) at.stands.2);
+  hashed = at.hashed;
+}
+
+-- A setup.
+
+-- a session that is set up stands where its history is this run
+at_ready : (f : KeyedFn) (run : Run) (stage : Stage) (place : Place) → place.history ≡ Some run → IsReady f place.key run stage → IsStage f stage place
+at_ready f run (Collecting client docs) place is ready = absurd ready
+at_ready f run (Searching client) place is ready = (run, is, ready)
+
+module _ (f : KeyedFn) (key : List ℕ) (docs : List Document) (b big : ℕ) where
+  abbrev s : Setup
+  s = setup_of docs b big
+
+  module _ (place : Place) (same_key : key ≡ place.key) (same : docs ≡ place.documents) (fresh : is_set_up place.history ≡ false) where
+    comes-setup : outcome place (SetupLine b big) ≡ unless (index_refusal docs b big) (SetsUp s)
+    comes-setup = before place (SetupLine b big) fresh ∙ ap (λ ds. unless (index_refusal ds b big) (SetsUp (setup_of ds b big))) (sym same)
+
+    comes-set_up : setup_refusal docs b big ≡ None → outcome place (SetupLine b big) ≡ SetsUp s
+    comes-set_up none = comes-setup ∙ ap (λ r. unless (option_map size_refused r) (SetsUp s)) none
+
+    frames_at : frames_of_setup (key_table f key s) at_first s ≡ frames_by f place (SetsUp s)
+    frames_at = ap (λ k. frames_of_setup (table f s.shape (λ epoch. k)) at_first s) same_key
+
+    clash_at : clash_in_hand f place (SetsUp s) ≡ clash_cause (label_clash f key s) (place_clash f key s)
+    clash_at = ap (λ k. clash_cause (label_clash f k s) (place_clash f k s)) (sym same_key)
+
+    module _ (accepted : build_refusal f key docs b big ≡ None) (old new : Told) where
+      no_clash-setup : clash_in_hand f place (SetsUp s) ≡ None
+      no_clash-setup = clash_at ∙ no_clash-planned f key docs b big accepted
+
+      takes-setup : (next : Stage) (came : LineResult) (words blocks : ℕ) → words ≡ length (words_of docs) → blocks ≡ blocks_of s → HasExchanged old new [] (frames_of_setup (key_table f key s) at_first s)
+          → line_result_view came ≡ says.SetUp words blocks ∷ [] → refuses came ≡ false → IsReady f key (record { setup = s; later = [] }) next → key_of next ≡ key → hash_keys_of next ≡ hash_keys_under f place.key → GoesOn f old new next came place (outcome place (SetupLine b big))
+      takes-setup next came words blocks counted counted_blocks x view fine ready keyed hashed =
+          subst (GoesOn f old new next came place) (sym (comes-set_up (size_accepted f key s accepted)))
+          (record {
+            answers = [];
+            sent = record {
+              events = x.events;
+              adds = x.adds;
+              exchanged = subst (λ fs. AreExchanged [] fs x.events) frames_at x.exchanged;
+              no_clash = no_clash-setup;
+            };
+            shown = view ∙ (λ i. says.SetUp (counted i) (counted_blocks i) ∷ []);
+            refuses = fine;
+            stands = record {
+              key = keyed ∙ same_key;
+              stands = at_ready f (record { setup = s; later = [] }) next (after (SetsUp s) place) refl (subst (λ k. IsReady f k (record { setup = s; later = [] }) next) same_key ready);
+              hashed = hashed;
+            };
+          })
+
+      stops-setup : (c : says.Cause) → HasCut old new (frames_of_setup (key_table f key s) at_first s) c → (written : Option (List ℕ))
+          → StopsIn f place (outcome place (SetupLine b big)) (outside_of old written) (outside_of new written) (At c)
+      stops-setup c cut written =
+          subst (λ result. StopsIn f place result (outside_of old written) (outside_of new written) (At c)) (sym (comes-set_up (size_accepted f key s accepted)))
+          (inr (inl (record {
+            cause = c;
+            stops = refl;
+            events = cut.events;
+            adds = cut.adds;
+            cut = subst (λ fs. AreCut fs cut.events c) frames_at cut.cut;
+            no_clash = λ _. no_clash-setup;
+            unprinted = refl;
+          })))
+
+    module _ (T : Type 0) (fault : BuildFault) (plan : IsRefusedPlan T f key docs b big fault) (told : Told) where
+      -- a setup whose plan was refused is refused
+      pub takes-refused_setup : (next : Stage) (came : LineResult) (shown : Refusal) → line_result_view came ≡ says.Refused shown ∷ [] → refuses came ≡ true → IsAt f next place → setup_answer fault ≡ Ok shown
+          → GoesOn f told told next came place (outcome place (SetupLine b big))
+      takes-refused_setup next came shown view refused at answer =
+          subst (GoesOn f told told next came place) (sym (comes-setup ∙ ap (λ r. unless r (SetsUp s)) (refused_size f key docs b big T fault plan shown answer)))
+          (goes-refused f told next came place shown view refused at)
+
+      -- equal labels and equal places stop the run at the setup, and so does want of memory
+      pub stops-plan : (stop : PlanStop) → setup_answer fault ≡ Err stop → (written : Option (List ℕ))
+          → StopsIn f place (outcome place (SetupLine b big)) (outside_of told written) (outside_of told written) (At (plan_cause stop))
+      stops-plan stop answer written =
+          let why = stopped_plan f key docs b big T fault plan stop answer in
+          elim why.1 [
+            | inl found ↦ subst (λ result. StopsIn f place result (outside_of told written) (outside_of told written) (At (plan_cause stop))) (sym (comes-set_up why.0))
+                (inl (record { cause = plan_cause stop; found = clash_at ∙ found; stops = refl; nothing = refl }))
+            | inr memory ↦ subst (λ x. StopsIn f place (outcome place (SetupLine b big)) (outside_of told written) (outside_of told written) (At (plan_cause x))) (sym memory)
+                (stops-memory f told place (outcome place (SetupLine b big)) written)
+          ]
+
+-- the key and the documents of a session that collects
+abbrev pub IsCollecting : KeyedFn → List ℕ → List Document → ℕ × ℕ → Stage → Type 0
+IsCollecting f key docs hash_keys stage =
+    (place : Place) → IsAt f stage place → (key ≡ place.key) × (docs ≡ place.documents) × (is_set_up place.history ≡ false) × (hash_keys ≡ hash_keys_under f place.key)
+
+module _ (f : KeyedFn) (key : List ℕ) (old new : Told) (stage : Stage) (docs : List Document) (hash_keys : ℕ × ℕ) (b big : ℕ) (at : IsCollecting f key docs hash_keys stage) (accepted : build_refusal f key docs b big ≡ None) where
+  abbrev sent_frames : List FrameText
+  sent_frames = frames_of_setup (key_table f key (setup_of docs b big)) at_first (setup_of docs b big)
+
+  -- a setup whose sending ended is done
+  pub takes_if_sent : (words blocks : ℕ) → words ≡ length (words_of docs) → blocks ≡ blocks_of (setup_of docs b big) → (next : Stage) (came : LineResult) → HasExchanged old new [] sent_frames
+      → line_result_view came ≡ says.SetUp words blocks ∷ [] → refuses came ≡ false → IsReady f key (record { setup = setup_of docs b big; later = [] }) next → key_of next ≡ key → hash_keys_of next ≡ hash_keys
+      → Takes f stage (SetupLine b big) old new next came
+  takes_if_sent words blocks counted counted_blocks next came x view fine ready keyed hashes = λ place a.
+      let p = at place a in
+      takes-setup f key docs b big place p.0 p.1 p.2 accepted old new next came words blocks counted counted_blocks x view fine ready keyed (hashes ∙ p.3)
+
+  -- one whose sending was cut stops the run
+  pub stops_if_sent : (c : says.Cause) → HasCut old new sent_frames c → StopsWithin f stage (SetupLine b big) old new c
+  stops_if_sent c cut = λ place a written.
+      let p = at place a in
+      stops-setup f key docs b big place p.0 p.1 p.2 accepted old new c cut written
+
+-- one more setup is refused
+pub takes-set_up_already : (f : KeyedFn) (told : Told) (next : Stage) (came : LineResult) (place : Place) (b big : ℕ) → is_set_up place.history ≡ true → line_result_view came ≡ says.Refused refusals.SetUpAlready ∷ [] → refuses came ≡ true → IsAt f next place
+    → GoesOn f told told next came place (outcome place (SetupLine b big))
+takes-set_up_already f told next came place b big up view fine at = subst (GoesOn f told told next came place) (sym (behind place (SetupLine b big) up)) (goes-refused f told next came place refusals.SetUpAlready view fine at)
+
+-- so is a document after the setup
+pub takes-doc_behind : (f : KeyedFn) (told : Told) (next : Stage) (came : LineResult) (place : Place) (id : ℕ) (words : List (List ℕ)) → is_set_up place.history ≡ true → line_result_view came ≡ says.Refused refusals.SetUpAlready ∷ [] → refuses came ≡ true
+    → IsAt f next place → GoesOn f told told next came place (outcome place (Doc id words))
+takes-doc_behind f told next came place id words up view fine at = subst (GoesOn f told told next came place) (sym (behind place (Doc id words) up)) (goes-refused f told next came place refusals.SetUpAlready view fine at)
+
+-- and what needs a setup before it
+pub takes-not_set_up : (f : KeyedFn) (told : Told) (next : Stage) (came : LineResult) (place : Place) (request : Request) → before_setup place.documents request ≡ Refuses refusals.NotSetUp → is_set_up place.history ≡ false
+    → line_result_view came ≡ says.Refused refusals.NotSetUp ∷ [] → refuses came ≡ true → IsAt f next place → GoesOn f told told next came place (outcome place request)
+takes-not_set_up f told next came place request early fresh view fine at = subst (GoesOn f told told next came place) (sym (before place request fresh ∙ early)) (goes-refused f told next came place refusals.NotSetUp view fine at)
+
+-- The command of a line.
+
+inner : (own request : Request) → Command own ≡ Command request → own ≡ request
+inner own request e = cc
+
+module _ (f : KeyedFn) (stage : Stage) (old new : Told) (line : Line) (own : Request) (is : line ≡ Command own) (r : Result (Stage × LineResult) CommandStop) where
+  pub takes_own : IfOk r (λ done. Takes f stage own old new done.0 done.1) → IfOk r (λ done. (request : Request) → line ≡ Command request → Takes f stage request old new done.0 done.1)
+  takes_own = by r
+    where
+      by : (r : Result (Stage × LineResult) CommandStop) → IfOk r (λ done. Takes f stage own old new done.0 done.1) → IfOk r (λ done. (request : Request) → line ≡ Command request → Takes f stage request old new done.0 done.1)
+      by (Ok done) t = λ request e. subst (λ q. Takes f stage q old new done.0 done.1) (inner own request (sym is ∙ e)) t
+      by (Err stop) t = tt
+
+  pub stops_own : IfErr r (λ stop. StopsWithin f stage own old new (command_cause stop)) → IfErr r (λ stop. (request : Request) → line ≡ Command request → StopsWithin f stage request old new (command_cause stop))
+  stops_own = by r
+    where
+      by : (r : Result (Stage × LineResult) CommandStop) → IfErr r (λ stop. StopsWithin f stage own old new (command_cause stop)) → IfErr r (λ stop. (request : Request) → line ≡ Command request → StopsWithin f stage request old new (command_cause stop))
+      by (Ok done) t = tt
+      by (Err stop) t = λ request e. subst (λ q. StopsWithin f stage q old new (command_cause stop)) (inner own request (sym is ∙ e)) t

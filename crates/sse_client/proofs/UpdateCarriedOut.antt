@@ -1,0 +1,199 @@
+-- How a session carries out an addition or a deletion: what its plan says at the place where it stands, and that it is done.
+use Rattle.std.proofs.Common.{◌≡◌, ◌≤◌, arith, ◌⊎◌, inl, inr, ℕ, true, false, List, [], ◌∷◌, map, refl, sym, ap, subst, ◌∙◌}
+use Rattle.std.specs.Prelude.{◌≢◌, Option, None, Some, Result, Ok, Err, IfOk, IfErr, IfSome, IsErrAnd, OnErr}
+use Rattle.std.specs.Option.{option_and_then, option_or}
+use Rattle.std.specs.Result.{result_err}
+use Rattle.client_core.specs.StandsFor as core
+use Rattle.client_core.specs.StandsFor.{StandsFor, add_fault, delete_fault, frames_next, with_command}
+use Rattle.client_core.specs.Updates.{command_of_update}
+use Rattle.client_core.specs.declared.update.Update.{Update}
+use Rattle.client_core.specs.declared.update.Update.TheVariants as kinds
+use Rattle.client_core.specs.declared.client.Client.{Client}
+use Rattle.client_core.specs.declared.command_fault.CommandFault.{CommandFault}
+use Rattle.client_core.specs.declared.command_fault.CommandFault.TheVariants as commands
+use Rattle.client_core.specs.declared.planned_update.PlannedUpdate.{PlannedUpdate}
+use Rattle.client_core.specs.declared.ready.Ready.{Ready}
+use Rattle.client_registry.specs.Command.{Command, Add, Delete, Search}
+use Rattle.client_registry.specs.Document.{Document}
+use Rattle.client_registry.specs.Histories.{longer}
+use Rattle.client_registry.specs.Run.{Run, at_first}
+use Rattle.keyed_fn.specs.KeyedFn.{KeyedFn}
+use Rattle.sse_frames.specs.Frames.{FrameText, frame_bytes}
+use Rattle.sse_model.specs.Histories.{frames_of_next}
+use Rattle.sse_script.specs.Shown as says
+use Rattle.sse_script.specs.Shown.{Shown, Cause}
+use Rattle.sse_script.specs.declared.refusal.Refusal.{Refusal}
+use Rattle.line_documents.specs.Refused.{document_refusal}
+use Rattle.line_documents.specs.LineFaults.{SaysRefusal}
+use Rattle.line_documents.specs.declared.line_fault.LineFault.{LineFault}
+use Rattle.line_documents.specs.declared.line_fault.LineFault.TheVariants as lines
+use Rattle.script_meaning.specs.Carries.{keys_at, with_answers, StopsIn}
+use Rattle.script_meaning.specs.Exchange.{Told}
+use Rattle.script_meaning.specs.Outcome.{Place, Outcome, Does, unless}
+use Rattle.script_meaning.specs.Refused.{add_refusal, delete_refusal}
+use Rattle.script_meaning.specs.Stops.{At}
+use Rattle.sse_client.specs.Exchanges.{HasExchanged, HasCut}
+use Rattle.run_texts.specs.LineResultViews.{line_result_view, refuses}
+use Rattle.client_core.specs.Owes.{AreNumbered}
+use Rattle.sse_client.specs.Stands.{IsAt, GoesOn, outside_of}
+use Rattle.run_texts.specs.Stops.{plan_cause}
+use Rattle.sse_client.specs.UpdateFaults.{refusal_in, update_of_line, update_of_command}
+use Rattle.sse_client.specs.UpdatePlans.{IsRefused, IsUpdateFault, IsUpdatePlan, IsPlanOf, clash_of}
+use Rattle.run_texts.specs.declared.line_result.LineResult.{LineResult}
+use Rattle.run_texts.specs.declared.plan_stop.PlanStop.{PlanStop}
+use Rattle.run_texts.specs.declared.plan_stop.PlanStop.TheVariants as plans
+use Rattle.sse_client.specs.declared.session.Stage.TheVariants.{Searching}
+use Rattle.sse_client.specs.declared.update_fault.UpdateFault.{UpdateFault}
+use Rattle.sse_client.specs.declared.update_fault.UpdateFault.TheVariants as updates
+use Rattle.sse_client.proofs.CommandTaken.{goes-refused, stops-memory}
+use Rattle.sse_client.proofs.PlansOfUpdates.{IsPlanFor, frames-at, plan-add-at, plan-delete-at, refuses-delete}
+
+-- Plans.
+
+-- a fault of the words of a document is that of its addition
+pub line_fault : (place : Place) (d : Document) (clash : Option Cause) (fault : LineFault) → SaysRefusal fault (document_refusal d.id d.words) → IsUpdateFault (add_refusal place.history d) clash (update_of_line fault)
+line_fault place d clash (lines.Refused refusal) says = first (document_refusal d.id d.words) _ refusal says
+  where
+    first : (a b : Option Refusal) (refusal : Refusal) → Some refusal ≡ a → option_or a b ≡ Some refusal
+    first None b refusal is = absurd (cc)
+    first (Some x) b refusal is = sym is
+line_fault place d clash lines.NoMemory says = inl refl
+
+-- a call that ended with such a fault made no plan
+pub unplanned : (f : KeyedFn) (place : Place) (why : Option Refusal) (c : Command) (r : Result PlannedUpdate UpdateFault) (fault : UpdateFault) → IsErrAnd r (λ e. e ≡ fault) → IsUpdateFault why (clash_of f place c) fault → IsUpdatePlan f place why c r
+unplanned f place why c (Ok planned) fault is says = absurd is
+unplanned f place why c (Err e) fault is says = record { planned = tt; fault = subst (IsUpdateFault why (clash_of f place c)) (sym is) says }
+
+-- the refusal that a fault is
+named_refusal : (fault : UpdateFault) (why : Refusal) → refusal_in fault ≡ Some why → fault ≡ updates.Refused why
+named_refusal (updates.Refused refusal) why is = cc
+named_refusal (updates.Stopped stop) why is = absurd (cc)
+
+module _ (f : KeyedFn) (place : Place) (client : Client Ready) (at : IsAt f (Searching client) place) where
+  abbrev run : Run
+  run = at.stands.0
+
+  -- the key of its place is the prepared one
+  pub at_master : (master : List ℕ) → master ≡ client.key → keys_at place at_first.epoch ≡ master
+  at_master master prepared = sym (prepared ∙ at.key)
+
+  -- the frame of a plan at this place
+  pub frame_at : (c : Command) (bytes : List ℕ) → bytes ∷ [] ≡ map frame_bytes (frames_next f (keys_at place) at_first run c) → bytes ∷ [] ≡ map frame_bytes (frames_of_next f (keys_at place) place.history (c ∷ []))
+  frame_at c bytes is = is ∙ ap (map frame_bytes) (sym (frames-at f place run at.stands.1 c))
+
+  module _ (r : Result PlannedUpdate CommandFault) where
+    pub addition_at : (d : Document) → document_refusal d.id d.words ≡ None → (r ≢ Err commands.NoMemory → result_err r ≡ add_fault f (keys_at place) at_first run d)
+        → IsPlanFor (add_refusal place.history d) (clash_of f place (Add d)) r
+    addition_at d valid fault = plan-add-at f place run at.stands.1 r at.stands.2.kept d valid fault
+
+    module _ (id : ℕ) (some : 1 ≤ id) where
+      not_zero : id ≢ 0
+      not_zero = λ zero. absurd (omega (arith, some, zero))
+
+      pub deletion_at : (r ≢ Err commands.NoMemory → result_err r ≡ delete_fault f (keys_at place) at_first run id) → IsPlanFor (delete_refusal place.history id) (clash_of f place (Delete id)) r
+      deletion_at fault = plan-delete-at f place run at.stands.1 r id not_zero fault
+
+      -- a refused deletion is refused, whatever memory there is
+      pub deletion_refused : IfSome (core.delete_refusal at_first run id) (λ fault. r ≡ Err fault) → (x : CommandFault) → r ≡ Err x → (result : Result PlannedUpdate UpdateFault) → IsErrAnd result (λ e. e ≡ update_of_command x)
+          → IfSome (delete_refusal place.history id) (λ refusal. result ≡ Err (updates.Refused refusal))
+      deletion_refused first x is result told =
+          subst (λ o. IfSome o (λ refusal. result ≡ Err (updates.Refused refusal))) (sym (ap (λ h. delete_refusal h id) at.stands.1 ∙ refuses-delete run id not_zero))
+          (by (core.delete_refusal at_first run id) first)
+        where
+          given : (result : Result PlannedUpdate UpdateFault) (fault : UpdateFault) → IsErrAnd result (λ e. e ≡ fault) → result ≡ Err fault
+          given (Ok planned) fault told = absurd told
+          given (Err e) fault told = ap (λ e. Err e) told
+
+          named : (e : CommandFault) → x ≡ e → (o : Option Refusal) → refusal_in (update_of_command e) ≡ o → IfSome o (λ refusal. result ≡ Err (updates.Refused refusal))
+          named e same None known = tt
+          named e same (Some why) known = given result (update_of_command x) told ∙ ap (λ e. Err (update_of_command e)) same ∙ ap (λ u. Err u) (named_refusal (update_of_command e) why known)
+
+          by : (o : Option CommandFault) → IfSome o (λ fault. r ≡ Err fault) → IfSome (option_and_then (λ fault. refusal_in (update_of_command fault)) o) (λ refusal. result ≡ Err (updates.Refused refusal))
+          by None h = tt
+          by (Some e) h = let same : x ≡ e = cc in named e same (refusal_in (update_of_command e)) refl
+
+-- the frame of an update has the number that the client gives it
+numbered-next : (f : KeyedFn) (keys : ℕ → List ℕ) (run : Run) (u : Update) (state : Ready) → StandsFor f keys at_first run state → AreNumbered state.frames (frames_next f keys at_first run (command_of_update u))
+numbered-next f keys run (kinds.Add doc) state s = (ap Some (sym s.number), tt)
+numbered-next f keys run (kinds.Delete id) state s = (ap Some (sym s.number), tt)
+
+module _ (f : KeyedFn) (place : Place) (client : Client Ready) (at : IsAt f (Searching client) place) (u : Update) (c : Command) (is : command_of_update u ≡ c) where
+  abbrev next_frames : List FrameText
+  next_frames = frames_of_next f (keys_at place) place.history (c ∷ [])
+
+  pub numbered-at : AreNumbered client.state.frames next_frames
+  numbered-at =
+      subst (AreNumbered client.state.frames) (sym (frames-at f place at.stands.0 at.stands.1 c))
+      (subst (λ d. AreNumbered client.state.frames (frames_next f (keys_at place) at_first at.stands.0 d)) is (numbered-next f (keys_at place) at.stands.0 u client.state at.stands.2))
+
+-- Outcomes.
+
+module _ (f : KeyedFn) (place : Place) (refusal : Option Refusal) (c : Command) (shown : Shown) where
+  abbrev updating : Outcome
+  updating = Does (c ∷ []) shown
+
+  accepted-is : refusal ≡ None → unless refusal updating ≡ updating
+  accepted-is none = ap (λ r. unless r updating) none
+
+  module _ (client : Client Ready) (at : IsAt f (Searching client) place) (planned : PlannedUpdate) (none : refusal ≡ None) (plan : IsPlanOf f place c planned) (old new : Told) where
+    -- an update whose frame was exchanged is done
+    pub goes-updated : (ready : Client Ready) (came : LineResult) → HasExchanged old new [] (frames_of_next f (keys_at place) place.history (c ∷ []))
+        → line_result_view came ≡ with_answers [] (shown ∷ []) → refuses came ≡ false → ready.key ≡ client.key → ready.state.registry.keys ≡ client.state.registry.keys → StandsFor f (keys_at place) at_first (with_command at.stands.0 c) ready.state
+        → GoesOn f old new (Searching ready) came place (unless refusal updating)
+    goes-updated ready came x view fine keyed hashes stands =
+        subst (GoesOn f old new (Searching ready) came place) (sym (accepted-is none))
+        (record {
+          answers = [];
+          sent = record { events = x.events; adds = x.adds; exchanged = x.exchanged; no_clash = plan.no_clash };
+          shown = view;
+          refuses = fine;
+          stands = record { key = keyed ∙ at.key; stands = (with_command at.stands.0 c, ap (longer (c ∷ [])) at.stands.1, stands); hashed = hashes ∙ at.hashed };
+        })
+
+    -- one whose exchange was cut stops the run
+    pub stops-updated : (cause : Cause) → HasCut old new (frames_of_next f (keys_at place) place.history (c ∷ [])) cause → (written : Option (List ℕ))
+        → StopsIn f place (unless refusal updating) (outside_of old written) (outside_of new written) (At cause)
+    stops-updated cause cut written =
+        subst (λ result. StopsIn f place result (outside_of old written) (outside_of new written) (At cause)) (sym (accepted-is none))
+        (inr (inl (record { cause = cause; stops = refl; events = cut.events; adds = cut.adds; cut = cut.cut; no_clash = λ _. plan.no_clash; unprinted = refl })))
+
+  -- a refused one is refused
+  pub goes-refused_update : (told : Told) (client : Client Ready) (came : LineResult) (why : Refusal) → IsAt f (Searching client) place → refusal ≡ Some why → line_result_view came ≡ says.Refused why ∷ [] → refuses came ≡ true
+      → GoesOn f told told (Searching client) came place (unless refusal updating)
+  goes-refused_update told client came why at is view refused =
+      subst (GoesOn f told told (Searching client) came place) (sym (ap (λ r. unless r updating) is)) (goes-refused f told (Searching client) came place why view refused at)
+
+  -- equal values and want of memory stop the run before anything of it is sent
+  pub stops-unplanned : (told : Told) (stop : PlanStop) → (stop ≡ plans.Memory) ⊎ ((refusal ≡ None) × (clash_of f place c ≡ Some (plan_cause stop))) → (written : Option (List ℕ))
+      → StopsIn f place (unless refusal updating) (outside_of told written) (outside_of told written) (At (plan_cause stop))
+  stops-unplanned told stop why written = elim why [
+    | inl memory ↦ subst (λ s. StopsIn f place (unless refusal updating) (outside_of told written) (outside_of told written) (At (plan_cause s))) (sym memory) (stops-memory f told place (unless refusal updating) written)
+    | inr clash ↦ subst (λ result. StopsIn f place result (outside_of told written) (outside_of told written) (At (plan_cause stop))) (sym (accepted-is clash.0))
+        (inl (record { cause = plan_cause stop; found = clash.1; stops = refl; nothing = refl }))
+  ]
+
+-- what follows of each good answer, and of each fault
+pub of_good : {T E : Type 0} (r : Result T E) (P Q : T → Type 0) → ((x : T) → P x → Q x) → IfOk r P → IfOk r Q
+of_good (Ok x) P Q then p = then x p
+of_good (Err e) P Q then p = tt
+
+pub of_fault : {T E : Type 0} (r : Result T E) (P Q : E → Type 0) → ((e : E) → P e → Q e) → IfErr r P → IfErr r Q
+of_fault (Ok x) P Q then p = tt
+of_fault (Err e) P Q then p = then e p
+
+pub of_stop : {T E : Type 0} (r : Result T E) (P Q : Type 0) → (P → Q) → OnErr r P → OnErr r Q
+of_stop (Ok x) P Q then p = tt
+of_stop (Err e) P Q then p = then p
+
+-- a stop in what a line comes to
+pub stops_as : (f : KeyedFn) (place : Place) (old new : Told) (written : Option (List ℕ)) (cause : Cause) {r line : Outcome} → r ≡ line → StopsIn f place r (outside_of old written) (outside_of new written) (At cause) → StopsIn f place line (outside_of old written) (outside_of new written) (At cause)
+stops_as f place old new written cause same stops = subst (λ result. StopsIn f place result (outside_of old written) (outside_of new written) (At cause)) same stops
+
+-- a plan that failed, by its fault
+pub failed : (plan : Result PlannedUpdate UpdateFault) (e fault : UpdateFault) → plan ≡ Err e → e ≡ fault → plan ≡ Err fault
+failed plan e fault is same = is ∙ ap (λ x. Err x) same
+
+-- where a refusal would have been told, there is none
+pub not_refused : (refusal : Option Refusal) (plan : Result PlannedUpdate UpdateFault) → (IsRefused plan → ⊥) → IfSome refusal (λ why. plan ≡ Err (updates.Refused why)) → refusal ≡ None
+not_refused None plan unrefused told = refl
+not_refused (Some why) plan unrefused told = absurd (unrefused (why, told))

@@ -1,0 +1,70 @@
+use Rattle.std.proofs.Common.{Some, rules, refl, sym, ap, ◌∙◌, subst, arith}
+use Rattle.keyed_fn.specs.KeyedFn.{keyed_fn}
+use Rattle.run_texts.specs.Causes.{LinkCause, SourceCause}
+use Rattle.run_texts.specs.declared.stop_cause.StopCause.TheVariants as stops
+use Rattle.sse_script.specs.Views.{line_view}
+use Rattle.sse_script.specs.declared.line.Line.{Line}
+use Rattle.script_meaning.proofs.Steps.{IsBad}
+use Rattle.script_meaning.specs.Lines.{line_read}
+use Rattle.sse_client.specs.Calls.{shows}
+use Rattle.sse_client.specs.Stands.{has_refused}
+use Rattle.sse_client.proofs.CountsAtStop.{SourceCause-same}
+use Rattle.sse_client.proofs.TranscriptsJoined.{KeepsLink-err, KeepsSink-err, KeepsSource-err}
+use Rattle.sse_client.proofs.RunGoesOn.{line_in-read, line_in-none, command_of, ends-bad, ends-input, ends-end, ends-stopped, leads-bad, leads-stopped, there-empty, there-next, there-start}
+use Rattle.sse_client.proofs.lines.take_turn.Goals as goal
+
+pub returns-in_err-advance-clause-turns : goal.returns-in_err-advance-clause-turns
+returns-in_err-advance-clause-turns g c = λ place at.
+    let f = keyed_fn g.K.Keyed.prf g.K.Keyed.pad in
+    let stop = c.in_err-advance.field-0.0 in
+    leads-stopped f _ _ _ _ c.from_residual.result (stops.Input stop) c.from_residual.ensures.1
+    (ends-input f _ c.args.session.stage c.args.input.now.number _ (has_refused c.args.session.refusals) _ (there-start f place c.args.session.stage c.args.input.now.number _ (has_refused c.args.session.refusals) _ at) _ stop
+    (λ m e. c.in_err-advance.ensures.too_long m (search e)) (λ m e. let n = c.in_err-advance.ensures.counted_long m (search e) in omega (arith, n, c.requires.few)))
+
+pub returns-then-not-branch-clause-turns : goal.returns-then-not-branch-clause-turns
+returns-then-not-branch-clause-turns g c = λ place at.
+    let f = keyed_fn g.K.Keyed.prf g.K.Keyed.pad in
+    ends-end f _ c.args.session.stage c.args.input.now.number _ (has_refused c.args.session.refusals) _ (there-start f place c.args.session.stage c.args.input.now.number _ (has_refused c.args.session.refusals) _ at) (c.in_ok-advance.ensures.end (search rules))
+
+pub returns-in_err-line-clause-turns : goal.returns-in_err-line-clause-turns
+returns-in_err-line-clause-turns g c = λ place at.
+    let f = keyed_fn g.K.Keyed.prf g.K.Keyed.pad in
+    let text = c.advance.new.self.line in
+    leads-bad f _ _ _ _ c.from_residual-in_err-line.result c.in_err-line.field-0.0 c.advance.new.self.number c.from_residual-in_err-line.ensures.1 c.in_err-line.ensures.bad
+    (ends-bad f _ c.args.session.stage c.args.input.now.number _ (has_refused c.args.session.refusals) _ (there-start f place c.args.session.stage c.args.input.now.number _ (has_refused c.args.session.refusals) _ at) _ text c.advance.new.self.number (c.in_ok-advance.ensures.line (search rules))
+    (subst IsBad (sym (line_in-none text (sym c.in_err-line.ensures.read))) tt) (omega (arith, c.in_ok-advance.ensures.counted, c.requires.few)))
+
+pub returns-in-Empty-clause-turns : goal.returns-in-Empty-clause-turns
+returns-in-Empty-clause-turns g c = λ place at.
+    let f = keyed_fn g.K.Keyed.prf g.K.Keyed.pad in
+    let text = c.advance.new.self.line in
+    there-empty f _ c.args.session.stage c.args.input.now.number _ (has_refused c.args.session.refusals) _ (there-start f place c.args.session.stage c.args.input.now.number _ (has_refused c.args.session.refusals) _ at) _ text c.advance.new.self.number (c.in_ok-advance.ensures.line (search rules))
+    (line_in-read c.in_ok-line.line text c.in_ok-line.ensures.read ∙ ap (λ (line : Line). Some (line_read (line_view line))) c.in-Empty.is) (omega (arith, c.in_ok-advance.ensures.counted, c.requires.few))
+
+pub returns-in-Key-clause-turns : goal.returns-in-Key-clause-turns
+returns-in-Key-clause-turns g c = λ place at.
+    let f = keyed_fn g.K.Keyed.prf g.K.Keyed.pad in
+    let text = c.advance.new.self.line in
+    ends-bad f _ c.args.session.stage c.args.input.now.number _ (has_refused c.args.session.refusals) _ (there-start f place c.args.session.stage c.args.input.now.number _ (has_refused c.args.session.refusals) _ at) _ text c.number.result (c.in_ok-advance.ensures.line (search rules))
+    (subst IsBad (sym (line_in-read c.in_ok-line.line text c.in_ok-line.ensures.read ∙ ap (λ (line : Line). Some (line_read (line_view line))) c.in-Key.is)) tt)
+    (omega (arith, c.in_ok-advance.ensures.counted, c.requires.few, c.number.ensures))
+
+pub returns-in_err-next-in_default-clause-turns :
+    goal.returns-in_err-next-in_default-clause-turns
+returns-in_err-next-in_default-clause-turns g c = λ place at.
+    let f = keyed_fn g.K.Keyed.prf g.K.Keyed.pad in
+    let text = c.advance.new.self.line in
+    let command = command_of c.in_ok-line.line c.in_default.not-Empty c.in_default.not-Key in
+    leads-stopped f _ _ _ _ c.from_residual-in_err-next-in_default.result c.in_err-next-in_default.field-0.0 c.from_residual-in_err-next-in_default.ensures.1
+    (ends-stopped f _ c.args.session.stage c.args.input.now.number _ (has_refused c.args.session.refusals) _ (there-start f place c.args.session.stage c.args.input.now.number _ (has_refused c.args.session.refusals) _ at) _ text command.0 _ _ (c.in_ok-advance.ensures.line (search rules))
+    (line_in-read c.in_ok-line.line text c.in_ok-line.ensures.read ∙ ap (λ line. Some line) command.1) (c.in_err-next-in_default.ensures.stops command.0 command.1))
+
+pub returns-in_ok-next-in_default-clause-turns :
+    goal.returns-in_ok-next-in_default-clause-turns
+returns-in_ok-next-in_default-clause-turns g c = λ place at.
+    let f = keyed_fn g.K.Keyed.prf g.K.Keyed.pad in
+    let text = c.advance.new.self.line in
+    let command = command_of c.in_ok-line.line c.in_default.not-Empty c.in_default.not-Key in
+    there-next f _ c.args.session.stage c.args.input.now.number _ (has_refused c.args.session.refusals) _ (there-start f place c.args.session.stage c.args.input.now.number _ (has_refused c.args.session.refusals) _ at) _ text command.0 c.advance.new.self.number _ c.in_ok-next-in_default.next c.in_ok-next-in_default.refused (has_refused c.or-refusals.result)
+    (c.in_ok-advance.ensures.line (search rules)) (line_in-read c.in_ok-line.line text c.in_ok-line.ensures.read ∙ ap (λ line. Some line) command.1) (omega (arith, c.in_ok-advance.ensures.counted, c.requires.few))
+    (c.in_ok-next-in_default.ensures.carries command.0 command.1) c.or-refusals.ensures

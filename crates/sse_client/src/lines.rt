@@ -1,0 +1,158 @@
+ghost use Rattle.std.specs.Prelude.{◌≡◌, ◌≢◌, ◌≤◌, ◌<◌, ◌+◌, ◌^◌, ◌||◌, Err, IfErr, IfOk};
+ghost use Rattle.std.specs.Io.KnownBytes.{IsAtEnd};
+ghost use Rattle.keyed_fn.specs.KeyedFn.{keyed_fn};
+ghost use Rattle.run_texts.specs.Causes.{KeepsSink, KeepsSource, LinkCause, SourceCause};
+ghost use Rattle.run_texts.specs.LineWords.{words_in};
+ghost use Rattle.script_meaning.specs.Lines as requests;
+ghost use Rattle.script_meaning.specs.Lines.{Request, line_read};
+ghost use Rattle.script_meaning.specs.Outcome.{Place};
+ghost use Rattle.script_meaning.specs.Runs.{moment};
+ghost use Rattle.sse_client.specs.Calls.{shows, KeepsLink};
+ghost use Rattle.sse_client.specs.Stages.{key_of};
+ghost use Rattle.sse_client.specs.Stands.{IsAt, outside_of, stop_view, has_refused, CarriesOut, StopsRun, EndsFrom};
+ghost use Rattle.sse_client.specs.Turns.{ending, IfNext, OnEnd, Turns};
+ghost use Rattle.sse_script.specs.TextLines.{bytes_to_come, lines_left};
+ghost use Rattle.sse_script.specs.Views.{line_view};
+
+use crate::reply_buffer::ReplyBuffer;
+use crate::session::{Stage, take_line};
+use crate::tools::Tools;
+use keyed_fn::Keyed;
+use run_texts::{Input, InputStop, StopCause};
+use sse_link::Link;
+use sse_outside::{Sink, Source};
+use sse_script::Line;
+
+/// Whether a command was refused.
+#[derive(Clone, Copy)]
+pub(crate) enum Refusals {
+    None,
+    Some,
+}
+
+impl Refusals {
+    /// The same with a command more, which was refused or not.
+    fn or(self, refused: bool) -> Refusals
+        ensures { has_refused result ≡ has_refused self || refused }
+    {
+        if refused { Refusals::Some } else { self }
+    }
+}
+
+/// A session between two lines: how far it is, whether a command was refused, and the memory for replies.
+#[derive(Drop)]
+pub(crate) struct Session {
+    pub(crate) stage: Stage,
+    pub(crate) refusals: Refusals,
+    pub(crate) buffer: ReplyBuffer,
+}
+
+/// What a turn of the loop over the lines leads to.
+#[derive(Drop)]
+enum Turn {
+    /// The session after one line more.
+    Next(Session),
+    /// No line was left.
+    End(Refusals),
+}
+
+/// Carries out the lines after the key line, and prints what each comes to.
+pub(crate) fn run_lines<K: Keyed, L: Link, S: Source, W: Sink>(
+    tools: &Tools<'_, K>,
+    link: &mut L,
+    source: &mut S,
+    sink: &mut W,
+    input: &mut Input,
+    mut session: Session,
+) -> Result<Refusals, StopCause>
+    requires prepared { tools.now.master ≡ key_of session.stage }
+    requires few { input.old.number + bytes_to_come input.old.pending (S.handed_out source.old) ≤ 2 ^ 63 }
+    ensures ends { (place : Place) → IsAt (keyed_fn K.prf K.pad) session.stage place →
+        EndsFrom (keyed_fn K.prf K.pad) (moment place (input.old.number + 1) (lines_left input.old.pending (S.remaining source.old)) (has_refused session.refusals) (outside_of (L.transcript link.old) (W.written sink.old)))
+        (outside_of (L.transcript link.new) (W.written sink.new)) (ending result) }
+    ensures at_end { IfOk result (λ _. IsAtEnd (S.remaining source.new)) }
+    ensures source { KeepsSource SourceCause (S.faults source.old) (S.faults source.new) result }
+    ensures sink { KeepsSink (W.faults sink.old) (W.faults sink.new) (W.shortages sink.old) (W.shortages sink.new) result }
+    ensures link { KeepsLink LinkCause (shows (L.transcript link.old) (L.faults link.old) (L.began link.old)) (shows (L.transcript link.new) (L.faults link.new) (L.began link.new)) result }
+{
+    'lines: loop {
+        match take_turn(tools, link, source, sink, input, session)? {
+            Turn::Next(next) => session = next,
+            Turn::End(refusals) => return Ok(refusals),
+        }
+    }
+}
+
+/// Reads the next line and carries it out.
+fn take_turn<K: Keyed, L: Link, S: Source, W: Sink>(
+    tools: &Tools<'_, K>,
+    link: &mut L,
+    source: &mut S,
+    sink: &mut W,
+    input: &mut Input,
+    session: Session,
+) -> Result<Turn, StopCause>
+    requires prepared { tools.now.master ≡ key_of session.stage }
+    requires few { input.old.number + bytes_to_come input.old.pending (S.handed_out source.old) ≤ 2 ^ 63 }
+    ensures turns { Turns (keyed_fn K.prf K.pad) session input.old.number (lines_left input.old.pending (S.remaining source.old)) (outside_of (L.transcript link.old) (W.written sink.old))
+        input.new.number (lines_left input.new.pending (S.remaining source.new)) (outside_of (L.transcript link.new) (W.written sink.new)) result }
+    ensures same_key { IfOk result (λ turn. IfNext turn (λ next. key_of next.stage ≡ key_of session.stage)) }
+    ensures counted { IfOk result (λ turn. IfNext turn (λ _. input.new.number ≡ input.old.number + 1)) }
+    ensures less { IfOk result (λ turn. IfNext turn (λ _.
+        bytes_to_come input.new.pending (S.handed_out source.new) < bytes_to_come input.old.pending (S.handed_out source.old))) }
+    ensures at_end { IfOk result (λ turn. OnEnd turn (IsAtEnd (S.remaining source.new))) }
+    ensures source { KeepsSource SourceCause (S.faults source.old) (S.faults source.new) result }
+    ensures sink { KeepsSink (W.faults sink.old) (W.faults sink.new) (W.shortages sink.old) (W.shortages sink.new) result }
+    ensures link { KeepsLink LinkCause (shows (L.transcript link.old) (L.faults link.old) (L.began link.old)) (shows (L.transcript link.new) (L.faults link.new) (L.began link.new)) result }
+{
+    let Session {
+        stage,
+        refusals,
+        mut buffer,
+    } = session;
+    if !input.advance(source)? {
+        return Ok(Turn::End(refusals));
+    }
+    match input.line()? {
+        Line::Empty => Ok(Turn::Next(Session {
+            stage,
+            refusals,
+            buffer,
+        })),
+        Line::Key(_) => Err(StopCause::Input(InputStop::Line(input.number()))),
+        line => {
+            let (next, refused) = run_command(tools, link, &mut buffer, sink, stage, line)?;
+            let refusals = refusals.or(refused);
+            Ok(Turn::Next(Session {
+                stage: next,
+                refusals,
+                buffer,
+            }))
+        }
+    }
+}
+
+/// Carries out a command, and prints what it comes to; answers where the session stands then, and whether it was refused.
+fn run_command<K: Keyed, L: Link, W: Sink>(
+    tools: &Tools<'_, K>,
+    link: &mut L,
+    buffer: &mut ReplyBuffer,
+    sink: &mut W,
+    stage: Stage,
+    line: Line<'_>,
+) -> Result<(Stage, bool), StopCause>
+    requires prepared { tools.now.master ≡ key_of stage }
+    requires words { words_in (line_view line) ≤ 2 ^ 19 }
+    ensures carries { IfOk result (λ done. (request : Request) → line_read (line_view line.entry) ≡ requests.Command request →
+        CarriesOut (keyed_fn K.prf K.pad) stage request (outside_of (L.transcript link.old) (W.written sink.old)) (outside_of (L.transcript link.new) (W.written sink.new)) done.0 done.1) }
+    ensures stops { IfErr result (λ stop. (request : Request) → line_read (line_view line.entry) ≡ requests.Command request →
+        StopsRun (keyed_fn K.prf K.pad) stage request (outside_of (L.transcript link.old) (W.written sink.old)) (outside_of (L.transcript link.new) (W.written sink.new)) (stop_view stop)) }
+    ensures same_key { IfOk result (λ done. key_of done.0 ≡ key_of stage) }
+    ensures no_source { result ≢ Err (StopCause.Input InputStop.Source) }
+    ensures sink { KeepsSink (W.faults sink.old) (W.faults sink.new) (W.shortages sink.old) (W.shortages sink.new) result }
+    ensures link { KeepsLink LinkCause (shows (L.transcript link.old) (L.faults link.old) (L.began link.old)) (shows (L.transcript link.new) (L.faults link.new) (L.began link.new)) result }
+{
+    let (next, outcome) = take_line(tools, link, buffer, stage, line)?;
+    outcome.print(tools.alloc, sink)?;
+    Ok((next, outcome.is_refusal()))
+}

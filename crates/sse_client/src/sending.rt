@@ -1,0 +1,38 @@
+ghost use Rattle.std.specs.Prelude.{◌≡◌, ℕ, List, map, IfOk};
+ghost use Rattle.std.specs.List.{AllByRecursion};
+ghost use Rattle.client_core.specs.Sending.{first_number, to_send};
+ghost use Rattle.run_texts.specs.Causes.{PeerCause};
+ghost use Rattle.sse_client.specs.Calls.{shows, KeepsLink, Sends};
+ghost use Rattle.client_core.specs.Owes.{AreNumbered};
+ghost use Rattle.sse_frames.specs.Frames.{FrameText, IsFrame, frame_bytes};
+
+use crate::exchange::exchange;
+use crate::peer_fault::stop_of_reply;
+use crate::reply_buffer::ReplyBuffer;
+use client_core::{Behind, Client, Ready, Taken};
+use run_texts::PeerStop;
+use sse_link::Link;
+
+/// Sends each frame that the server may lack, and takes its acknowledgement before the next.
+pub(crate) fn catch_up<L: Link>(
+    mut client: Client<Behind>,
+    link: &mut L,
+    buffer: &mut ReplyBuffer,
+) -> Result<Client<Ready>, PeerStop>
+    requires frames { AllByRecursion IsFrame (to_send client.state) }
+    ensures key { IfOk result (λ ready. ready.key ≡ client.key) }
+    ensures ready { IfOk result (λ ready. ready.state ≡ client.state.ready) }
+    ensures sends { (frames : List FrameText) → to_send client.state ≡ map frame_bytes frames → AreNumbered (first_number client.state) frames →
+        Sends (shows (L.transcript link.old) (L.faults link.old) (L.began link.old)) (shows (L.transcript link.new) (L.faults link.new) (L.began link.new)) frames result }
+    ensures keeps { KeepsLink PeerCause (shows (L.transcript link.old) (L.faults link.old) (L.began link.old)) (shows (L.transcript link.new) (L.faults link.new) (L.began link.new)) result }
+{
+    'frames: loop {
+        exchange(link, client.frame(), buffer)?;
+        let reply = buffer.reply();
+        match client.take_reply(reply) {
+            Taken::Behind(next) => client = next,
+            Taken::Ready(ready) => return Ok(ready),
+            Taken::Stopped(_spent, fault) => return Err(stop_of_reply(fault, reply)),
+        }
+    }
+}
