@@ -41,7 +41,7 @@ pub(crate) fn search(alloc: Global, additions: u64, turns: u64) -> Result<u64, A
     Ok(sum)
 }
 
-/// The addition of this number: the first of a word, and behind those of all words one that no search looks up.
+/// The addition of this number: the first of a word, and after those of all words one that no search looks up.
 fn entry(number: u64) -> ([u8; 16], [u8; 8]) {
     if number >= WORDS {
         return (Labels::Spread.label(number), [0; 8]);

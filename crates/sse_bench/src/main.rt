@@ -1,6 +1,6 @@
 //! The rows of the bench: the words of the command line name what is done and how often, as `prepared 1000000`. It
 //! prints a number that each turn goes into, so that none can be left out, and for `colliding` words. It takes no time
-//! itself: bench/run does, round the whole process. It stands on the crates whose calls it makes, and proves nothing of them.
+//! itself: bench/run does, round the whole process. It depends on the crates whose calls it makes, and proves nothing of them.
 #![tactic(auto)]
 
 mod additions;

@@ -23,10 +23,10 @@ pub(crate) struct List {
     tops: u32,
 }
 
-/// 10,240 identifiers behind a cell of pointers.
+/// 10,240 identifiers of a cell of pointers.
 pub(crate) const SHORT: List = List { data: 40, tops: 0 };
 
-/// 2^20 identifiers behind a cell of pointers to blocks of pointers.
+/// 2^20 identifiers of a cell of pointers to blocks of pointers.
 pub(crate) const LONG: List = List {
     data: 4096,
     tops: 16,
@@ -184,7 +184,7 @@ pub(crate) fn set_up(
     Ok(())
 }
 
-/// The encrypted cell of pointers in order: to all blocks of identifiers, which come first in the array, or behind those to
+/// The encrypted cell of pointers in order: to all blocks of identifiers, which come first in the array, or after those to
 /// the blocks of pointers.
 fn cell(token: &Token, list: List) -> [u8; 513] {
     let mut cell = [0u8; 513];

@@ -12,7 +12,7 @@ pub(crate) enum Labels {
 }
 
 impl Labels {
-    /// The label of this number: two words of SplitMix64 behind it, evenly spread, of which the first four bytes are
+    /// The label of this number: two words of SplitMix64 after it, evenly spread, of which the first four bytes are
     /// the same where labels are alike.
     pub(crate) fn label(self, number: u64) -> [u8; 16] {
         let [a, b, c, d, e, f, g, h] = mixed(number).to_be_bytes();

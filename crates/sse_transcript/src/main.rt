@@ -3,14 +3,15 @@
 //! input, parted by lines of four hyphens. What a script itself prints isn't shown.
 #![tactic(auto)]
 
+mod read_stop;
 mod recording;
-mod stop;
 
+use read_stop::read_stop;
 use recording::record_all;
-use sse_outside::{StdSink, print_all};
+use run_texts::{StopCause, finish};
+use sse_outside::StdSink;
 use std::io::Read;
 use std::process::ExitCode;
-use stop::{Stop, read_stop};
 
 /// Records the scripts of standard input. It ends with 0, or as a run does where its input, its output or memory fails.
 fn main(rt: HostRuntime) -> ExitCode {
@@ -18,15 +19,12 @@ fn main(rt: HostRuntime) -> ExitCode {
     let ended = read_all(&rt).and_then(|scripts| record_all(rt.alloc(), &scripts, &mut sink));
     match ended {
         Ok(()) => ExitCode::SUCCESS,
-        Err(stop) => {
-            let _ = print_all(&mut sink, stop.line());
-            ExitCode::from(stop.status())
-        }
+        Err(stop) => ExitCode::from(finish(&mut sink, stop)),
     }
 }
 
 /// All of standard input.
-fn read_all(rt: &HostRuntime) -> Result<Vec<u8>, Stop> {
+fn read_all(rt: &HostRuntime) -> Result<Vec<u8>, StopCause> {
     let mut bytes = Vec::new(rt.alloc());
     match rt.stdin().read_to_end(&mut bytes) {
         Ok(_) => Ok(bytes),

@@ -2,9 +2,10 @@ ghost use Rattle.std.specs.Prelude.{◌≡◌};
 ghost use Rattle.server_core.specs.State.{at_first};
 ghost use Rattle.sse_link.specs.Told.{told_first};
 
-use crate::stop::{Stop, read_stop};
+use crate::read_stop::read_stop;
 use keyed_fn::Real;
 use memory_disk::SteadyDisk;
+use run_texts::StopCause;
 use server_core::Server;
 use server_tables::BucketTables;
 use sse_client::run_over_server;
@@ -16,8 +17,12 @@ use std::io::BufRead;
 /// The line between two scripts, which no script has.
 const PARTING: &[u8] = b"----";
 
-/// Records each of the scripts, in their order; behind the last there may be a parting line or none.
-pub(crate) fn record_all<W: Sink>(alloc: Global, scripts: &[u8], sink: &mut W) -> Result<(), Stop> {
+/// Records each of the scripts, in their order; after the last there may be a parting line or none.
+pub(crate) fn record_all<W: Sink>(
+    alloc: Global,
+    scripts: &[u8],
+    sink: &mut W,
+) -> Result<(), StopCause> {
     let mut script = Vec::new(alloc);
     for line in BufRead::split(scripts, alloc, b'\n') {
         let line = line.map_err(|error| read_stop(&error))?;
@@ -36,7 +41,7 @@ pub(crate) fn record_all<W: Sink>(alloc: Global, scripts: &[u8], sink: &mut W) -
 }
 
 /// Runs a script over a loopback to a server that has taken nothing, and prints what passed and the status.
-fn record<W: Sink>(alloc: Global, script: Vec<u8>, sink: &mut W) -> Result<(), Stop> {
+fn record<W: Sink>(alloc: Global, script: Vec<u8>, sink: &mut W) -> Result<(), StopCause> {
     let mut link = SteadyLoopback::new(alloc, Real, Server::new(BucketTables::new(alloc)));
     let status = run_over(alloc, &mut link, script)?;
     for passed in link.transcript() {

@@ -3,7 +3,7 @@ use Rattle.keyed_fn.specs.KeyedFn.{keyed_fn}
 use Rattle.server_core.specs.Walk.{IsWalk, contents_of}
 use Rattle.sse_bench.proofs.searches.find.Given as goal
 
--- the walk goes on behind the page
+-- the walk goes on after the page
 abbrev pub invariant-loop-page : goal.invariant-loop-page
 invariant-loop-page g l = record {
   some : 0 < length l.page;

@@ -1,0 +1,26 @@
+use Rattle.std.proofs.Common.{◌≡◌, ℕ, List, Option, None, Some, drop, map, sym, ap, subst, ◌∙◌}
+use Rattle.std.specs.Prelude.{IfSome, string_bytes}
+use Rattle.run_texts.specs.Words.{Run}
+use Rattle.sse_local.specs.Given.{words_given}
+use Rattle.sse_local.proofs.program.run_program.Goals as goal
+
+-- what holds of the words that are given holds where they are told otherwise
+of_words : (P : List (List ℕ) → Type 0) (given : Option (List (List ℕ))) (words : List (List ℕ)) → given ≡ Some words → P words → IfSome given P
+of_words P given words is p = subst (λ o. IfSome o P) (sym is) p
+
+pub returns-in-Words-clause-runs : goal.returns-in-Words-clause-runs
+returns-in-Words-clause-runs g c =
+    of_words _ _ _ (ap words_given c.in-Words.is ∙ ap (λ words. Some (map (λ word. string_bytes word) words)) (sym (c.behind_name.ensures ∙ ap (drop 1) c.as_slice.ensures.value))) c.run_in_memory.ensures.runs
+
+pub returns-in-Words-clause-headline : goal.returns-in-Words-clause-headline
+returns-in-Words-clause-headline g c =
+    of_words _ _ _ (ap words_given c.in-Words.is ∙ ap (λ words. Some (map (λ word. string_bytes word) words)) (sym (c.behind_name.ensures ∙ ap (drop 1) c.as_slice.ensures.value))) c.run_in_memory.ensures.headline
+
+pub returns-in-Words-clause-other_words : goal.returns-in-Words-clause-other_words
+returns-in-Words-clause-other_words g c =
+    of_words _ _ _ (ap words_given c.in-Words.is ∙ ap (λ words. Some (map (λ word. string_bytes word) words)) (sym (c.behind_name.ensures ∙ ap (drop 1) c.as_slice.ensures.value))) c.run_in_memory.ensures.words_status
+
+pub returns-in-Words-clause-other_words_line : goal.returns-in-Words-clause-other_words_line
+returns-in-Words-clause-other_words_line g c =
+    of_words _ _ _ (ap words_given c.in-Words.is ∙ ap (λ words. Some (map (λ word. string_bytes word) words)) (sym (c.behind_name.ensures ∙ ap (drop 1) c.as_slice.ensures.value)))
+    (λ none. c.run_in_memory.ensures.words_line (λ some. let no : None ≡ Some Run = sym none ∙ some in absurd (cc)))
