@@ -5,7 +5,6 @@ use client_replies::ReplyFault;
 use index_setup::BuildFault;
 use line_documents::LineFault;
 use list_packing::HoleInBlock;
-use revocation_ids::NumbersFault;
 use server_core::{Refuse, WalkFault};
 use server_tables::TableFault;
 use sse_frames::FrameFault;
@@ -129,7 +128,7 @@ fn faults_of_commands(rt: HostRuntime) -> Result<(), Fail> {
         first: 0,
         second: 1,
     };
-    let number_clash = NumbersFault::NumberClash {
+    let number_clash = CommandFault::NumberClash {
         first: 0,
         second: 2,
     };
@@ -149,7 +148,7 @@ fn faults_of_commands(rt: HostRuntime) -> Result<(), Fail> {
         ),
         (
             number_clash.to_string(alloc)?,
-            "the revocation numbers 0 and 2 from 0 are equal",
+            "the numbers of the words 0 and 2 are equal",
         ),
         (
             CommandFault::CounterFull(2).to_string(alloc)?,

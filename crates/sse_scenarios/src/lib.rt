@@ -1,10 +1,15 @@
-//! Whole runs of the client as tests, which stand above every crate: over an honest link with the bytes of the worked
-//! examples of docs/LEAKAGE.md, over links that play back made-up replies, and over devices and links that fail at chosen
-//! calls. It exports nothing; what it shows is tested and not proved.
+//! Whole runs of the client as tests, which stand above every crate: over an honest link with the bytes that pass, those
+//! of the worked examples of docs/LEAKAGE.md among them, over links that play back made-up replies, and over devices and
+//! links that fail at chosen calls. Beside them the tests of the client's crates above level 3 whose values no run shows:
+//! of a word's keys, of the last counter, of a reply that is no page. It exports nothing; what it shows is tested and not proved.
 #![tactic(auto)]
 
 #[cfg(test)]
+mod bounds;
+#[cfg(test)]
 mod clashes;
+#[cfg(test)]
+mod derived_keys;
 #[cfg(test)]
 mod devices;
 #[cfg(test)]
@@ -12,6 +17,12 @@ mod fault_texts;
 #[cfg(test)]
 mod made_up_links;
 #[cfg(test)]
+mod printed;
+#[cfg(test)]
+mod reply_pages;
+#[cfg(test)]
 mod running;
+#[cfg(test)]
+mod transcripts;
 #[cfg(test)]
 mod worked_example;

@@ -17,7 +17,7 @@ const SET_UP: &[u8] = b"\x00\x00\x00\x05\x81\x00\x00\x00\x00\
 \x00\x00\x00\x05\x82\x00\x00\x00\x01\
 \x00\x00\x00\x05\x82\x00\x00\x00\x02";
 
-/// A row's name, the last replies, the status that a run over them ends with, and the lines that it prints behind the setup's.
+/// A row's name, the last replies, the status that a run over them ends with, and the lines that it prints after the setup's.
 const UPDATE_ROWS: [(&str, &[u8], u8, &[u8]); 5] = [
     (
         "the acknowledgement",

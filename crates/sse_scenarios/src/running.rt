@@ -1,7 +1,7 @@
 use keyed_fn::Keyed;
 use memory_disk::SteadyDisk;
 use sse_client::sse_run;
-use sse_link::Link;
+use sse_link::{Link, Passed};
 use sse_outside::{MemSink, MemSource};
 use std::alloc::{AllocError, Global};
 
@@ -45,4 +45,23 @@ pub(crate) fn run_over<K: Keyed, L: Link>(
     );
     let printed = Vec::from_slice(alloc, sink.bytes())?;
     Ok(Ended { status, printed })
+}
+
+/// What passed, as a line: which way, and the bytes in hexadecimal digits.
+fn line_of(alloc: Global, passed: &Passed) -> Result<String, AllocError> {
+    let (way, bytes) = match passed {
+        Passed::Sent { bytes, .. } => ("sent", bytes),
+        Passed::Received(bytes) => ("received", bytes),
+    };
+    let hexadecimal = hex::encode(alloc, bytes.as_slice())?;
+    format!(in alloc; "{way} {hexadecimal}\n")
+}
+
+/// All that passed, a line for each event.
+pub(crate) fn lines_of(alloc: Global, passed: &[Passed]) -> Result<String, AllocError> {
+    let mut lines = String::new(alloc);
+    for event in passed {
+        lines.push_str(line_of(alloc, event)?.as_str())?;
+    }
+    Ok(lines)
 }

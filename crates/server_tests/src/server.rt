@@ -1,0 +1,188 @@
+use keyed_fn::Toy;
+use server_core::{Answer, Server};
+use server_tables::SortedTables;
+use sse_frames::read_frame;
+use std::alloc::{AllocError, Global};
+use std::test::Fail;
+
+// The frames of a setup of the document `1 a` with cells of one identifier and blocks of one, under the key of
+// 32 zero bytes and the toy keyed function, and of a search for `a`: computed by an independent model.
+
+const HELLO: &[u8] = b"\x00\x00\x00\x01\x01";
+
+const BEGIN: &[u8] =
+    b"\x00\x00\x00\x11\x02\x00\x00\x00\x00\x00\x01\x00\x01\x00\x00\x00\x01\x00\x00\x00\x00";
+
+const DICT: &[u8] =
+    b"\x00\x00\x00\x22\x03\x00\x00\x00\x01\x00\x09\x00\x01\xc3\xc5\xc7\xc9\xcb\xcd\xcf\xd1\xd3\xd5\xd7\xd9\xdb\xdd\xdf\xe1\xc4\xc5\xc6\xc7\xc8\xc9\xca\xcb\xcd";
+
+const END: &[u8] = b"\x00\x00\x00\x05\x05\x00\x00\x00\x02";
+
+const SEARCH: &[u8] =
+    b"\x00\x00\x00\xa1\x08\xc3\xc4\xc5\xc6\xc7\xc8\xc9\xca\xcb\xcc\xcd\xce\xcf\xd0\xd1\xd2\xd3\xd4\xd5\xd6\xd7\xd8\xd9\xda\xdb\xdc\xdd\xde\xdf\xe0\xe1\xe2\xc4\xc5\xc6\xc7\xc8\xc9\xca\xcb\xcc\xcd\xce\xcf\xd0\xd1\xd2\xd3\xd4\xd5\xd6\xd7\xd8\xd9\xda\xdb\xdc\xdd\xde\xdf\xe0\xe1\xe2\xe3\xc5\xc6\xc7\xc8\xc9\xca\xcb\xcc\xcd\xce\xcf\xd0\xd1\xd2\xd3\xd4\xd5\xd6\xd7\xd8\xd9\xda\xdb\xdc\xdd\xde\xdf\xe0\xe1\xe2\xe3\xe4\xc6\xc7\xc8\xc9\xca\xcb\xcc\xcd\xce\xcf\xd0\xd1\xd2\xd3\xd4\xd5\xd6\xd7\xd8\xd9\xda\xdb\xdc\xdd\xde\xdf\xe0\xe1\xe2\xe3\xe4\xe5\xc7\xc8\xc9\xca\xcb\xcc\xcd\xce\xcf\xd0\xd1\xd2\xd3\xd4\xd5\xd6\xd7\xd8\xd9\xda\xdb\xdc\xdd\xde\xdf\xe0\xe1\xe2\xe3\xe4\xe5\xe6";
+
+// Document 5 of `a` is added, deleted, and added again with `c` too.
+const ADD: &[u8] =
+    b"\x00\x00\x00\x21\x06\x00\x00\x00\x03\x00\x01\x00\x00\xc5\xc7\xc9\xcb\xcd\xcf\xd1\xd3\xd5\xd7\xd9\xdb\xdd\xdf\xe1\xe3\xc6\xc7\xc8\xc9\xca\xcb\xcc\xc8";
+
+const DELETE: &[u8] =
+    b"\x00\x00\x00\x17\x07\x00\x00\x00\x04\x00\x01\xef\xf1\xf3\xf5\xf7\xf9\xfb\xfd\xff\x01\x03\x05\x07\x09\x0b\x0d";
+
+const ADD_AGAIN: &[u8] =
+    b"\x00\x00\x00\x31\x06\x00\x00\x00\x05\x00\x01\x00\x01\xc9\xcb\xcd\xcf\xd1\xd3\xd5\xd7\xd9\xdb\xdd\xdf\xe1\xe3\xe5\xe7\xca\xcb\xcc\xcd\xce\xcf\xd0\xd4\xef\xf1\xf3\xf5\xf7\xf9\xfb\xfd\xff\x01\x03\x05\x07\x09\x0b\x0d";
+
+// The first addition and the deletion again, under the next numbers.
+const ADD_TAKEN: &[u8] =
+    b"\x00\x00\x00\x21\x06\x00\x00\x00\x06\x00\x01\x00\x00\xc5\xc7\xc9\xcb\xcd\xcf\xd1\xd3\xd5\xd7\xd9\xdb\xdd\xdf\xe1\xe3\xc6\xc7\xc8\xc9\xca\xcb\xcc\xc8";
+
+const DELETE_ONCE: &[u8] =
+    b"\x00\x00\x00\x17\x07\x00\x00\x00\x06\x00\x01\xef\xf1\xf3\xf5\xf7\xf9\xfb\xfd\xff\x01\x03\x05\x07\x09\x0b\x0d";
+
+const DELETE_TAKEN: &[u8] =
+    b"\x00\x00\x00\x17\x07\x00\x00\x00\x07\x00\x01\xef\xf1\xf3\xf5\xf7\xf9\xfb\xfd\xff\x01\x03\x05\x07\x09\x0b\x0d";
+
+/// Frames in a row, and what a new server answers to them.
+const WHOLE: [&[u8]; 16] = [
+    SEARCH,
+    HELLO,
+    BEGIN,
+    ARRAY_EARLY,
+    DICT,
+    END,
+    BEGIN,
+    DELETE,
+    ADD,
+    ADD,
+    DELETE,
+    ADD_AGAIN,
+    ADD_TAKEN,
+    DELETE_ONCE,
+    DELETE_TAKEN,
+    SEARCH,
+];
+
+const WHOLE_ANSWERED: &str = "\
+out of place
+next 0
+took 0
+out of place
+took 1
+took 2
+number 3
+number 3
+took 3
+number 4
+took 4
+took 5
+collision 2 at 0
+took 6
+collision 3 at 0
+found 1
+";
+
+// A setup with one block, and the block: it points to itself once it is decrypted as the list's first block.
+const BEGIN_BLOCK: &[u8] =
+    b"\x00\x00\x00\x11\x02\x00\x00\x00\x00\x00\x01\x00\x01\x00\x00\x00\x01\x00\x00\x00\x01";
+
+const ARRAY_EARLY: &[u8] =
+    b"\x00\x00\x00\x11\x04\x00\x00\x00\x01\x00\x08\x00\x01\xc5\xc6\xc7\xc8\xc9\xca\xcb\xcd";
+
+const ARRAY: &[u8] =
+    b"\x00\x00\x00\x11\x04\x00\x00\x00\x02\x00\x08\x00\x01\xc5\xc6\xc7\xc8\xc9\xca\xcb\xcd";
+
+const END_BLOCK: &[u8] = b"\x00\x00\x00\x05\x05\x00\x00\x00\x03";
+
+// Cells of an unknown kind, of pointers without blocks, of no identifiers, and of a pointer to a block of pointers.
+const UNKNOWN: &[u8] =
+    b"\x00\x00\x00\x22\x03\x00\x00\x00\x01\x00\x09\x00\x01\xc3\xc5\xc7\xc9\xcb\xcd\xcf\xd1\xd3\xd5\xd7\xd9\xdb\xdd\xdf\xe1\xc7\xc5\xc6\xc7\xc8\xc9\xca\xcb\xcd";
+
+const NO_BLOCK: &[u8] =
+    b"\x00\x00\x00\x22\x03\x00\x00\x00\x01\x00\x09\x00\x01\xc3\xc5\xc7\xc9\xcb\xcd\xcf\xd1\xd3\xd5\xd7\xd9\xdb\xdd\xdf\xe1\xc5\xc5\xc6\xc7\xc8\xc9\xca\xcb\xcd";
+
+const NOTHING: &[u8] =
+    b"\x00\x00\x00\x22\x03\x00\x00\x00\x01\x00\x09\x00\x01\xc3\xc5\xc7\xc9\xcb\xcd\xcf\xd1\xd3\xd5\xd7\xd9\xdb\xdd\xdf\xe1\xc4\xc5\xc6\xc7\xc8\xc9\xca\xcb\xcc";
+
+const TO_ITSELF: &[u8] =
+    b"\x00\x00\x00\x22\x03\x00\x00\x00\x01\x00\x09\x00\x01\xc3\xc5\xc7\xc9\xcb\xcd\xcf\xd1\xd3\xd5\xd7\xd9\xdb\xdd\xdf\xe1\xc6\xc5\xc6\xc7\xc8\xc9\xca\xcb\xcd";
+
+/// A setup of this dictionary frame, and a search.
+fn setup(dict: &'static [u8]) -> [&'static [u8]; 4] {
+    [BEGIN, dict, END, SEARCH]
+}
+
+/// Cells with a search for each, and what is answered to it.
+const CELLS: [(&[u8], &str); 3] = [
+    (UNKNOWN, "took 0\ntook 1\ntook 2\nno list\n"),
+    (NO_BLOCK, "took 0\ntook 1\ntook 2\nno list\n"),
+    (NOTHING, "took 0\ntook 1\ntook 2\nfound\n"),
+];
+
+/// A block that points to itself; the identifier is 03010f0103010700 in hexadecimal digits.
+const SELF: [&[u8]; 5] = [BEGIN_BLOCK, TO_ITSELF, ARRAY, END_BLOCK, SEARCH];
+
+const SELF_ANSWERED: &str = "took 0\ntook 1\ntook 2\ntook 3\nfound 216470754110277376\n";
+
+/// The identifiers of a page, as a line.
+fn found(alloc: Global, ids: &[u64]) -> Result<String, AllocError> {
+    let mut line = String::from_str(alloc, "found")?;
+    for id in ids {
+        line.push_str(format!(in alloc; " {id}")?.as_str())?;
+    }
+    Ok(line)
+}
+
+/// What a server answers to a frame, as a line.
+fn answer(
+    alloc: Global,
+    server: &mut Server<SortedTables>,
+    bytes: &[u8],
+) -> Result<String, AllocError> {
+    let Ok(Some((frame, _))) = read_frame(bytes) else {
+        return String::from_str(alloc, "no frame");
+    };
+    let mut page = [0; 2];
+    match server.handle(&Toy, &frame, &mut page) {
+        Answer::Next(next) => format!(in alloc; "next {next}"),
+        Answer::Took(number) => format!(in alloc; "took {number}"),
+        Answer::Number(next) => format!(in alloc; "number {next}"),
+        Answer::Clash { what, place } => format!(in alloc; "collision {what} at {place}"),
+        Answer::Found { count, walk } => {
+            if walk.is_over() {
+                found(alloc, &page[..count])
+            } else {
+                String::from_str(alloc, "more than a page")
+            }
+        }
+        Answer::BadList => String::from_str(alloc, "no list"),
+        Answer::NoMemory => String::from_str(alloc, "out of memory"),
+        Answer::OutOfPlace => String::from_str(alloc, "out of place"),
+    }
+}
+
+/// What a new server answers to frames in a row, a line each.
+fn answered(alloc: Global, frames: &[&[u8]]) -> Result<String, AllocError> {
+    let mut server = Server::new(SortedTables::new(alloc));
+    let mut lines = String::new(alloc);
+    for bytes in frames {
+        lines.push_str(answer(alloc, &mut server, bytes)?.as_str())?;
+        lines.push_str("\n")?;
+    }
+    Ok(lines)
+}
+
+/// A setup, a search, an addition and a deletion, and what is refused between them.
+#[test]
+fn a_whole_connection_is_answered(rt: HostRuntime) -> Result<(), Fail> {
+    assert_eq!(rt; answered(rt.alloc(), &WHOLE)?.as_str(), WHOLE_ANSWERED);
+    Ok(())
+}
+
+/// Cells of an unknown kind, of a block that is not there, of nothing, and of a block that points to itself.
+#[test]
+fn cells_that_nobody_made_are_answered(rt: HostRuntime) -> Result<(), Fail> {
+    for (dict, lines) in CELLS {
+        assert_eq!(rt; answered(rt.alloc(), &setup(dict))?.as_str(), lines);
+    }
+    assert_eq!(rt; answered(rt.alloc(), &SELF)?.as_str(), SELF_ANSWERED);
+    Ok(())
+}

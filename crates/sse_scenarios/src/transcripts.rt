@@ -1,0 +1,152 @@
+use crate::running::{SCRIPT, lines_of, run_over};
+use crate::worked_example::{TRANSCRIPT, UPDATES, UPDATES_TRANSCRIPT};
+use keyed_fn::{Keyed, Real, Toy};
+use server_core::Server;
+use server_tables::BucketTables;
+use sse_link::SteadyLoopback;
+use std::alloc::{AllocError, Global};
+use std::test::Fail;
+
+/// Two levels of blocks, and a list in its cell.
+const TWO_LEVELS: &[u8] = b"key 0000000000000000000000000000000000000000000000000000000000000000
+doc 11 a b
+doc 12 a
+doc 13 a
+doc 14 a
+doc 15 a
+setup 2 2
+";
+
+/// What passes, its entries and blocks being those of an independent model of the store.
+const TWO_LEVELS_TRANSCRIPT: &str = "\
+sent 0000000101
+received 000000058100000000
+sent 000000110200000000000200020000000200000005
+received 000000058200000000
+sent 0000004b0300000001001100028dce3ffac6dfec3e16ca9212ded0d9fb5b6a7337f409d75bfd5b675599756ad0159e066e2bdf5795e9c955a2506576aa76cbbf97c39ca519f236ef86dc5908e7d7f6
+received 000000058200000001
+sent 00000059040000000200100005d4fc3e4de65e8d58cc2693799afbbab40ddd4e6c1823b43005ed4015e2110923665378b7fc444b8a4e246b1e87b10d08aaf15469420be1632a3d159a6b1246f434b6e41cc26b780ad193674a0a9e6251
+received 000000058200000002
+sent 000000050500000003
+received 000000058200000003
+";
+
+/// One block of two identifiers.
+const ONE_BLOCK: &[u8] = b"key 0000000000000000000000000000000000000000000000000000000000000000
+doc 1 a
+doc 2 a
+setup 1 2
+";
+
+/// What passes by the toy function, computed by hand.
+const ONE_BLOCK_TRANSCRIPT: &str = "\
+sent 0000000101
+received 000000058100000000
+sent 000000110200000000000100020000000100000001
+received 000000058200000000
+sent 00000022030000000100090001c3c5c7c9cbcdcfd1d3d5d7d9dbdddfe1c5c5c6c7c8c9cacbcd
+received 000000058200000001
+sent 00000019040000000200100001c5c6c7c8c9cacbcdcdcecfd0d1d2d3d6
+received 000000058200000002
+sent 000000050500000003
+received 000000058200000003
+";
+
+/// A setup, then document 5 added, deleted, and added again with another word, and a document without words.
+const TOY_UPDATES: &[u8] = b"key 0000000000000000000000000000000000000000000000000000000000000000
+doc 1 a
+setup 1 1
+add 5 a
+del 5
+add 5 c a
+add 6
+del 6
+";
+
+/// What passes by the toy function, computed by another program.
+const TOY_UPDATES_TRANSCRIPT: &str = "\
+sent 0000000101
+received 000000058100000000
+sent 000000110200000000000100010000000100000000
+received 000000058200000000
+sent 00000022030000000100090001c3c5c7c9cbcdcfd1d3d5d7d9dbdddfe1c4c5c6c7c8c9cacbcd
+received 000000058200000001
+sent 000000050500000002
+received 000000058200000002
+sent 00000021060000000300010000c5c7c9cbcdcfd1d3d5d7d9dbdddfe1e3c6c7c8c9cacbccc8
+received 000000058200000003
+sent 0000001707000000040001eff1f3f5f7f9fbfdff01030507090b0d
+received 000000058200000004
+sent 00000031060000000500010001c9cbcdcfd1d3d5d7d9dbdddfe1e3e5e7cacbcccdcecfd0d4eff1f3f5f7f9fbfdff01030507090b0d
+received 000000058200000005
+sent 00000009060000000600000000
+received 000000058200000006
+sent 0000000707000000070000
+received 000000058200000007
+";
+
+/// The deletion of a document whose words come by falling revocation numbers.
+const TOY_DELETION: &[u8] = b"key 0000000000000000000000000000000000000000000000000000000000000000
+doc 5 b a
+setup 1 1
+del 5
+";
+
+/// What passes after the setup by the toy function: two numbers, rising, computed by hand.
+const TOY_DELETION_TRANSCRIPT: &str = "\
+sent 0000002707000000030002eff1f3f5f7f9fbfdff01030507090b0df1f3f5f7f9fbfdff01030507090b0d0f
+received 000000058200000003
+";
+
+/// Scripts over the function of the store, how much passes before what is compared, and that.
+const BY_THE_REAL_FUNCTION: [(&[u8], usize, &str); 3] = [
+    (SCRIPT, 0, TRANSCRIPT),
+    (UPDATES, 8, UPDATES_TRANSCRIPT),
+    (TWO_LEVELS, 0, TWO_LEVELS_TRANSCRIPT),
+];
+
+/// The same over the toy function, whose values are sums of bytes.
+const BY_THE_TOY_FUNCTION: [(&[u8], usize, &str); 3] = [
+    (ONE_BLOCK, 0, ONE_BLOCK_TRANSCRIPT),
+    (TOY_UPDATES, 0, TOY_UPDATES_TRANSCRIPT),
+    (TOY_DELETION, 8, TOY_DELETION_TRANSCRIPT),
+];
+
+/// What passes after the first events while a script is run over a link that never fails, a line for each event.
+fn transcript<K: Keyed>(
+    alloc: Global,
+    keyed: &K,
+    link: &mut SteadyLoopback<K, BucketTables>,
+    script: &[u8],
+    before: usize,
+) -> Result<String, AllocError> {
+    run_over(alloc, keyed, link, script, &[], &[])?;
+    match link.transcript().split_at_checked(before) {
+        Some((_, behind)) => lines_of(alloc, behind),
+        None => String::from_str(alloc, "less passed"),
+    }
+}
+
+/// Each row's transcript.
+#[test]
+fn transcripts_by_the_real_function(rt: HostRuntime) -> Result<(), Fail> {
+    let alloc = rt.alloc();
+    for (script, before, lines) in BY_THE_REAL_FUNCTION {
+        let mut link = SteadyLoopback::new(alloc, Real, Server::new(BucketTables::new(alloc)));
+        let passed = transcript(alloc, &Real, &mut link, script, before)?;
+        assert_eq!(rt; passed.as_str(), lines);
+    }
+    Ok(())
+}
+
+/// Each row's transcript.
+#[test]
+fn transcripts_by_the_toy_function(rt: HostRuntime) -> Result<(), Fail> {
+    let alloc = rt.alloc();
+    for (script, before, lines) in BY_THE_TOY_FUNCTION {
+        let mut link = SteadyLoopback::new(alloc, Toy, Server::new(BucketTables::new(alloc)));
+        let passed = transcript(alloc, &Toy, &mut link, script, before)?;
+        assert_eq!(rt; passed.as_str(), lines);
+    }
+    Ok(())
+}
