@@ -1,21 +1,27 @@
 # make        proves the crates, then builds the programs into bin/
-# make demo   the same, then runs examples/first.sse, and searches a folder of letters
+# make try    runs a script, SCRIPT=examples/first.sse, without any proof: in a minute, and nothing is kept
+# make demo   as make, then runs examples/first.sse, and searches a folder of letters
 # make check  the whole gate: every proof, test, must-fail edit and end-to-end check
 # make quick  what can be told without a proof: layers, documents, and what has to compile and what mustn't
+# make docs   the checks of documents and layers alone, in seconds
 # make bench  times bin/sse_local on made-up scripts, and the rows of bin/sse_bench
 # make clean  forgets what was proved and built in this checkout
+# make help   prints these lines
 
 PROGRAMS = sse_local
 # the words that a program is first run with, once it is built
 words_sse_local = run
 words_sse_bench = prepared 1
 LAST = bin/.seconds
+# what make try runs
+SCRIPT = examples/first.sse
 
-.PHONY: all demo check quick bench clean
+.PHONY: all try demo check quick docs bench clean help
 
 all: $(PROGRAMS:%=bin/%)
 
-# A program is built only once it and every crate below it are proved. A failed proof leaves an older
+# The crates below a program are proved side by side first, which only saves time (.ci/below): a program is built only once it and every
+# crate below it are proved. A failed proof leaves an older
 # out/NAME behind, and the tool passes on the program's own status, so the copy is made only behind a run
 # that was built anew and ended with 0.
 bin/%: FORCE
@@ -24,9 +30,14 @@ bin/%: FORCE
 	@if [ -f $(LAST) ]; then echo "The last time this took $$(cat $(LAST)) seconds."; else echo "The first time this takes some minutes for each core."; fi
 	@start=$$(date +%s); \
 	rm -f crates/$*/out/$*; \
+	.ci/below $*; \
 	(cd crates/$* && rt run -- $(words_$*) < ../../examples/first.sse > ../../bin/$*.log 2>&1) || { cat bin/$*.log; exit 1; }; \
 	cp crates/$*/out/$* bin/$* && \
 	echo $$(( $$(date +%s) - start )) > $(LAST)
+
+try:
+	@echo "Nothing of this run is proved; the program is compiled with checks of some conditions, and not kept."
+	cd crates/sse_local && rt try -- run < $(abspath $(SCRIPT))
 
 demo: all
 	bin/sse_local run < examples/first.sse
@@ -39,12 +50,15 @@ check:
 	bash .ci/run
 
 quick:
+	.ci/quick
+
+docs:
 	.ci/layers
 	.ci/documents
 	.ci/documents --self-test
-	.ci/edits --self-test
-	.ci/edits
-	.ci/must_not_compile
+
+help:
+	@sed -n 's/^# \(make .*\)/\1/p' Makefile
 
 clean:
 	rm -rf bin crates/*/out

@@ -178,6 +178,18 @@ def only_additions(documents):
     yield b"find a"
 
 
+def new_words(additions, words=4096):
+    """One document, then so many additions whose words no other document has: together more than a setup may have."""
+    yield b"key " + b"0" * 64
+    yield b"doc 1 a"
+    yield b"setup 64 256"
+    for number in range(additions):
+        first = number * words
+        yield b"add %d " % (number + 2) + b" ".join(b"%d" % word for word in range(first, first + words))
+    yield b"find %d" % (additions * words - 1)
+    yield b"find a"
+
+
 def paged(documents, b, B, listed):
     """One word in so many documents, of which so many are in the setup and the others added; then those at the borders of
     pages of 8,192 identifiers are deleted, with a search before and behind."""
