@@ -1,27 +1,13 @@
 -- What the first five bytes show.
-use Rattle.std.proofs.Common.{◌≡◌, ◌≢◌, ◌⊎◌, inl, inr, ℕ, zero, suc, ◌+◌, ◌^◌, ◌<◌, ◌≤◌, List, [], ◌∷◌, ◌++◌, length, get_or, take, drop, refl, sym, ◌∙◌, ap, subst, arith, append_assoc, length-append, take-append-drop}
+use Rattle.std.proofs.Common.{◌≡◌, ◌≢◌, ℕ, zero, suc, ◌+◌, ◌^◌, ◌<◌, ◌≤◌, List, [], ◌∷◌, ◌++◌, length, get_or, take, drop, refl, sym, ◌∙◌, ap, subst, arith, append_assoc, length-append, take-append-drop}
 use Rattle.std.specs.Int.{w32, to_be_bytes, from_be_bytes}
 use Rattle.std.proofs.lemmas.Nat.{be_bytes_4, from_be_bytes-to_be_bytes_4}
 use Rattle.std.proofs.lemmas.List.{drop_more, drop-drop, length-take, length-drop, get_or-take}
 use Rattle.sse_journal.specs.Files.{framed, record_bytes}
-use Rattle.sse_journal.specs.Heads.{IsEnd, IsRecord, IsBad}
+use Rattle.sse_journal.specs.Heads.{IsRecord, IsBad}
 
 first_of : (rest : List ℕ) → 0 < length rest → rest ≡ get_or rest 0 0 ∷ drop 1 rest
 first_of rest some = drop_more rest 0 0 some
-
-pub end_head : (head rest : List ℕ) (commit : ℕ) → head ≡ take 5 rest → commit ≡ get_or head 0 0 → 0 < length rest → (commit ≢ 1) ⊎ (length rest ≡ 1) → IsEnd commit rest
-end_head head rest commit reads is some or = record {
-  tail = drop 1 rest;
-  are = first_of rest some ∙ ap (λ (g : ℕ). g ∷ drop 1 rest) (sym (is ∙ ap (λ (l : List ℕ). get_or l 0 0) reads ∙ get_or-take 5 rest 0 0 (omega arith)));
-  unset = λ is_set. elim or [
-    | inl not_set ↦ absurd (not_set is_set)
-    | inr one ↦ nil_of (drop 1 rest) (omega (arith, one, length-drop 1 rest))
-  ];
-}
-  where
-    nil_of : (xs : List ℕ) → length xs ≡ 0 → xs ≡ []
-    nil_of [] none = refl
-    nil_of (x ∷ xs) none = absurd (omega (arith, none))
 
 four : (rest : List ℕ) → 5 ≤ length rest → drop 1 rest ≡ (get_or rest 1 0 ∷ get_or rest 2 0 ∷ get_or rest 3 0 ∷ get_or rest 4 0 ∷ []) ++ drop 5 rest
 four rest long =

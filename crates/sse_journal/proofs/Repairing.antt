@@ -1,6 +1,6 @@
 -- What stands after each call of a repair, over any disk.
-use Rattle.std.proofs.Common.{◌≡◌, ◌≢◌, inr, ℕ, ◌+◌, ◌<◌, ◌≤◌, List, [], ◌∷◌, ◌++◌, length, take, drop, refl, sym, ◌∙◌, ap, subst, arith, append_assoc, length-append}
-use Rattle.std.specs.Prelude.{All, Some, None, IfSome, Option}
+use Rattle.std.proofs.Common.{◌≡◌, ◌≢◌, inr, ℕ, ◌+◌, ◌<◌, List, [], ◌∷◌, ◌++◌, length, take, drop, refl, sym, ◌∙◌, ap, subst, arith, append_assoc, length-append}
+use Rattle.std.specs.Prelude.{All, Some, Option}
 use Rattle.std.specs.Option.{option_map}
 use Rattle.std.proofs.lemmas.List.{take_at, drop_all, append-nil}
 use Rattle.sse_outside.specs.Images.{overwritten, Torn, Shortened, Follows, Only}
@@ -53,10 +53,6 @@ module _ {D : Type 0} (content : D → Option (List ℕ)) (images : D → List �
 
 magic_written : (bytes : List ℕ) → length bytes < 9 → overwritten 0 magic bytes ≡ magic
 magic_written bytes short = ap (λ (l : List ℕ). magic ++ l) (drop_all 8 bytes (omega (arith, short)))
-
-pub written_magic : (o : Option (List ℕ)) → IfSome o (λ bytes. length bytes < 9) → IfSome (option_map (overwritten 0 magic) o) (λ file. 8 ≤ length file)
-written_magic None short = tt
-written_magic (Some bytes) short = omega (arith, ap length (magic_written bytes short))
 
 commit_written : overwritten 8 (0 ∷ []) magic ≡ file []
 unfolding front

@@ -5,8 +5,8 @@ use Rattle.std.specs.Int.{w32, to_be_bytes}
 use Rattle.std.proofs.lemmas.List.{drop_at}
 use Rattle.std.proofs.lemmas.List.Elements.{All-push as all_push}
 use Rattle.sse_journal.specs.Files.{magic, framed, record_bytes, front, IsPayload}
-use Rattle.sse_journal.specs.Heads.{IsEnd, IsRecord, IsBad}
-use Rattle.sse_journal.specs.Walks.{IsWithin, IsWalked, IsNoRecordAt}
+use Rattle.sse_journal.specs.Heads.{IsRecord}
+use Rattle.sse_journal.specs.Walks.{IsWithin}
 use Rattle.sse_journal.proofs.Torn.{front_push, front_nil}
 
 pub length-record_bytes : (payload : List ℕ) → length (record_bytes payload) ≡ 5 + length payload
@@ -44,27 +44,6 @@ module _ (bytes : List ℕ) (at records : ℕ) (here : IsWithin bytes at records
     at_is = omega (arith, here.at_is, length-record_bytes there.payload, there.size, length-append (front here.payloads) (record_bytes there.payload), ap length (front_push here.payloads there.payload));
     records_are = omega (arith, here.records_are, length-append here.payloads (there.payload ∷ []));
     more = omega (arith, there.more, ap length rest_is, ap length here.are, length-append (front here.payloads) here.rest, here.at_is);
-  }
-
-  pub walked_to : (commit : ℕ) → IsEnd commit (drop at bytes) → IsWalked bytes at records commit
-  walked_to commit there = record {
-    payloads = here.payloads;
-    payloads_are = here.payloads_are;
-    tail = there.tail;
-    are = here.are ∙ ap (λ (l : List ℕ). front here.payloads ++ l) (sym rest_is ∙ there.are);
-    at_is = here.at_is;
-    records_are = here.records_are;
-    unset = there.unset;
-  }
-
-  pub stopped_at : IsBad (drop at bytes) → IsNoRecordAt bytes at
-  stopped_at there = record {
-    payloads = here.payloads;
-    payloads_are = here.payloads_are;
-    rest = drop at bytes;
-    are = here.are ∙ ap (λ (l : List ℕ). front here.payloads ++ l) (sym rest_is);
-    at_is = here.at_is;
-    bad = there;
   }
 
 -- where the disk tells its content

@@ -9,10 +9,10 @@ ghost use Rattle.sse_outside.specs.Causes.{Rose, HasCause};
 use crate::StartFault;
 use crate::repair::{clear_commit, cut_tail, new_file};
 use crate::walk::{Walked, walk};
-use sse_outside::{Disk, Failed};
+use sse_outside::{DeviceFault, Disk, Failed};
 
 /// Cuts what stands after the commit byte at the end of the records, where bytes do.
-fn trim<D: Disk>(disk: &mut D, size: u64, end: u64, commit: u8) -> Result<(), StartFault>
+fn trim<D: Disk>(disk: &mut D, size: u64, end: u64, commit: u8) -> Result<(), DeviceFault>
     requires end { end < size }
     requires limit { size ≤ 2 ^ 63 }
     requires size { IfSome (D.content disk.old) (λ bytes. size ≡ length bytes) }
@@ -23,9 +23,8 @@ fn trim<D: Disk>(disk: &mut D, size: u64, end: u64, commit: u8) -> Result<(), St
         IsAllOf (front payloads ++ commit ∷ tail) (D.content disk.old) (D.images disk.old) → LeavesOnly D.moment D.left_since disk.old disk.new (Gives payloads) }
     ensures told { is_some (D.content disk.new) ≡ is_some (D.content disk.old) }
     ensures later { D.faults disk.old ≤ D.faults disk.new }
-    ensures failed { IsErrOf result StartFault.DiskFault → Rose (D.faults disk.old) (D.faults disk.new) }
-    ensures steady { result ≢ Err StartFault.DiskFault → D.faults disk.new ≡ D.faults disk.old }
-    ensures known { (place : ℕ) → IsErrOf result (StartFault.NotAJournal place) → ⊥ }
+    ensures failed { IsErrOf result DeviceFault.Failed → Rose (D.faults disk.old) (D.faults disk.new) }
+    ensures steady { result ≢ Err DeviceFault.Failed → D.faults disk.new ≡ D.faults disk.old }
 {
     if size > end + 1 {
         return cut_tail(disk, end);
@@ -34,7 +33,7 @@ fn trim<D: Disk>(disk: &mut D, size: u64, end: u64, commit: u8) -> Result<(), St
 }
 
 /// Clears the commit byte that is the last byte, where it isn't 0.
-fn clear<D: Disk>(disk: &mut D, end: u64, commit: u8) -> Result<(), StartFault>
+fn clear<D: Disk>(disk: &mut D, end: u64, commit: u8) -> Result<(), DeviceFault>
     requires limit { end < 2 ^ 63 }
     requires within { IfSome (D.content disk.old) (λ bytes. end ≤ length bytes) }
     ensures cleared { OnOk result ((payloads : List (List ℕ)) → end ≡ length (front payloads) →
@@ -43,9 +42,8 @@ fn clear<D: Disk>(disk: &mut D, end: u64, commit: u8) -> Result<(), StartFault>
         IsAllOf (front payloads ++ commit ∷ []) (D.content disk.old) (D.images disk.old) → LeavesOnly D.moment D.left_since disk.old disk.new (Gives payloads) }
     ensures told { is_some (D.content disk.new) ≡ is_some (D.content disk.old) }
     ensures later { D.faults disk.old ≤ D.faults disk.new }
-    ensures failed { IsErrOf result StartFault.DiskFault → Rose (D.faults disk.old) (D.faults disk.new) }
-    ensures steady { result ≢ Err StartFault.DiskFault → D.faults disk.new ≡ D.faults disk.old }
-    ensures known { (place : ℕ) → IsErrOf result (StartFault.NotAJournal place) → ⊥ }
+    ensures failed { IsErrOf result DeviceFault.Failed → Rose (D.faults disk.old) (D.faults disk.new) }
+    ensures steady { result ≢ Err DeviceFault.Failed → D.faults disk.new ≡ D.faults disk.old }
 {
     if commit != 0 {
         return clear_commit(disk, end);
@@ -55,7 +53,7 @@ fn clear<D: Disk>(disk: &mut D, end: u64, commit: u8) -> Result<(), StartFault>
 
 /// Makes the file one that ends with a commit byte of 0. The cut comes first: while it is made the commit byte keeps
 /// its value, and while that is written it is the last byte.
-fn tidy<D: Disk>(disk: &mut D, size: u64, w: &Walked) -> Result<(), StartFault>
+fn tidy<D: Disk>(disk: &mut D, size: u64, w: &Walked) -> Result<(), DeviceFault>
     requires end { w.now.end < size }
     requires limit { size ≤ 2 ^ 63 }
     requires size { IfSome (D.content disk.old) (λ bytes. size ≡ length bytes) }
@@ -65,9 +63,8 @@ fn tidy<D: Disk>(disk: &mut D, size: u64, w: &Walked) -> Result<(), StartFault>
         IsAllOf (front payloads ++ w.now.commit ∷ tail) (D.content disk.old) (D.images disk.old) → LeavesOnly D.moment D.left_since disk.old disk.new (Gives payloads) }
     ensures told { is_some (D.content disk.new) ≡ is_some (D.content disk.old) }
     ensures later { D.faults disk.old ≤ D.faults disk.new }
-    ensures failed { IsErrOf result StartFault.DiskFault → Rose (D.faults disk.old) (D.faults disk.new) }
-    ensures steady { result ≢ Err StartFault.DiskFault → D.faults disk.new ≡ D.faults disk.old }
-    ensures known { (place : ℕ) → IsErrOf result (StartFault.NotAJournal place) → ⊥ }
+    ensures failed { IsErrOf result DeviceFault.Failed → Rose (D.faults disk.old) (D.faults disk.new) }
+    ensures steady { result ≢ Err DeviceFault.Failed → D.faults disk.new ≡ D.faults disk.old }
 {
     trim(disk, size, w.end, w.commit)?;
     clear(disk, w.end, w.commit)?;
