@@ -1,9 +1,8 @@
--- What is printed where the tables don't take a change.
+-- What is printed where the tables don't take what is put in.
 use Rattle.std.specs.Prelude.{ℕ, List, codes}
 use Rattle.server_tables.specs.declared.table_fault.TableFault.{TableFault}
-use Rattle.server_tables.specs.declared.table_fault.TableFault.TheVariants.{Taken, Missing, NoMemory}
+use Rattle.server_tables.specs.declared.table_fault.TableFault.TheVariants.{Taken, NoMemory}
 
 abbrev pub table_fault_text : TableFault → List ℕ
 table_fault_text Taken = codes "the label or the number is there already"
-table_fault_text Missing = codes "the label or the number is not there"
 table_fault_text NoMemory = codes "out of memory"

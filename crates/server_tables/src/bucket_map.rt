@@ -1,5 +1,5 @@
 use crate::key::Key;
-use crate::{LabelMap, TableFault};
+use crate::{LabelMap, Missing, TableFault};
 use std::alloc::{AllocError, Global};
 use std::collections::HashMap;
 use std::marker::Model;
@@ -55,9 +55,9 @@ impl<V: Copy> LabelMap for BucketMap<V> {
         Ok(())
     }
 
-    fn remove(&mut self, label: &[u8; 16]) -> Result<(), TableFault> {
+    fn remove(&mut self, label: &[u8; 16]) -> Result<(), Missing> {
         let Some(_) = self.values.remove(&Key(*label)) else {
-            return Err(TableFault::Missing);
+            return Err(Missing);
         };
         Ok(())
     }

@@ -2,7 +2,7 @@ ghost use Rattle.std.specs.Prelude.{◌≡◌};
 ghost use Rattle.server_tables.specs.Contents.{no_contents};
 
 use crate::extent::append;
-use crate::{Extent, LabelMap, TableFault, Tables};
+use crate::{Extent, LabelMap, Missing, TableFault, Tables};
 use std::alloc::{AllocError, Global};
 use std::marker::Model;
 
@@ -137,7 +137,7 @@ impl<C: LabelMap<Value = Extent>, P: LabelMap<Value = [u8; 8]>, R: LabelMap<Valu
         self.revoked.insert(number, ())
     }
 
-    fn restore(&mut self, number: &[u8; 16]) -> Result<(), TableFault> {
+    fn restore(&mut self, number: &[u8; 16]) -> Result<(), Missing> {
         self.revoked.remove(number)
     }
 

@@ -1,8 +1,8 @@
-ghost use Rattle.std.specs.Prelude.{◌≡◌, ◌≢◌, ◌↔◌, ℕ, ◌+◌, ◌<◌, ◌≤◌, IsTrue, IsOk, OnOk, OnErr, Err, None};
+ghost use Rattle.std.specs.Prelude.{◌≡◌, ◌↔◌, ℕ, ◌+◌, ◌<◌, ◌≤◌, IsTrue, IsOk, OnOk, OnErr, Err, None};
 ghost use Rattle.std.specs.FinMap as map;
 ghost use Rattle.server_tables.specs.Labelled.{Labelled};
 
-use crate::TableFault;
+use crate::{Missing, TableFault};
 use std::alloc::{AllocError, Global};
 
 /// A map from labels of 16 bytes, each to a value that is copied.
@@ -35,17 +35,16 @@ pub trait LabelMap: Drop {
         ensures ok { OnOk result (entries self.new ≡ map.insert (entries self.old) label.now value) }
         ensures err { OnErr result (entries self.new ≡ entries self.old) }
         ensures taken { (result ≡ Err TableFault.Taken) ↔ IsTrue (map.contains_key (entries self.old) label.now) }
-        ensures never_missing { result ≢ Err TableFault.Missing }
         ensures has_room { 0 < free self.old → map.get (entries self.old) label.now ≡ None → IsOk result }
         ensures spent { OnOk result (free self.old ≤ free self.new + 1) }
         ensures not_spent { OnErr result (free self.old ≤ free self.new) };
 
     /// Removes a label. Takes no memory.
     ///
-    /// Errors: `Missing` where the label isn't there. The map is then as before.
-    fn remove(&mut self, label: &[u8; 16]) -> Result<(), TableFault>
+    /// Errors: where the label isn't there. The map is then as before.
+    fn remove(&mut self, label: &[u8; 16]) -> Result<(), Missing>
         ensures ok { OnOk result (entries self.new ≡ map.remove (entries self.old) label.now) }
-        ensures err { OnErr result ((result ≡ Err TableFault.Missing) × (entries self.new ≡ entries self.old)) }
+        ensures err { OnErr result (entries self.new ≡ entries self.old) }
         ensures there { IsOk result ↔ IsTrue (map.contains_key (entries self.old) label.now) }
         ensures not_spent { free self.old ≤ free self.new };
 

@@ -1,7 +1,7 @@
 ghost use Rattle.std.specs.Prelude.{◌≡◌, MatchResult};
 ghost use Rattle.server_tables.specs.Slots.{AreRising, IsAt, GoesTo};
 
-use crate::{LabelMap, TableFault};
+use crate::{LabelMap, Missing, TableFault};
 use std::alloc::{AllocError, Global};
 use std::marker::Model;
 
@@ -73,13 +73,13 @@ impl<V: Copy> LabelMap for SortedMap<V> {
         }
     }
 
-    fn remove(&mut self, label: &[u8; 16]) -> Result<(), TableFault> {
+    fn remove(&mut self, label: &[u8; 16]) -> Result<(), Missing> {
         match place(&self.slots, label) {
             Ok(at) => {
                 self.slots.remove(at);
                 Ok(())
             }
-            Err(_) => Err(TableFault::Missing),
+            Err(_) => Err(Missing),
         }
     }
 

@@ -5,13 +5,11 @@ use std::alloc::{AllocError, AllocFailed};
 use std::error::Error;
 use std::fmt;
 
-/// Why the tables don't take a change. They are then as before.
+/// Why the tables don't take what is put in. They are then as before.
 #[derive(Clone, Copy, Debug, PartialEq, Eq)]
 pub enum TableFault {
     /// The label or the number is there already.
     Taken,
-    /// The label or the number isn't there.
-    Missing,
     /// Out of memory.
     NoMemory,
 }
@@ -25,7 +23,6 @@ impl fmt::Display for TableFault {
     fn fmt<W: fmt::Write>(&self, f: &mut fmt::Formatter<W>) -> fmt::Result {
         match self {
             TableFault::Taken => f.write_str("the label or the number is there already"),
-            TableFault::Missing => f.write_str("the label or the number is not there"),
             TableFault::NoMemory => f.write_str("out of memory"),
         }
     }

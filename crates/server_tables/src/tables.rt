@@ -1,11 +1,11 @@
-ghost use Rattle.std.specs.Prelude.{◌≡◌, ◌≢◌, ◌↔◌, ◌∷◌, [], ◌++◌, ℕ, length, slice_get, true, false, IsTrue, IsOk, OnOk, OnErr, Err, None};
+ghost use Rattle.std.specs.Prelude.{◌≡◌, ◌↔◌, ◌∷◌, [], ◌++◌, ℕ, length, slice_get, true, false, IsTrue, IsOk, OnOk, OnErr, Err, None};
 ghost use Rattle.std.specs.Option.{option_copied};
 ghost use Rattle.std.specs.FinMap as map;
 ghost use Rattle.std.specs.FinSet as set;
 ghost use Rattle.server_tables.specs.Contents.{Contents, no_contents};
 ghost use Rattle.server_tables.specs.Room.{Room, no_room, of_entry, of_block, of_addition, of_number, pieces, HasRoom, Spends};
 
-use crate::TableFault;
+use crate::{Missing, TableFault};
 use std::alloc::AllocError;
 
 /// What a server keeps: cells by their labels, blocks in a list, additions by their labels, and revocation numbers.
@@ -35,7 +35,6 @@ pub trait Tables: Drop {
         ensures ok { OnOk result (contents self.new ≡ record (contents self.old) { dictionary = map.insert (contents self.old).dictionary label.now cell.now }) }
         ensures err { OnErr result (contents self.new ≡ contents self.old) }
         ensures taken { (result ≡ Err TableFault.Taken) ↔ IsTrue (map.contains_key (contents self.old).dictionary label.now) }
-        ensures never_missing { result ≢ Err TableFault.Missing }
         ensures has_room { HasRoom (room self.old) (of_entry (length cell.now)) → map.get (contents self.old).dictionary label.now ≡ None → IsOk result }
         ensures spent { OnOk result (Spends (room self.old) (room self.new) (of_entry (length cell.now))) }
         ensures not_spent { OnErr result (Spends (room self.old) (room self.new) no_room) };
@@ -73,7 +72,6 @@ pub trait Tables: Drop {
         ensures ok { OnOk result (contents self.new ≡ record (contents self.old) { additions = map.insert (contents self.old).additions label.now sealed.now }) }
         ensures err { OnErr result (contents self.new ≡ contents self.old) }
         ensures taken { (result ≡ Err TableFault.Taken) ↔ IsTrue (map.contains_key (contents self.old).additions label.now) }
-        ensures never_missing { result ≢ Err TableFault.Missing }
         ensures has_room { HasRoom (room self.old) of_addition → map.get (contents self.old).additions label.now ≡ None → IsOk result }
         ensures spent { OnOk result (Spends (room self.old) (room self.new) of_addition) }
         ensures not_spent { OnErr result (Spends (room self.old) (room self.new) no_room) };
@@ -93,17 +91,16 @@ pub trait Tables: Drop {
         ensures ok { OnOk result (contents self.new ≡ record (contents self.old) { revoked = set.insert (contents self.old).revoked number.now }) }
         ensures err { OnErr result (contents self.new ≡ contents self.old) }
         ensures taken { (result ≡ Err TableFault.Taken) ↔ IsTrue (set.contains (contents self.old).revoked number.now) }
-        ensures never_missing { result ≢ Err TableFault.Missing }
         ensures has_room { HasRoom (room self.old) of_number → set.contains (contents self.old).revoked number.now ≡ false → IsOk result }
         ensures spent { OnOk result (Spends (room self.old) (room self.new) of_number) }
         ensures not_spent { OnErr result (Spends (room self.old) (room self.new) no_room) };
 
     /// Removes a revocation number. Takes no memory.
     ///
-    /// Errors: `Missing` where it isn't there.
-    fn restore(&mut self, number: &[u8; 16]) -> Result<(), TableFault>
+    /// Errors: where it isn't there.
+    fn restore(&mut self, number: &[u8; 16]) -> Result<(), Missing>
         ensures ok { OnOk result (contents self.new ≡ record (contents self.old) { revoked = set.remove (contents self.old).revoked number.now }) }
-        ensures err { OnErr result ((result ≡ Err TableFault.Missing) × (contents self.new ≡ contents self.old)) }
+        ensures err { OnErr result (contents self.new ≡ contents self.old) }
         ensures there { IsOk result ↔ IsTrue (set.contains (contents self.old).revoked number.now) }
         ensures not_spent { Spends (room self.old) (room self.new) no_room };
 

@@ -6,7 +6,7 @@ use index_setup::BuildFault;
 use line_documents::LineFault;
 use list_packing::HoleInBlock;
 use server_core::{Refuse, WalkFault};
-use server_tables::TableFault;
+use server_tables::{Missing, TableFault};
 use sse_frames::FrameFault;
 use sse_link::LinkFault;
 use sse_outside::{DeviceFault, Failed};
@@ -31,7 +31,11 @@ fn faults_of_the_server_and_the_outside(rt: HostRuntime) -> Result<(), Fail> {
             "the kind of a cell is 0, 1 or 2, not 7",
         ),
         (
-            TableFault::Missing.to_string(alloc)?,
+            TableFault::Taken.to_string(alloc)?,
+            "the label or the number is there already",
+        ),
+        (
+            Missing.to_string(alloc)?,
             "the label or the number is not there",
         ),
         (

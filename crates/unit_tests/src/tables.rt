@@ -1,4 +1,4 @@
-use server_tables::{BucketTables, SortedTables, TableFault, Tables};
+use server_tables::{BucketTables, Missing, SortedTables, TableFault, Tables};
 use std::process::Abort;
 use std::test::Fail;
 
@@ -41,7 +41,7 @@ fn keeps_what_it_is_given<T: Tables>(rt: &impl Abort, tables: &mut T) -> Result<
     assert!(rt; tables.is_revoked(&B));
     assert!(rt; !tables.revokes_none());
     assert!(rt; !tables.is_revoked(&A));
-    assert_eq!(rt; tables.restore(&A), Err(TableFault::Missing));
+    assert_eq!(rt; tables.restore(&A), Err(Missing));
     assert_eq!(rt; tables.restore(&B), Ok(()));
     assert!(rt; !tables.is_revoked(&B));
     assert!(rt; tables.revokes_none());
