@@ -4,6 +4,8 @@ use Rattle.search_token.specs.KeyedFn.{KeyedFn}
 use Rattle.sse_frames.specs.Frames.{FrameText, Hello, SetupBegin, SetupDict, SetupArray, SetupEnd, AddFrame, DeleteFrame, SearchFrame}
 use Rattle.sse_frames.specs.Replies as replies
 use Rattle.sse_frames.specs.Replies.{ReplyText, InReplies}
+use Rattle.server_core.specs.declared.cause.Cause.{Cause}
+use Rattle.server_core.specs.declared.cause.Cause.TheVariants as causes
 use Rattle.server_core.specs.declared.refuse.Refuse.{Refuse}
 use Rattle.server_core.specs.declared.refuse.Refuse.TheVariants.{Number, OutOfPlace, Clash, NoMemory}
 use Rattle.server_core.specs.declared.answer.Answer.{Answer}
@@ -19,6 +21,11 @@ refuse_reply (Number next) = replies.Number next
 refuse_reply OutOfPlace = replies.OutOfPlace
 refuse_reply (Clash what place) = replies.Clash what place
 refuse_reply NoMemory = replies.NoMemory
+
+abbrev pub cause_reply : Cause → ReplyText
+cause_reply (causes.Number next) = replies.Number next
+cause_reply causes.OutOfPlace = replies.OutOfPlace
+cause_reply (causes.Clash what place) = replies.Clash what place
 
 -- the answer to an update frame that isn't taken
 abbrev pub answer_of : Refuse → Answer

@@ -9,6 +9,7 @@
 mod adding;
 mod answer;
 mod blocks;
+mod cause;
 mod entries;
 mod filling;
 mod group;

@@ -10,9 +10,10 @@ ghost use Rattle.server_core.specs.State.{ServerState, at_first, is_ready};
 ghost use Rattle.server_core.specs.Refusal.{is_nil, in_place, clash, clash_at, refusal};
 ghost use Rattle.server_core.specs.Walk.{IsWalk, contents_of, rest_of};
 ghost use Rattle.server_core.specs.Step.{taken, answers, step};
-ghost use Rattle.server_core.specs.Views.{refuse_reply, answer_replies, HasBegun, HasRange, HasRoom, TakesMemory};
+ghost use Rattle.server_core.specs.Views.{refuse_reply, cause_reply, answer_replies, HasBegun, HasRange, HasRoom, TakesMemory};
 
 use crate::adding::{add_all, first_added};
+use crate::cause::Cause;
 use crate::entries::{entry_count, item_count};
 use crate::filling::{first_known, push_blocks, put_all};
 use crate::revoking::{first_missing, first_revoked, restore_all, revoke_all};
@@ -95,11 +96,15 @@ impl<T: Tables> Server<T> {
         ensures memory_last { result ≡ Err Refuse.NoMemory → refusal self.old.state (frame_view frame.now) ≡ None }
         ensures room { OnOk result (HasRoom self.new.room (frame_view frame.now)) }
     {
-        if let Some(refuse) = self.refusal(frame) {
-            return Err(refuse);
+        match self.refusal(frame) {
+            Some(Cause::Number(next)) => Err(Refuse::Number(next)),
+            Some(Cause::OutOfPlace) => Err(Refuse::OutOfPlace),
+            Some(Cause::Clash { what, place }) => Err(Refuse::Clash { what, place }),
+            None => {
+                self.make_room(frame)?;
+                Ok(())
+            }
         }
-        self.make_room(frame)?;
-        Ok(())
     }
 
     /// Takes an update frame that `prepare` found to be in order. Takes no memory, and can't fail.
@@ -263,19 +268,18 @@ impl<T: Tables> Server<T> {
         }
     }
 
-    /// The first cause that stands, other than out of memory.
-    fn refusal(&self, frame: &Frame<'_>) -> Option<Refuse>
+    /// The first cause that stands.
+    fn refusal(&self, frame: &Frame<'_>) -> Option<Cause>
         requires { InGrammar (frame_view frame.now) }
-        ensures cause { option_map refuse_reply result ≡ refusal self.now.state (frame_view frame.now) }
-        ensures no_memory { result ≢ Some Refuse.NoMemory }
+        ensures { option_map cause_reply result ≡ refusal self.now.state (frame_view frame.now) }
     {
         if let Some(q) = frame.update_number()
             && q != self.next
         {
-            return Some(Refuse::Number(self.next));
+            return Some(Cause::Number(self.next));
         }
         if !self.is_in_place(frame) {
-            return Some(Refuse::OutOfPlace);
+            return Some(Cause::OutOfPlace);
         }
         self.clash(frame)
     }
@@ -338,11 +342,10 @@ impl<T: Tables> Server<T> {
     }
 
     /// The first collision of a frame that is in place with what the server holds.
-    fn clash(&self, frame: &Frame<'_>) -> Option<Refuse>
+    fn clash(&self, frame: &Frame<'_>) -> Option<Cause>
         requires grammar { InGrammar (frame_view frame.now) }
         requires placed { in_place self.now.state (frame_view frame.now) ≡ true }
-        ensures cause { option_map refuse_reply result ≡ clash self.now.state (frame_view frame.now) }
-        ensures no_memory { result ≢ Some Refuse.NoMemory }
+        ensures { option_map cause_reply result ≡ clash self.now.state (frame_view frame.now) }
     {
         match *frame {
             Frame::SetupDict { width, entries, .. } => clash_at(
@@ -396,11 +399,10 @@ impl<T: Tables> Server<T> {
 
 /// The collision at this place of a frame's list, where there is one: of labels of lists (1), of labels of additions (2),
 /// or of revocation numbers (3).
-fn clash_at(what: u8, place: Option<usize>) -> Option<Refuse>
+fn clash_at(what: u8, place: Option<usize>) -> Option<Cause>
     requires { IfSome place (λ at. at < 2 ^ 32) }
-    ensures cause { option_map refuse_reply result ≡ clash_at what place }
-    ensures no_memory { result ≢ Some Refuse.NoMemory }
+    ensures { option_map cause_reply result ≡ clash_at what place }
 {
     let place = place? as u32;
-    Some(Refuse::Clash { what, place })
+    Some(Cause::Clash { what, place })
 }
