@@ -9,7 +9,7 @@ use Rattle.std.proofs.lemmas.List.Elements.{filter-append}
 use Rattle.client_registry.proofs.LiveLaws.{counter-below}
 use Rattle.client_registry.proofs.OverLaws.{over-append}
 use Rattle.client_registry.proofs.SizedLaws.{IsHistory-push, IsHistory-front, IsSized-setup, update_frames-push}
-use Rattle.client_registry.specs.Acceptance.{setup_refusal}
+use Rattle.client_registry.specs.Acceptance.{size_refusal}
 use Rattle.client_registry.specs.Command.{Command, Add, Delete, Search, is_update}
 use Rattle.client_registry.specs.Document.{Document}
 use Rattle.client_registry.specs.Documents.{IsCollected}
@@ -66,7 +66,7 @@ frames_in-below None kept = omega arith
 frames_in-below (Some run) kept = kept.1
 
 -- an accepted setup begins one
-pub IsKept-begun : (s : Setup) → IsCollected s.documents → setup_refusal s.documents s.shape.b s.shape.big ≡ None → IsKept (begun_by s)
+pub IsKept-begun : (s : Setup) → IsCollected s.documents → size_refusal s ≡ None → IsKept (begun_by s)
 IsKept-begun s collected accepted = let alone = IsSized-setup s collected accepted in (alone.history, alone.frames)
 
 -- and an accepted command whose frame can be numbered keeps it

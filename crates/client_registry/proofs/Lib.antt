@@ -23,6 +23,7 @@ pub mod LiveLaws
 pub mod FactsLaws
 pub mod OrderLaws
 pub mod ShownLaws
+pub mod PaddedLaws
 pub mod SizedLaws
 pub mod HistoryLaws
 pub mod WordLaws

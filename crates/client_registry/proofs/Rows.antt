@@ -1,6 +1,6 @@
 -- Rows that the definitions compute, with values from a program of its own. Words are given by their bytes.
 use Rattle.std.proofs.Common.{◌≡◌, ℕ, zero, suc, ◌+◌, true, false, List, [], ◌∷◌, None, Some, refl}
-use Rattle.client_registry.specs.Acceptance.{blocks_of, frames_needed, index_bytes, setup_refusal}
+use Rattle.client_registry.specs.Acceptance.{blocks_of, frames_needed, index_bytes, is_pad, padded, padded_words, padded_blocks, setup_refusal, size_refusal}
 use Rattle.client_registry.specs.Command.{Command, Add, Delete}
 use Rattle.client_registry.specs.Document.{Document}
 use Rattle.client_registry.specs.Documents.{words_of, list_lengths}
@@ -64,6 +64,36 @@ a_list_of_8_frames = refl
 
 both_parameters : setup_refusal [] 0 257 ≡ Some (BadParameter 0 0)
 both_parameters = refl
+
+-- counts rounded up to a multiple of Q, of which 0 is one
+padded_counts : padded 4 0 ∷ padded 4 1 ∷ padded 4 4 ∷ padded 4 5 ∷ padded 1 5 ∷ padded 4096 1 ∷ [] ≡ 0 ∷ 4 ∷ 4 ∷ 8 ∷ 5 ∷ 4096 ∷ []
+padded_counts = refl
+
+powers : is_pad 0 ∷ is_pad 1 ∷ is_pad 2 ∷ is_pad 3 ∷ is_pad 4096 ∷ is_pad 4097 ∷ is_pad 8192 ∷ [] ≡ false ∷ true ∷ true ∷ false ∷ true ∷ false ∷ false ∷ []
+powers = refl
+
+-- Q is looked at after b and B
+abbrev with_pad : List Document → ℕ → ℕ → ℕ → Setup
+with_pad docs small big q = record (setup_of docs small big) { pad = q }
+
+q_of_3 : size_refusal (with_pad (of_a 1) 1 1 3) ≡ Some (BadParameter 2 3)
+q_of_3 = refl
+
+q_of_0 : size_refusal (with_pad (of_a 1) 1 1 0) ≡ Some (BadParameter 2 0)
+q_of_0 = refl
+
+b_before_q : size_refusal (with_pad (of_a 1) 65 1 3) ≡ Some (BadParameter 0 65)
+b_before_q = refl
+
+big_before_q : size_refusal (with_pad (of_a 1) 1 257 3) ≡ Some (BadParameter 1 257)
+big_before_q = refl
+
+q_before_lists : size_refusal (with_pad (of_a 9) 2 2 8192) ≡ Some (BadParameter 2 8192)
+q_before_lists = refl
+
+-- the entry of one word and its 6 blocks among 4 and 8
+padded_size : padded_words (with_pad (of_a 8) 2 2 4) ∷ padded_blocks (with_pad (of_a 8) 2 2 4) ∷ index_bytes (with_pad (of_a 8) 2 2 4) ∷ [] ≡ 4 ∷ 8 ∷ 260 ∷ []
+padded_size = refl
 
 -- equal labels of words 0 and 1, then equal tags of blocks 1 and 2, under the weighed sum
 equal_labels : first_clash ((236 ∷ 238 ∷ 240 ∷ 242 ∷ 244 ∷ 246 ∷ 248 ∷ 250 ∷ 252 ∷ 254 ∷ 0 ∷ 2 ∷ 4 ∷ 6 ∷ 8 ∷ 10 ∷ []) ∷ (236 ∷ 238 ∷ 240 ∷ 242 ∷ 244 ∷ 246 ∷ 248 ∷ 250 ∷ 252 ∷ 254 ∷ 0 ∷ 2 ∷ 4 ∷ 6 ∷ 8 ∷ 10 ∷ []) ∷ []) ≡ Some (0, 1)

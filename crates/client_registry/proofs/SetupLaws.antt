@@ -96,8 +96,8 @@ module _ (docs : Collected) (indexed : IsIndexed docs) (r : Inside) (same_docume
   known_setup = known_table r ∙ same_words ∙ counted_words docs indexed
 
   -- the registry of a setup represents the setup
-  pub Represents-setup : (shape : Shape) → Represents (registered_of r) (record { documents = documents_of docs; shape = shape }) []
-  Represents-setup shape =
+  pub Represents-setup : (shape : Shape) (pad : ℕ) → Represents (registered_of r) (record { documents = documents_of docs; shape = shape; pad = pad }) []
+  Represents-setup shape pad =
       let table = known_table r ∙ same_words in
       λ i. record {
         live = λ id. (ap (λ ws. option_and_then (λ (k : Kept). option_map (λ n. words_by_number ws (take n k.numbers)) k.live) (find (λ k. nat_eq id k.id) (map kept_entry r.documents.entries))) table

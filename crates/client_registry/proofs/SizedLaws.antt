@@ -10,16 +10,17 @@ use Rattle.std.proofs.lemmas.List.Elements.{All-nil, All-push, filter-append}
 use Rattle.std.proofs.lemmas.List.Folds.{list_all-append}
 use Rattle.std.proofs.Math.Nat.{mul-le-mul_left, div-le_self}
 use Rattle.client_registry.proofs.OverLaws.{over-append}
+use Rattle.client_registry.proofs.PaddedLaws.{padded_words_are, pad_bounds, padded_within}
 use Rattle.client_registry.proofs.WordsLaws.{length-first_seen}
-use Rattle.client_registry.specs.Acceptance.{blocks_of, index_bytes, frames_needed, parameter_refusal, refused_shape, list_refusal, bytes_refusal, setup_refusal}
+use Rattle.client_registry.specs.Acceptance.{blocks_of, index_bytes, frames_needed, parameter_refusal, refused_shape, list_refusal, bytes_refusal, padded_blocks, padded_words, is_pad, size_refusal}
 use Rattle.client_registry.specs.Command.{Command, is_update}
 use Rattle.client_registry.specs.Documents.{all_words, first_seen, IsCollected}
 use Rattle.client_registry.specs.Over.{over}
 use Rattle.client_registry.specs.Run.{Run}
 use Rattle.client_registry.specs.Setup.{Setup, setup_words}
 use Rattle.client_registry.specs.Sized.{IsHistory, is_accepted, update_frames, words_named, run_words, IsSizedCommand, IsSized}
-use Rattle.client_registry.specs.declared.faults.SizeFault.TheVariants.{TooManyBytes}
-use Rattle.two_level.specs.ShapeFault.{is_within}
+use Rattle.client_registry.specs.declared.faults.SizeFault.TheVariants.{BadParameter, TooManyBytes}
+use Rattle.two_level.specs.ShapeFault.{is_within, shape_fault}
 use Rattle.two_level.specs.declared.shape_fault.ShapeFault.TheVariants.{BadCell, BadBlock}
 
 -- nothing is refused where no cause stands
@@ -32,10 +33,15 @@ is_within-true low high n h =
     let parts = and_parts (nat_le low n) (nat_le n high) h in
     (leb-true low n parts.0, leb-true n high parts.1)
 
-module _ (s : Setup) (h : setup_refusal s.documents s.shape.b s.shape.big ≡ None) where
+module _ (s : Setup) (h : size_refusal s ≡ None) where
+  parameters : (option_map refused_shape (shape_fault s.shape) ≡ None) × ((if is_pad s.pad then None else Some (BadParameter 2 s.pad)) ≡ None)
+  parameters =
+      no_cause (option_map refused_shape (shape_fault s.shape)) (if is_pad s.pad then None else Some (BadParameter 2 s.pad))
+      (no_cause (parameter_refusal s) (option_or (list_refusal s) (bytes_refusal s)) h).0
+
   -- the parameters of an accepted setup are within their limits
   pub accepted_shape : ((1 ≤ s.shape.b) × (s.shape.b ≤ 64)) × ((1 ≤ s.shape.big) × (s.shape.big ≤ 256))
-  accepted_shape = by (is_within 1 64 s.shape.b) (is_within 1 256 s.shape.big) refl refl (no_cause (parameter_refusal s.shape) (option_or (list_refusal s) (bytes_refusal s)) h).0
+  accepted_shape = by (is_within 1 64 s.shape.b) (is_within 1 256 s.shape.big) refl refl parameters.0
     where
       by : (x y : Bool) → is_within 1 64 s.shape.b ≡ x → is_within 1 256 s.shape.big ≡ y
           → option_map refused_shape (if not x then Some (BadCell s.shape.b) else if not y then Some (BadBlock s.shape.big) else None) ≡ None
@@ -44,36 +50,56 @@ module _ (s : Setup) (h : setup_refusal s.documents s.shape.b s.shape.big ≡ No
       by false y a b e = absurd (cc)
       by true false a b e = absurd (cc)
 
+  -- so is its Q
+  pub accepted_pad : is_pad s.pad ≡ true
+  accepted_pad = by (is_pad s.pad) refl parameters.1
+    where
+      by : (x : Bool) → is_pad s.pad ≡ x → (if x then None else Some (BadParameter 2 s.pad)) ≡ None → is_pad s.pad ≡ true
+      by true a e = a
+      by false a e = absurd (cc)
+
+  pub one_pad : 1 ≤ s.pad
+  one_pad = (pad_bounds s.pad accepted_pad).0
+
   -- none of its lists is too long
   pub accepted_lists : list_refusal s ≡ None
-  accepted_lists = (no_cause (list_refusal s) (bytes_refusal s) (no_cause (parameter_refusal s.shape) (option_or (list_refusal s) (bytes_refusal s)) h).1).0
+  accepted_lists = (no_cause (list_refusal s) (bytes_refusal s) (no_cause (parameter_refusal s) (option_or (list_refusal s) (bytes_refusal s)) h).1).0
 
   -- and its index has at most 2^28 bytes
   pub accepted_bytes : index_bytes s ≤ 2 ^ 28
-  accepted_bytes = by (nat_lt (2 ^ 28) (index_bytes s)) refl (no_cause (list_refusal s) (bytes_refusal s) (no_cause (parameter_refusal s.shape) (option_or (list_refusal s) (bytes_refusal s)) h).1).1
+  accepted_bytes = by (nat_lt (2 ^ 28) (index_bytes s)) refl (no_cause (list_refusal s) (bytes_refusal s) (no_cause (parameter_refusal s) (option_or (list_refusal s) (bytes_refusal s)) h).1).1
     where
       by : (x : Bool) → nat_lt (2 ^ 28) (index_bytes s) ≡ x → (if x then Some (TooManyBytes (index_bytes s)) else None) ≡ None → index_bytes s ≤ 2 ^ 28
       by true a e = absurd (cc)
       by false a e = ltb-false (2 ^ 28) (index_bytes s) a
 
-  -- so it has fewer than 2^25 blocks, as each has 8 bytes at least
-  pub accepted_blocks : blocks_of s ≤ 2 ^ 25
-  accepted_blocks =
+  -- so it has at most 2^25 blocks, dummies included, as each has 8 bytes at least
+  pub accepted_padded : padded_blocks s ≤ 2 ^ 25
+  accepted_padded =
       let one : 1 ≤ s.shape.big = accepted_shape.1.0 in
-      let more : blocks_of s * 8 ≤ blocks_of s * (8 * s.shape.big) = mul-le-mul_left (blocks_of s) (omega (arith, one)) in
+      let more : padded_blocks s * 8 ≤ padded_blocks s * (8 * s.shape.big) = mul-le-mul_left (padded_blocks s) (omega (arith, one)) in
       omega (arith, more, accepted_bytes)
+
+  pub accepted_blocks : blocks_of s ≤ 2 ^ 25
+  accepted_blocks = omega (arith, accepted_padded)
+
+  -- and at most 2^20 entries, dummies included
+  pub accepted_entries : IsCollected s.documents → padded_words s ≤ 2 ^ 20
+  accepted_entries collected =
+      let few : length (setup_words s) ≤ 2 ^ 20 = omega (arith, length-first_seen (all_words s.documents), collected.pairs) in
+      omega (arith, padded_words_are s one_pad, padded_within s.pad accepted_pad (length (setup_words s)) few)
 
   -- and its frames leave most numbers for the commands
   pub accepted_frames : IsCollected s.documents → frames_needed s < 2 ^ 27
   accepted_frames collected =
-      omega (arith, accepted_blocks, length-first_seen (all_words s.documents), collected.pairs, div-le_self (length (setup_words s)) 1024, div-le_self (blocks_of s) 256)
+      omega (arith, accepted_padded, accepted_entries collected, div-le_self (padded_words s) 1024, div-le_self (padded_blocks s) 256)
 
 -- an accepted setup alone is a history
-pub IsHistory-setup : (s : Setup) → IsCollected s.documents → setup_refusal s.documents s.shape.b s.shape.big ≡ None → IsHistory (record { setup = s; later = [] })
+pub IsHistory-setup : (s : Setup) → IsCollected s.documents → size_refusal s ≡ None → IsHistory (record { setup = s; later = [] })
 IsHistory-setup s collected h = record { collected = collected; setup = h; each = All-nil IsSizedCommand; accepted = refl }
 
 -- and is sized
-pub IsSized-setup : (s : Setup) → IsCollected s.documents → setup_refusal s.documents s.shape.b s.shape.big ≡ None → IsSized (record { setup = s; later = [] })
+pub IsSized-setup : (s : Setup) → IsCollected s.documents → size_refusal s ≡ None → IsSized (record { setup = s; later = [] })
 IsSized-setup s collected h = record {
   history = IsHistory-setup s collected h;
   commands = omega arith;

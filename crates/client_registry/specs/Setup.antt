@@ -4,14 +4,17 @@ use Rattle.two_level.specs.Shape.{Shape}
 use Rattle.client_registry.specs.Document.{Document}
 use Rattle.client_registry.specs.Documents.{words_of, ids_with}
 
--- a setup: the documents in their order, and the shape of the index
+-- a setup: the documents in their order, the shape of the index, and the number Q up to a multiple of which its words and its
+-- blocks are filled with dummies, so that their exact numbers don't show
 pub record Setup : Type 0 where
   pub documents : List Document
   pub shape : Shape
+  pub pad : ℕ
 
--- the setup of these documents with b numbers in a cell and big numbers in a block
+-- the setup of these documents with b numbers in a cell and big numbers in a block, and no dummies; with them it is
+-- `record (setup_of docs b big) { pad = q }`
 abbrev pub setup_of : List Document → ℕ → ℕ → Setup
-setup_of docs b big = record { documents = docs; shape = record { b = b; big = big } }
+setup_of docs b big = record { documents = docs; shape = record { b = b; big = big }; pad = 1 }
 
 -- the words of the setup by first appearance; the number of a word is its place here
 abbrev pub setup_words : Setup → List (List ℕ)

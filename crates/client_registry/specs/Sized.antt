@@ -1,7 +1,7 @@
 -- Which commands are accepted, and which runs keep all limits.
 use Rattle.std.specs.Prelude.{◌≡◌, ℕ, ◌+◌, ◌^◌, ◌<◌, ◌≤◌, Bool, true, not, ◌&&◌, ◌||◌, ◌-◌, nat_lt, List, [], ◌∷◌, ◌++◌, length, filter, flat_map, All, None}
 use Rattle.std.specs.List.{list_all}
-use Rattle.client_registry.specs.Acceptance.{frames_needed, setup_refusal}
+use Rattle.client_registry.specs.Acceptance.{frames_needed, size_refusal}
 use Rattle.client_registry.specs.Command.{Command, Add, Delete, Search, is_update}
 use Rattle.client_registry.specs.DocumentRule.{IsDocument}
 use Rattle.client_registry.specs.Documents.{all_words, first_seen, is_live, IsCollected}
@@ -30,7 +30,7 @@ IsSizedCommand (Search word) = word_refusal word ≡ None
 -- what is so of every history: its documents and its setup are accepted, and so is each command after those before it
 pub record IsHistory (run : Run) : Type 0 where
   pub collected : IsCollected run.setup.documents
-  pub setup : setup_refusal run.setup.documents run.setup.shape.b run.setup.shape.big ≡ None
+  pub setup : size_refusal run.setup ≡ None
   pub each : All IsSizedCommand run.later
   pub accepted : list_all (λ accepted. accepted) (over (is_accepted run.setup) [] run.later) ≡ true
 

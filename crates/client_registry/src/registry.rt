@@ -50,7 +50,7 @@ impl Registry {
     /// The registry of a setup of these documents: all of them are live, each word keeps its number, and they are hashed
     /// as before. It takes no memory.
     pub fn from_docs(docs: Docs) -> Registry
-        ensures setup { (shape : Shape) → Represents result (record { documents = docs.documents; shape = shape }) [] }
+        ensures setup { (shape : Shape) (pad : ℕ) → Represents result (record { documents = docs.documents; shape = shape; pad = pad }) [] }
         ensures words { known_words result ≡ words_of docs.documents }
         ensures keys { result.keys ≡ docs.keys }
         ensures valid { IsCollected docs.documents }

@@ -6,13 +6,13 @@ use Rattle.std.specs.FinMap as finmap
 use Rattle.std.specs.FinSet as set
 use Rattle.std.proofs.lemmas.Cmp.{nat_eq_equiv}
 use Rattle.std.proofs.lemmas.List.{length-append}
-use Rattle.std.proofs.lemmas.List.Elements.{All-contains, Contains-push, filter-append}
+use Rattle.std.proofs.lemmas.List.Elements.{All-contains, All-from_recursion, Contains-push, filter-append}
 use Rattle.keyed_fn.specs.KeyedFn.{KeyedFn, IsKeyedFn}
 use Rattle.client_registry.proofs.SizedLaws.{IsHistory-front}
 use Rattle.client_registry.specs.Command.{Command, Add, Delete, Search, is_update}
 use Rattle.client_registry.specs.Live as live
 use Rattle.client_registry.specs.Run.{Offsets}
-use Rattle.client_registry.specs.Setup.{Setup, setup_words, setup_list}
+use Rattle.client_registry.specs.Setup.{Setup, setup_list}
 use Rattle.client_registry.specs.Sized.{IsHistory, is_accepted, IsSizedCommand}
 use Rattle.client_registry.proofs.ShownLaws.{are_accepted}
 use Rattle.search_token.proofs.TokenLaws.{keys_of_bytes-token_of}
@@ -27,12 +27,13 @@ use Rattle.sse_frames.specs.Replies.{BadList}
 use Rattle.sse_frames.specs.Sending.{pages}
 use Rattle.sse_model.proofs.Collisions.{joined}
 use Rattle.sse_model.proofs.KeyValues.{IsValue-table}
+use Rattle.sse_model.proofs.LabelsApart.{IsOfClass, entries_have_labels}
 use Rattle.sse_model.proofs.Prefixes.{run_of, frames_by}
 use Rattle.sse_model.proofs.SealedEntries.{IsTold, IsTold-drawn}
 use Rattle.sse_model.proofs.SentNumbers.{are_accepted-push}
-use Rattle.sse_model.specs.Drawn.{drawn, IsCollisionFree}
-use Rattle.sse_model.specs.Names.{Name, Table, table, name, ListLabel, Token}
-use Rattle.sse_model.specs.Positions.{sealed, addition_positions, listed_words}
+use Rattle.sse_model.specs.Drawn.{drawn, is_compared, IsCollisionFree}
+use Rattle.sse_model.specs.Names.{Table, table, name, ListLabel, ListLabels, Token}
+use Rattle.sse_model.specs.Positions.{Position, entry_positions, sealed, addition_positions, listed_words}
 use Rattle.sse_model.specs.Wire.{numbers_of_words, words_live, replies_of, next_number}
 use Rattle.sse_agreement.proofs.Adding.{HoldsAdditions-add, HoldsAdditions-delete, HoldsAdditions-search, added_are_new}
 use Rattle.sse_agreement.proofs.Dictionary.{first_known-new}
@@ -76,12 +77,12 @@ module _ (f : KeyedFn) (laws : IsKeyedFn f) (keys : ℕ → List ℕ) (o : Offse
       word_keys : TokenKeys
       word_keys = token_keys f (keys o.epoch) word
 
-      alone : (w : List ℕ) → Contains (setup_words s) w → t (name o.epoch w ListLabel 0) ≡ t (name o.epoch word ListLabel 0) → w ≡ word
-      alone w within same =
-          ap (λ (n : Name). n.word)
-          (free (name o.epoch w ListLabel 0) (name o.epoch word ListLabel 0)
-          (is_drawn f keys o s past history.each history.accepted word free (name o.epoch w ListLabel 0) (label_is_drawn o (run_of s past) w within))
-          (label_looked_up f keys o s past history.each history.accepted word free) refl refl refl same)
+      alone : (p : Position) → Contains (entry_positions o.epoch s) p → t p.label ≡ t (name o.epoch word ListLabel 0) → p.label ≡ name o.epoch word ListLabel 0
+      alone p within same =
+          let is = All-contains (IsOfClass o.epoch ListLabels) (entry_positions o.epoch s) p (All-from_recursion (IsOfClass o.epoch ListLabels) (entry_positions o.epoch s) (entries_have_labels o.epoch s)) within in
+          free p.label (name o.epoch word ListLabel 0)
+          (is_drawn f keys o s past history.each history.accepted word free p.label (label_is_drawn o (run_of s past) p within))
+          (label_looked_up f keys o s past history.each history.accepted word free) is.0 is.1 (ap is_compared is.1) same
 
       setup : setup_ids f word_keys (finmap.get state.dictionary) state.array ≡ Some (setup_list s word)
       setup = setup_ids-held f keys o.epoch s history.collected history.setup word state.dictionary state.array held.setup alone

@@ -7,7 +7,7 @@ use Rattle.std.specs.FinMap as finmap
 use Rattle.std.proofs.lemmas.Bool.{true≢false, cases_Bool}
 use Rattle.std.proofs.lemmas.Cmp.{nat_list_eq_equiv}
 use Rattle.std.proofs.lemmas.List.{length-map, get_or-map, get_or-take, get_or-drop, get_or_append_left, get_or-append-add}
-use Rattle.std.proofs.lemmas.List.Elements.{All-contains, All-from_recursion, All-take, All-drop, All-weaker}
+use Rattle.std.proofs.lemmas.List.Elements.{Contains-append_left, All-contains, All-from_recursion, All-take, All-drop, All-weaker}
 use Rattle.std.proofs.lemmas.List.Folds.{fold-map}
 use Rattle.std.proofs.lemmas.List.FromFn.{length-map-range_with_len, get_or-map-range_with_len}
 use Rattle.std.proofs.lemmas.List.Sums.{sum_by-cons}
@@ -24,9 +24,8 @@ use Rattle.two_level.proofs.ReadLemmas.{length-cell_bytes, length-number_bytes, 
 use Rattle.two_level.specs.Laid.{Laid, laid, laid_as, pointers, cell_bytes, number_bytes}
 use Rattle.two_level.specs.Opened.{numbers_of}
 use Rattle.two_level.specs.Plan.{plan, block_count}
-use Rattle.client_registry.proofs.SizedLaws.{accepted_shape, accepted_blocks}
-use Rattle.client_registry.specs.Acceptance as acceptance
-use Rattle.client_registry.specs.Acceptance.{setup_refusal}
+use Rattle.client_registry.proofs.SizedLaws.{accepted_shape, accepted_padded}
+use Rattle.client_registry.specs.Acceptance.{padded_blocks, dummy_entries, dummy_blocks, size_refusal}
 use Rattle.client_registry.specs.Documents.{ids_with, IsCollected}
 use Rattle.client_registry.specs.Setup.{Setup, setup_words, setup_list}
 use Rattle.sse_frames.proofs.Sorted.{AllDiffer}
@@ -35,11 +34,11 @@ use Rattle.server_core.specs.Search.{block_at, setup_ids}
 use Rattle.server_core.specs.Step.{with_entries}
 use Rattle.server_tables.specs.Contents.{CellMap}
 use Rattle.sse_frames.specs.Order.{by_bytes}
-use Rattle.sse_model.proofs.Counts.{length-block_positions}
+use Rattle.sse_model.proofs.Counts.{AllByRecursion-append, AllByRecursion-each, length-blocks_from, length-block_positions}
 use Rattle.sse_model.proofs.Members.{Contains-head, Contains-cons, Contains-nil, Contains-cases, Contains-map, Contains-from_list_any}
 use Rattle.sse_model.proofs.Texts.{HasPlan, lists_have_plans}
-use Rattle.sse_model.specs.Names.{Table, table, name, ListLabel, ListPad, cell_size, block_size}
-use Rattle.sse_model.specs.Positions.{Position, word_blocks, laid_at, cell_text, block_text, entry_position, block_position, entries_from, blocks_from, entry_positions, block_positions, sealed, comes_before, ranks_of}
+use Rattle.sse_model.specs.Names.{Name, Table, table, name, ListLabel, ListPad, DummyLabel, same_kind, cell_size, block_size}
+use Rattle.sse_model.specs.Positions.{Position, word_blocks, laid_at, cell_text, block_text, entry_position, block_position, dummy_entry, dummy_block, entries_from, blocks_from, entry_positions, block_positions, sealed, comes_before, ranks_of}
 use Rattle.sse_model.specs.Wire.{labels_in}
 use Rattle.sse_agreement.proofs.Dictionary.{get-by_bytes, get-by_bytes_missing}
 use Rattle.sse_agreement.proofs.Ranks.{ranks_within, text_at_rank}
@@ -102,6 +101,33 @@ laid_out epoch s first (word ∷ words) w within =
     sum : sum_by (word_blocks s) (word ∷ words) ≡ word_blocks s word + sum_by (word_blocks s) words
     sum = sum_by-cons (word_blocks s) word words
 
+-- An entry that has a word's label is of one of the words, and no dummy.
+
+abbrev HasWord : ℕ → List (List ℕ) → Position → Type 0
+HasWord epoch words p = (w : List ℕ) → p.label ≡ name epoch w ListLabel 0 → Contains words w
+
+own_have_words : (epoch : ℕ) (s : Setup) (all : List (List ℕ)) (first : ℕ) (words : List (List ℕ)) → ((w : List ℕ) → Contains words w → Contains all w)
+    → AllByRecursion (HasWord epoch all) (entries_from epoch s first words)
+own_have_words epoch s all first [] there = tt
+own_have_words epoch s all first (word ∷ words) there = (
+  λ w is. subst (Contains all) (ap (λ (n : Name). n.word) is) (there word (Contains-head word words)),
+  own_have_words epoch s all (first + word_blocks s word) words (λ w within. there w (Contains-cons word words w within)),
+)
+
+listed_of : (epoch : ℕ) (s : Setup) (p : Position) → Contains (entry_positions epoch s) p → (w : List ℕ) → p.label ≡ name epoch w ListLabel 0 → Contains (setup_words s) w
+listed_of epoch s p within = All-contains HasOwn (entry_positions epoch s) p (All-from_recursion HasOwn (entry_positions epoch s) each) within
+  where
+    HasOwn : Position → Type 0
+    HasOwn = HasWord epoch (setup_words s)
+
+    dummy_has_none : (i : ℕ) → HasOwn (dummy_entry epoch s i)
+    dummy_has_none i w is = absurd (true≢false (ap (λ (n : Name). same_kind n.kind DummyLabel) is))
+
+    each : AllByRecursion HasOwn (entry_positions epoch s)
+    each =
+        AllByRecursion-append HasOwn (entries_from epoch s 0 (setup_words s)) (map (dummy_entry epoch s) (range_with_len 0 (dummy_entries s)))
+        (own_have_words epoch s (setup_words s) 0 (setup_words s) (λ w here. here)) (AllByRecursion-each HasOwn (dummy_entry epoch s) dummy_has_none (range_with_len 0 (dummy_entries s)))
+
 -- The tables of a setup.
 
 -- a setup's entries and blocks, encrypted
@@ -118,18 +144,16 @@ dictionary_of t epoch s = with_entries finmap.empty (by_bytes (λ entry. entry.l
 abbrev pub array_of : Table → (epoch : ℕ) → Setup → List (List ℕ)
 array_of t epoch s = map (λ block. block.text) (by_bytes (λ block. block.label) (blocks_in t epoch s))
 
--- a label that no word has is no entry's
-labels_apart : (t : Table) (ranks : List ℕ) (epoch : ℕ) (s : Setup) (words : List (List ℕ)) (first : ℕ) (q : List ℕ)
-    → ((w : List ℕ) → Contains words w → q ≢ t (name epoch w ListLabel 0)) → AllByRecursion (λ e. q ≢ e.label) (map (sealed t ranks) (entries_from epoch s first words))
-labels_apart t ranks epoch s [] first q differ = tt
-labels_apart t ranks epoch s (word ∷ words) first q differ =
-    (differ word (Contains-head word words), labels_apart t ranks epoch s words (first + word_blocks s word) q (λ w within. differ w (Contains-cons word words w within)))
+-- a label that no position has is no entry's
+labels_apart : (t : Table) (ranks : List ℕ) (ps : List Position) (q : List ℕ) → ((p : Position) → Contains ps p → q ≢ t p.label) → AllByRecursion (λ e. q ≢ e.label) (map (sealed t ranks) ps)
+labels_apart t ranks [] q differ = tt
+labels_apart t ranks (p ∷ ps) q differ = (differ p (Contains-head p ps), labels_apart t ranks ps q (λ r within. differ r (Contains-cons p ps r within)))
 
 -- they hold the setup, where its labels and its tags differ
 pub HoldsSetup-made : (t : Table) (epoch : ℕ) (s : Setup) → AllDiffer (labels_of (entries_in t epoch s)) → AllDiffer (labels_of (blocks_in t epoch s)) → HoldsSetup t epoch s (dictionary_of t epoch s) (array_of t epoch s)
 HoldsSetup-made t epoch s differ tags_differ = record {
   cell = λ p within. get-by_bytes (entries_in t epoch s) (sealed t ranks p) differ (Contains-map (sealed t ranks) (entry_positions epoch s) p within);
-  missing = λ label others. get-by_bytes_missing (entries_in t epoch s) label (labels_apart t ranks epoch s (setup_words s) 0 label others);
+  missing = λ label others. get-by_bytes_missing (entries_in t epoch s) label (labels_apart t ranks (entry_positions epoch s) label others);
   block =
       λ j d below.
       ap (λ tags. slice_get (array_of t epoch s) (slice_index (ranks_of tags) j)) (sym (map-map (λ (e : Entry). e.label) (sealed t ranks) positions))
@@ -150,7 +174,7 @@ some_of g None h = absurd (cc)
 some_of g (Some a) h = (g a, refl)
 
 module _ (f : KeyedFn) (keys : ℕ → List ℕ) (epoch : ℕ) (s : Setup) (collected : IsCollected s.documents)
-    (accepted : setup_refusal s.documents s.shape.b s.shape.big ≡ None) (word : List ℕ) (dictionary : CellMap) (array : List (List ℕ)) (held : HoldsSetup (table f s.shape keys) epoch s dictionary array) where
+    (accepted : size_refusal s ≡ None) (word : List ℕ) (dictionary : CellMap) (array : List (List ℕ)) (held : HoldsSetup (table f s.shape keys) epoch s dictionary array) where
   abbrev t : Table
   t = table f s.shape keys
 
@@ -164,7 +188,7 @@ module _ (f : KeyedFn) (keys : ℕ → List ℕ) (epoch : ℕ) (s : Setup) (coll
   positions = block_positions epoch s
 
   abbrev count : ℕ
-  count = acceptance.blocks_of s
+  count = padded_blocks s
 
   many_positions : length positions ≡ count
   many_positions = length-block_positions epoch s
@@ -177,8 +201,8 @@ module _ (f : KeyedFn) (keys : ℕ → List ℕ) (epoch : ℕ) (s : Setup) (coll
       let tags = labels_in t positions in
       length-map-range_with_len (λ j. length (Rattle.std.specs.Prelude.filter (comes_before tags j) (range_with_len 0 (length tags)))) 0 (length tags) ∙ many_tags
 
-  in_all : sum_by (word_blocks s) (setup_words s) ≡ count
-  in_all = sym (fold-map (λ a n. a + block_count (plan s.shape n)) (λ w. length (ids_with s.documents w)) 0 (setup_words s))
+  in_all : sum_by (word_blocks s) (setup_words s) ≤ count
+  in_all = omega (arith, fold-map (λ a n. a + block_count (plan s.shape n)) (λ w. length (ids_with s.documents w)) 0 (setup_words s))
 
   -- the list of a word that has an entry
   listed_word : Contains (setup_words s) word → setup_ids f word_keys (finmap.get dictionary) array ≡ Some (setup_list s word)
@@ -208,7 +232,7 @@ module _ (f : KeyedFn) (keys : ℕ → List ℕ) (epoch : ℕ) (s : Setup) (coll
       enough = omega (arith, here.fits, here.starts, in_all, many_ranks, length-take (word_blocks s word) (drop here.place ranks), length-drop here.place ranks)
 
       small : All (λ rank. rank + 1 < 2 ^ 64) ranks
-      small = All-weaker (λ rank. rank ≤ length (labels_in t positions)) (λ rank. rank + 1 < 2 ^ 64) (λ rank le. omega (arith, le, many_tags, accepted_blocks s accepted)) ranks (ranks_within (labels_in t positions))
+      small = All-weaker (λ rank. rank ≤ length (labels_in t positions)) (λ rank. rank + 1 < 2 ^ 64) (λ rank le. omega (arith, le, many_tags, accepted_padded s accepted)) ranks (ranks_within (labels_in t positions))
 
       part_fits : All (λ rank. rank + 1 < 2 ^ 64) part
       part_fits = All-take (λ rank. rank + 1 < 2 ^ 64) (word_blocks s word) (drop here.place ranks) (All-drop (λ rank. rank + 1 < 2 ^ 64) here.place ranks small)
@@ -229,7 +253,7 @@ module _ (f : KeyedFn) (keys : ℕ → List ℕ) (epoch : ℕ) (s : Setup) (coll
       long = length-cell_bytes l ∙ ap (λ n. 1 + 8 * n) (length-numbers s.shape part ids l some is enough)
 
       there : finmap.get dictionary (t (name epoch word ListLabel 0)) ≡ Some (xored (cell_bytes l) (t (name epoch word ListPad 0)))
-      there = held.cell (entry_position epoch s here.place word) here.entry ∙ ap (λ o. Some (xored (cell_text o) (t (name epoch word ListPad 0)))) is
+      there = held.cell (entry_position epoch s here.place word) (Contains-append_left (entries_from epoch s 0 (setup_words s)) (map (dummy_entry epoch s) (range_with_len 0 (dummy_entries s))) (entry_position epoch s here.place word) here.entry) ∙ ap (λ o. Some (xored (cell_text o) (t (name epoch word ListPad 0)))) is
 
       each : (i : ℕ) → i < length l.blocks → block_at f word_keys array i (slice_index part i + 1) ≡ Some (get_or l.blocks i [])
       each i inside =
@@ -262,7 +286,14 @@ module _ (f : KeyedFn) (keys : ℕ → List ℕ) (epoch : ℕ) (s : Setup) (coll
           nowhere = block_position epoch s 0 word 0
 
           position_is : get_or positions (here.place + i) nowhere ≡ block_position epoch s here.place word i
-          position_is = (let at : here.place + i ≡ here.before + i = omega (arith, here.starts) in ap (λ n. get_or positions n nowhere) at) ∙ here.block i nowhere below
+          position_is =
+              (let at : here.place + i ≡ here.before + i = omega (arith, here.starts) in ap (λ n. get_or positions n nowhere) at)
+              ∙ get_or_append_left (blocks_from epoch s 0 (setup_words s)) (map (dummy_block epoch s) (range_with_len 0 (dummy_blocks s))) nowhere (here.before + i) own
+              ∙ here.block i nowhere below
+            where
+              own : here.before + i < length (blocks_from epoch s 0 (setup_words s))
+              own =
+                  omega (arith, below, here.fits, length-blocks_from epoch s 0 (setup_words s), fold-map (λ a n. a + block_count (plan s.shape n)) (λ w. length (ids_with s.documents w)) 0 (setup_words s))
 
           stands : slice_get array (slice_index ranks (here.place + i)) ≡ Some (xored clear pad)
           stands =
@@ -275,19 +306,19 @@ module _ (f : KeyedFn) (keys : ℕ → List ℕ) (epoch : ℕ) (s : Setup) (coll
 
   -- that of a word that has none
   unlisted_word : list_any (bytes_eq word) (setup_words s) ≡ false
-      → ((w : List ℕ) → Contains (setup_words s) w → t (name epoch w ListLabel 0) ≡ t (name epoch word ListLabel 0) → w ≡ word)
+      → ((p : Position) → Contains (entry_positions epoch s) p → t p.label ≡ t (name epoch word ListLabel 0) → p.label ≡ name epoch word ListLabel 0)
       → setup_ids f word_keys (finmap.get dictionary) array ≡ Some (setup_list s word)
   unlisted_word unknown alone =
       setup_ids-missing f word_keys (finmap.get dictionary) array
       (held.missing (t (name epoch word ListLabel 0)) other)
       ∙ ap (λ ids. Some ids) (sym (setup_list-missing s word unknown))
     where
-      other : (w : List ℕ) → Contains (setup_words s) w → t (name epoch word ListLabel 0) ≢ t (name epoch w ListLabel 0)
-      other w within same =
-          true≢false (sym (list_any-from_Contains nat_list_eq_equiv word (setup_words s) (subst (Contains (setup_words s)) (alone w within (sym same)) within)) ∙ unknown)
+      other : (p : Position) → Contains (entry_positions epoch s) p → t (name epoch word ListLabel 0) ≢ t p.label
+      other p within same =
+          true≢false (sym (list_any-from_Contains nat_list_eq_equiv word (setup_words s) (listed_of epoch s p within word (alone p within (sym same)))) ∙ unknown)
 
-  -- each word has its list, where no other word has its label
-  pub setup_ids-held : ((w : List ℕ) → Contains (setup_words s) w → t (name epoch w ListLabel 0) ≡ t (name epoch word ListLabel 0) → w ≡ word)
+  -- each word has its list, where no other entry has its label
+  pub setup_ids-held : ((p : Position) → Contains (entry_positions epoch s) p → t p.label ≡ t (name epoch word ListLabel 0) → p.label ≡ name epoch word ListLabel 0)
       → setup_ids f word_keys (finmap.get dictionary) array ≡ Some (setup_list s word)
   setup_ids-held alone =
       ⊎_elim (λ known. listed_word (Contains-from_list_any word (setup_words s) known)) (λ unknown. unlisted_word unknown alone) (cases_Bool (list_any (bytes_eq word) (setup_words s)))

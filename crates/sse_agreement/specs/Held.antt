@@ -6,13 +6,13 @@ use Rattle.std.specs.FinSet as set
 use Rattle.client_registry.specs.Command.{Command}
 use Rattle.client_registry.specs.Live.{is_listed, is_live_with, added_list, counter}
 use Rattle.client_registry.specs.Run.{Offsets}
-use Rattle.client_registry.specs.Setup.{Setup, setup_words}
+use Rattle.client_registry.specs.Setup.{Setup}
 use Rattle.keyed_fn.specs.Xored.{xored}
 use Rattle.sse_frames.specs.Frames.{be64}
 use Rattle.server_core.specs.declared.stage.Stage.TheVariants.{Ready}
 use Rattle.server_core.specs.State.{ServerState}
 use Rattle.server_tables.specs.Contents.{CellMap, NumberSet}
-use Rattle.sse_model.specs.Names.{Table, name, ListLabel, PlusLabel, PlusPad, Revocation}
+use Rattle.sse_model.specs.Names.{Table, name, PlusLabel, PlusPad, Revocation}
 use Rattle.sse_model.specs.Positions.{Position, sealed, ranks_of, entry_positions, block_positions}
 use Rattle.sse_model.specs.Wire.{labels_in, next_number}
 
@@ -20,10 +20,10 @@ use Rattle.sse_model.specs.Wire.{labels_in, next_number}
 abbrev pub ranks_in : Table → (epoch : ℕ) → Setup → List ℕ
 ranks_in t epoch s = ranks_of (labels_in t (block_positions epoch s))
 
--- each word's label has its encrypted cell and no other label is there; each block is in the array at its rank
+-- the label of each entry, a dummy's too, has its encrypted cell and no other label is there; each block is in the array at its rank
 pub record HoldsSetup (t : Table) (epoch : ℕ) (s : Setup) (dictionary : CellMap) (array : List (List ℕ)) : Type 0 where
   pub cell : (p : Position) → Contains (entry_positions epoch s) p → finmap.get dictionary (t p.label) ≡ Some (sealed t (ranks_in t epoch s) p).text
-  pub missing : (label : List ℕ) → ((word : List ℕ) → Contains (setup_words s) word → label ≢ t (name epoch word ListLabel 0)) → finmap.get dictionary label ≡ None
+  pub missing : (label : List ℕ) → ((p : Position) → Contains (entry_positions epoch s) p → label ≢ t p.label) → finmap.get dictionary label ≡ None
   pub block : (j : ℕ) (d : Position) → j < length (block_positions epoch s) →
       slice_get array (slice_index (ranks_in t epoch s) j) ≡ Some (sealed t (ranks_in t epoch s) (slice_index_or (block_positions epoch s) j d)).text
 

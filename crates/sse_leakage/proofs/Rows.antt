@@ -17,6 +17,9 @@ doc id words = record { id = id; words = words }
 abbrev a : List ℕ
 a = 0x61 ∷ []
 
+abbrev b : List ℕ
+b = 0x62 ∷ []
+
 abbrev c : List ℕ
 c = 0x63 ∷ []
 
@@ -44,8 +47,15 @@ added_again : leak at_first (run_of (doc 1 (a ∷ []) ∷ doc 2 (a ∷ []) ∷ [
     ∷ []
 added_again = refl
 
-abbrev b : List ℕ
-b = 0x62 ∷ []
+-- Q isn't leaked: four words without dummies show as much as one with three
+abbrev with_pad : ℕ → List Document → Run
+with_pad q docs = record { setup = record (setup_of docs 2 2) { pad = q }; later = Search (0x7a ∷ []) ∷ [] }
+
+four_words : leak at_first (with_pad 1 (doc 1 (a ∷ b ∷ c ∷ (0x64 ∷ []) ∷ []) ∷ [])) ≡ SetupLeak (record { b = 2; big = 2 }) 4 0 ∷ SearchLeak None None [] [] ∷ []
+four_words = refl
+
+four_with_dummies : leak at_first (with_pad 4 (doc 6 (b ∷ []) ∷ [])) ≡ leak at_first (with_pad 1 (doc 1 (a ∷ b ∷ c ∷ (0x64 ∷ []) ∷ []) ∷ []))
+four_with_dummies = refl
 
 -- a list of 2 takes a block, one of 3 two blocks and one of pointers; those of a word stand after those of the words before it; a search of a word that is nowhere
 blocks_of_two_words : leak at_first (run_of (doc 1 (a ∷ b ∷ []) ∷ doc 2 (b ∷ a ∷ []) ∷ doc 3 (b ∷ []) ∷ []) 1 2 (Search b ∷ Search a ∷ Search c ∷ []))

@@ -1,4 +1,4 @@
--- A setup that is accepted has at most 2^20 blocks: no list takes more blocks than it has identifiers.
+-- A setup that is accepted has at most 2^20 blocks, dummies included: no list takes more blocks than it has identifiers.
 use Rattle.std.proofs.Common.{◌≡◌, ℕ, zero, suc, ◌+◌, ◌*◌, ◌^◌, ◌<◌, ◌≤◌, Bool, true, false, cond, List, [], ◌∷◌, length, filter, refl, sym, ap, ◌∙◌, subst, arith}
 use Rattle.std.specs.Prelude.{None, Some, sum_by, bytes_eq, nat_le, if◌then◌else◌}
 use Rattle.std.specs.Int.{div_ceil}
@@ -13,9 +13,10 @@ use Rattle.list_packing.proofs.PartsLemmas.{div_ceil-le}
 use Rattle.two_level.specs.Plan.{Identifiers, DataPointers, BlockPointers, plan, block_count}
 use Rattle.two_level.specs.Shape.{Shape}
 use Rattle.client_registry.proofs.DistinctLaws.{IsDistinct-first_seen}
-use Rattle.client_registry.proofs.SizedLaws.{accepted_shape}
+use Rattle.client_registry.proofs.PaddedLaws.{padded_blocks_are, padded_within}
+use Rattle.client_registry.proofs.SizedLaws.{accepted_shape, accepted_pad, one_pad}
 use Rattle.client_registry.proofs.WordsLaws.{length-ids_with}
-use Rattle.client_registry.specs.Acceptance.{blocks_of, setup_refusal}
+use Rattle.client_registry.specs.Acceptance.{blocks_of, padded_blocks, size_refusal}
 use Rattle.client_registry.specs.Documents.{all_words, words_of, ids_with, IsCollected}
 use Rattle.client_registry.specs.Setup.{Setup}
 
@@ -119,10 +120,10 @@ hits-le vs [] differ =
     omega (arith, none)
 hits-le vs (w ∷ ws) differ = omega (arith, hits-cons vs w ws, one_same w vs differ, hits-le vs ws differ)
 
-module _ (s : Setup) (collected : IsCollected s.documents) (h : setup_refusal s.documents s.shape.b s.shape.big ≡ None) where
-  -- an accepted setup has at most 2^20 blocks
-  pub blocks_within : blocks_of s ≤ 2 ^ 20
-  blocks_within =
+module _ (s : Setup) (collected : IsCollected s.documents) (h : size_refusal s ≡ None) where
+  -- an accepted setup has at most 2^20 blocks of its own
+  pub own_within : blocks_of s ≤ 2 ^ 20
+  own_within =
       let docs = s.documents in
       let words = words_of docs in
       let shape = accepted_shape s h in
@@ -132,3 +133,7 @@ module _ (s : Setup) (collected : IsCollected s.documents) (h : setup_refusal s.
       sum_by-le-sum_by (λ w. count (length (ids_with docs w))) (λ w. length (filter (bytes_eq w) (all_words docs))) words
       (λ w. subst (λ (n : ℕ). count (length (ids_with docs w)) ≤ n) (sym (length-ids_with docs w collected.are_documents)) (block_count-le s.shape (length (ids_with docs w)) shape.0.0 shape.1.0)) in
       omega (arith, by_words, fewer, hits-le words (all_words docs) (IsDistinct-first_seen (all_words docs)), collected.pairs)
+
+  -- and as many at most with the dummies
+  pub blocks_within : padded_blocks s ≤ 2 ^ 20
+  blocks_within = omega (arith, padded_blocks_are s (one_pad s h), padded_within s.pad (accepted_pad s h) (blocks_of s) own_within)

@@ -14,8 +14,7 @@ use Rattle.two_level.specs.Plan.{plan, block_count}
 use Rattle.two_level.specs.Shape.{Shape}
 use Rattle.client_registry.proofs.FromEnd.{from_end}
 use Rattle.client_registry.proofs.OverLaws.{over-append}
-use Rattle.client_registry.specs.Acceptance as acceptance
-use Rattle.client_registry.specs.Acceptance.{frames_needed}
+use Rattle.client_registry.specs.Acceptance.{padded_words, padded_blocks, dummy_entries, dummy_blocks, frames_needed}
 use Rattle.client_registry.specs.Command.{Command, Add, Delete, Search, is_update}
 use Rattle.client_registry.specs.Documents.{ids_with}
 use Rattle.client_registry.specs.Over.{over}
@@ -27,16 +26,18 @@ use Rattle.sse_frames.specs.Frames.{Entry, FrameText, SetupBegin, SetupDict, Set
 use Rattle.sse_frames.specs.Order.{by_bytes}
 use Rattle.sse_frames.specs.Sending.{numbered, dict_frames, array_frames, setup_frames}
 use Rattle.sse_model.specs.Names.{Table}
-use Rattle.sse_model.specs.Positions.{word_blocks, entries_from, blocks_from, entry_positions, block_positions, block_position, sealed, ranks_of}
+use Rattle.sse_model.specs.Positions.{word_blocks, entries_from, blocks_from, entry_positions, block_positions, block_position, dummy_entry, dummy_block, sealed, ranks_of}
 use Rattle.sse_model.specs.Wire.{labels_in, frames_of_setup, frames_of, next_number, wire}
 
 length-entries_from : (epoch : ℕ) (s : Setup) (first : ℕ) (words : List (List ℕ)) → length (entries_from epoch s first words) ≡ length words
 length-entries_from epoch s first [] = refl
 length-entries_from epoch s first (word ∷ words) = ap (λ (n : ℕ). suc n) (length-entries_from epoch s (first + word_blocks s word) words)
 
--- an entry for each word
-pub length-entry_positions : (epoch : ℕ) (s : Setup) → length (entry_positions epoch s) ≡ length (setup_words s)
-length-entry_positions epoch s = length-entries_from epoch s 0 (setup_words s)
+-- an entry for each word, and the dummies
+pub length-entry_positions : (epoch : ℕ) (s : Setup) → length (entry_positions epoch s) ≡ padded_words s
+length-entry_positions epoch s =
+    length-append (entries_from epoch s 0 (setup_words s)) (map (dummy_entry epoch s) (range_with_len 0 (dummy_entries s)))
+    ∙ (λ i. length-entries_from epoch s 0 (setup_words s) i + length-map-range_with_len (dummy_entry epoch s) 0 (dummy_entries s) i)
 
 -- the blocks of these words are as many as the plans of their lists take
 pub length-blocks_from : (epoch : ℕ) (s : Setup) (first : ℕ) (words : List (List ℕ))
@@ -49,9 +50,11 @@ length-blocks_from epoch s first (word ∷ words) =
     ∙ (λ i. length-map-range_with_len (block_position epoch s first word) 0 (word_blocks s word) i + length-blocks_from epoch s (first + word_blocks s word) words i)
     ∙ sym (sum_by-cons count (length (ids_with s.documents word)) (map (λ word. length (ids_with s.documents word)) words))
 
--- a block for each that the lists take
-pub length-block_positions : (epoch : ℕ) (s : Setup) → length (block_positions epoch s) ≡ acceptance.blocks_of s
-length-block_positions epoch s = length-blocks_from epoch s 0 (setup_words s)
+-- a block for each that the lists take, and the dummies
+pub length-block_positions : (epoch : ℕ) (s : Setup) → length (block_positions epoch s) ≡ padded_blocks s
+length-block_positions epoch s =
+    length-append (blocks_from epoch s 0 (setup_words s)) (map (dummy_block epoch s) (range_with_len 0 (dummy_blocks s)))
+    ∙ (λ i. length-blocks_from epoch s 0 (setup_words s) i + length-map-range_with_len (dummy_block epoch s) 0 (dummy_blocks s) i)
 
 -- as many frames as there are to number
 pub length-numbered : {X : Type 0} (q : ℕ) (fs : List (ℕ → X)) → length (numbered q fs) ≡ length fs
@@ -84,8 +87,8 @@ length-frames_of_setup t o s =
     let ranks = ranks_of (labels_in t (block_positions o.epoch s)) in
     let entries = map (sealed t ranks) (entry_positions o.epoch s) in
     let blocks = map (sealed t ranks) (block_positions o.epoch s) in
-    let m : length entries ≡ length (setup_words s) = length-map (entry_positions o.epoch s) (sealed t ranks) ∙ length-entry_positions o.epoch s in
-    let a : length blocks ≡ acceptance.blocks_of s = length-map (block_positions o.epoch s) (sealed t ranks) ∙ length-block_positions o.epoch s in
+    let m : length entries ≡ padded_words s = length-map (entry_positions o.epoch s) (sealed t ranks) ∙ length-entry_positions o.epoch s in
+    let a : length blocks ≡ padded_blocks s = length-map (block_positions o.epoch s) (sealed t ranks) ∙ length-block_positions o.epoch s in
     length-setup_frames o.frame s.shape entries blocks
     ∙ (λ i. 2 + div_ceil (m i) 1024 + div_ceil (a i) 256)
 

@@ -8,7 +8,7 @@ use Rattle.keyed_fn.specs.KeyedFn.{KeyedFn, IsKeyedFn}
 use Rattle.keyed_fn.specs.KeyFormulas.{token_of}
 use Rattle.two_level.specs.Shape.{Shape}
 use Rattle.sse_frames.specs.Frames.{IsBytes}
-use Rattle.sse_model.specs.Names.{Name, Kind, Token, ListLabel, ListPad, PlusLabel, PlusPad, Revocation, PlaceTag, value_of, size_at, table}
+use Rattle.sse_model.specs.Names.{Name, Kind, Token, ListLabel, ListPad, PlusLabel, PlusPad, Revocation, PlaceTag, DummyLabel, DummyCell, DummyTag, DummyBlock, value_of, size_at, table}
 use Rattle.sse_model.specs.Values.{IsValue}
 
 -- so many bytes, by their length and each of their values
@@ -34,6 +34,10 @@ module _ (f : KeyedFn) (laws : IsKeyedFn f) (s : Shape) (key word : List ℕ) wh
   value_is PlusPad number = pad_is _ _ _
   value_is Revocation number = front_is _ _
   value_is PlaceTag number = front_is _ _
+  value_is DummyLabel number = front_is _ _
+  value_is DummyCell number = pad_is _ _ _
+  value_is DummyTag number = front_is _ _
+  value_is DummyBlock number = pad_is _ _ _
 
 -- every name has a value of its size
 pub IsValue-table : (f : KeyedFn) → IsKeyedFn f → (s : Shape) (keys : ℕ → List ℕ) (n : Name) → IsValue s (table f s keys) n

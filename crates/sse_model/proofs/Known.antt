@@ -9,6 +9,7 @@ use Rattle.std.proofs.lemmas.List.Elements.{All-nil, All-cons, All-append, All-w
 use Rattle.std.proofs.lemmas.List.Folds.{flat_map-map, list_any-append, list_any_at}
 use Rattle.client_registry.proofs.LiveLaws.{added_list-push}
 use Rattle.client_registry.proofs.OverLaws.{over-append}
+use Rattle.client_registry.specs.Acceptance.{dummy_entries, dummy_blocks}
 use Rattle.client_registry.specs.Command.{Command, Add, Delete, Search}
 use Rattle.client_registry.specs.Document.{Document}
 use Rattle.client_registry.specs.Documents.{has_word}
@@ -18,9 +19,9 @@ use Rattle.client_registry.specs.Setup.{Setup, setup_words}
 use Rattle.sse_frames.specs.Frames.{be64}
 use Rattle.sse_model.proofs.Apart.{All-flat_map, All-two}
 use Rattle.sse_model.proofs.Prefixes.{names_of_setup}
-use Rattle.sse_model.proofs.SetupNames.{entry_names, block_names_at, block_names, names_of_setup-by_word}
+use Rattle.sse_model.proofs.SetupNames.{entry_names, block_names_at, block_names, dummy_entry_names, dummy_block_names, entry_names_of_setup, block_names_of_setup, names_of_setup-by_word}
 use Rattle.sse_model.specs.Drawn.{sends_number, was_sent, searches_for, drawn_by}
-use Rattle.sse_model.specs.Names.{Kind, Token, ListLabel, ListPad, PlusLabel, PlusPad, Revocation, PlaceTag, Name, name}
+use Rattle.sse_model.specs.Names.{Kind, Token, ListLabel, ListPad, PlusLabel, PlusPad, Revocation, PlaceTag, DummyLabel, DummyCell, DummyTag, DummyBlock, Name, name, no_word}
 use Rattle.sse_model.specs.Positions.{Position, word_blocks, fresh_words}
 use Rattle.sse_model.specs.Wire.{words_live}
 
@@ -58,6 +59,10 @@ known_at-kept s past c word Revocation number h = sent-push s past c word number
 known_at-kept s past c word ListLabel number h = h
 known_at-kept s past c word ListPad number h = h
 known_at-kept s past c word PlaceTag number h = h
+known_at-kept s past c word DummyLabel number h = h
+known_at-kept s past c word DummyCell number h = h
+known_at-kept s past c word DummyTag number h = h
+known_at-kept s past c word DummyBlock number h = h
 
 -- a known name stays so after one command more
 pub is_known-kept : (s : Setup) (past : List Command) (c : Command) (n : Name) → is_known s past n ≡ true → is_known s (past ++ c ∷ []) n ≡ true
@@ -69,10 +74,14 @@ is_known-kept s past c n = known_at-kept s past c n.word n.kind n.number
 pub setup_is_known : (epoch : ℕ) (s : Setup) → All (λ n. is_known s [] n ≡ true) (names_of_setup epoch s)
 setup_is_known epoch s =
     subst (All is) (sym (names_of_setup-by_word epoch s))
-    (All-append is (flat_map (entry_names epoch) words) (flat_map (block_names epoch s) words)
+    (All-append is (entry_names_of_setup epoch s) (block_names_of_setup epoch s)
+    (All-append is (flat_map (entry_names epoch) words) (flat_map (dummy_entry_names epoch) (range_with_len 0 (dummy_entries s)))
     (All-flat_map is (entry_names epoch) words (λ k d lt. All-two is (name epoch _ ListLabel 0) (name epoch _ ListPad 0) refl refl))
+    (All-flat_map is (dummy_entry_names epoch) (range_with_len 0 (dummy_entries s)) (λ k d lt. All-two is (name epoch no_word DummyLabel _) (name epoch no_word DummyCell _) refl refl)))
+    (All-append is (flat_map (block_names epoch s) words) (flat_map (dummy_block_names epoch) (range_with_len 0 (dummy_blocks s)))
     (All-flat_map is (block_names epoch s) words
-    (λ k d lt. All-flat_map is (block_names_at epoch _) (range_with_len 0 (word_blocks s _)) (λ j e le. All-two is (name epoch _ PlaceTag _) (name epoch _ ListPad _) refl refl))))
+    (λ k d lt. All-flat_map is (block_names_at epoch _) (range_with_len 0 (word_blocks s _)) (λ j e le. All-two is (name epoch _ PlaceTag _) (name epoch _ ListPad _) refl refl)))
+    (All-flat_map is (dummy_block_names epoch) (range_with_len 0 (dummy_blocks s)) (λ k d lt. All-two is (name epoch no_word DummyTag _) (name epoch no_word DummyBlock _) refl refl))))
   where
     words : List (List ℕ)
     words = setup_words s

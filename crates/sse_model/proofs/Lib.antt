@@ -4,6 +4,7 @@ pub mod Updates
 pub mod SameName
 pub mod Apart
 pub mod SetupNames
+pub mod LabelsApart
 pub mod Known
 pub mod DrawnOnce
 pub mod CollisionTest
@@ -12,6 +13,7 @@ mod Rows
 mod ValueRows
 mod Runs
 pub mod Counts
+pub mod NoDummies
 pub mod KeyValues
 pub mod Members
 pub mod SentNumbers

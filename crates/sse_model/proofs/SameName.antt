@@ -5,7 +5,7 @@ use Rattle.std.specs.Prelude.{◌==◌, bytes_eq}
 use Rattle.std.proofs.lemmas.Bool.{true≢false, and_parts, and_from}
 use Rattle.std.proofs.lemmas.Cmp.{nat_eq_equiv, nat_list_eq_equiv}
 use Rattle.std.proofs.lemmas.Slice.Eq.{bytes_eq-Decides}
-use Rattle.sse_model.specs.Names.{Kind, Token, ListLabel, ListPad, PlusLabel, PlusPad, Revocation, PlaceTag, Name, same_kind, same_name}
+use Rattle.sse_model.specs.Names.{Kind, Token, ListLabel, ListPad, PlusLabel, PlusPad, Revocation, PlaceTag, DummyLabel, DummyCell, DummyTag, DummyBlock, Name, same_kind, same_name}
 
 same_kind-true : (k j : Kind) → same_kind k j ≡ true → k ≡ j
 same_kind-true Token Token h = refl
@@ -15,6 +15,10 @@ same_kind-true PlusLabel PlusLabel h = refl
 same_kind-true PlusPad PlusPad h = refl
 same_kind-true Revocation Revocation h = refl
 same_kind-true PlaceTag PlaceTag h = refl
+same_kind-true DummyLabel DummyLabel h = refl
+same_kind-true DummyCell DummyCell h = refl
+same_kind-true DummyTag DummyTag h = refl
+same_kind-true DummyBlock DummyBlock h = refl
 same_kind-true _ _ h = absurd (true≢false (sym h))
 
 same_kind-refl : (k : Kind) → same_kind k k ≡ true
@@ -25,6 +29,10 @@ same_kind-refl PlusLabel = refl
 same_kind-refl PlusPad = refl
 same_kind-refl Revocation = refl
 same_kind-refl PlaceTag = refl
+same_kind-refl DummyLabel = refl
+same_kind-refl DummyCell = refl
+same_kind-refl DummyTag = refl
+same_kind-refl DummyBlock = refl
 
 same_name-true : (x y : Name) → same_name x y ≡ true → x ≡ y
 same_name-true x y h =

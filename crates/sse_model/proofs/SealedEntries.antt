@@ -6,18 +6,19 @@ use Rattle.std.proofs.lemmas.Bool.{true≢false}
 use Rattle.std.proofs.lemmas.Cmp.{nat_list_eq_equiv}
 use Rattle.std.proofs.lemmas.List.Concat.{flat_map-append}
 use Rattle.std.proofs.lemmas.List.Elements.{Contains-append_left}
+use Rattle.client_registry.specs.Acceptance.{dummy_entries, dummy_blocks}
 use Rattle.client_registry.specs.Run.{Run, Offsets}
 use Rattle.client_registry.specs.Setup.{Setup, setup_words}
 use Rattle.two_level.specs.Shape.{Shape}
 use Rattle.sse_frames.proofs.Sorted.{AllDiffer}
 use Rattle.sse_frames.specs.Frames.{IsBytes, IsEntry}
 use Rattle.sse_model.proofs.Collisions.{joined}
-use Rattle.sse_model.proofs.Counts.{AllByRecursion-append}
+use Rattle.sse_model.proofs.Counts.{AllByRecursion-append, AllByRecursion-each}
 use Rattle.sse_model.proofs.Members.{Contains-head, Contains-cons}
 use Rattle.sse_model.proofs.Texts.{HasText, IsBytes-xored}
 use Rattle.sse_model.specs.Drawn.{drawn, probed, is_compared, AreToldApart, IsCollisionFree}
 use Rattle.sse_model.specs.Names.{Name, name, Kind, Table, class_of, size_at, cell_size, block_size}
-use Rattle.sse_model.specs.Positions.{Position, word_blocks, sealed, entries_from, blocks_from, block_position, entry_positions, block_positions}
+use Rattle.sse_model.specs.Positions.{Position, word_blocks, sealed, entries_from, blocks_from, block_position, dummy_entry, dummy_block, entry_positions, block_positions}
 use Rattle.sse_model.specs.Values.{IsValue}
 
 -- the table gives these names values of their sizes, different ones to different names of one epoch and one compared class
@@ -61,7 +62,9 @@ cells_named_from epoch s (word ∷ words) first = ((refl, refl), cells_named_fro
 
 -- a setup's cells have a label and a cell's pad each
 pub cells_have_names : (epoch : ℕ) (s : Setup) → AllByRecursion (HasNames s.shape (cell_size s.shape)) (entry_positions epoch s)
-cells_have_names epoch s = cells_named_from epoch s (setup_words s) 0
+cells_have_names epoch s =
+    AllByRecursion-append (HasNames s.shape (cell_size s.shape)) (entries_from epoch s 0 (setup_words s)) (map (dummy_entry epoch s) (range_with_len 0 (dummy_entries s)))
+    (cells_named_from epoch s (setup_words s) 0) (AllByRecursion-each (HasNames s.shape (cell_size s.shape)) (dummy_entry epoch s) (λ i. (refl, refl)) (range_with_len 0 (dummy_entries s)))
 
 each_has_names : (epoch : ℕ) (s : Setup) (first : ℕ) (word : List ℕ) (numbers : List ℕ) → AllByRecursion (HasNames s.shape (block_size s.shape)) (map (block_position epoch s first word) numbers)
 each_has_names epoch s first word [] = tt
@@ -75,7 +78,9 @@ blocks_named_from epoch s (word ∷ words) first =
 
 -- its blocks have a tag and a block's pad each
 pub blocks_have_names : (epoch : ℕ) (s : Setup) → AllByRecursion (HasNames s.shape (block_size s.shape)) (block_positions epoch s)
-blocks_have_names epoch s = blocks_named_from epoch s (setup_words s) 0
+blocks_have_names epoch s =
+    AllByRecursion-append (HasNames s.shape (block_size s.shape)) (blocks_from epoch s 0 (setup_words s)) (map (dummy_block epoch s) (range_with_len 0 (dummy_blocks s)))
+    (blocks_named_from epoch s (setup_words s) 0) (AllByRecursion-each (HasNames s.shape (block_size s.shape)) (dummy_block epoch s) (λ j. (refl, refl)) (range_with_len 0 (dummy_blocks s)))
 
 -- Differences.
 

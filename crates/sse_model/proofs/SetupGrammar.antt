@@ -1,5 +1,5 @@
 -- The frames of a setup are in the grammar.
-use Rattle.std.proofs.Common.{◌≡◌, ℕ, zero, suc, ◌+◌, ◌*◌, ◌^◌, ◌<◌, ◌≤◌, List, [], ◌∷◌, ◌++◌, length, take, drop, map, refl, sym, ap, ◌∙◌, subst, arith, length-take, length-drop, ⊎_elim}
+use Rattle.std.proofs.Common.{◌≡◌, ℕ, zero, suc, ◌+◌, ◌*◌, ◌^◌, ◌<◌, ◌≤◌, List, [], ◌∷◌, ◌++◌, length, take, drop, map, refl, sym, ap, ◌∙◌, subst, arith, length-take, length-drop}
 use Rattle.std.specs.Prelude.{Contains, None, All}
 use Rattle.std.specs.Int.{div_ceil}
 use Rattle.std.specs.List.{AllByRecursion}
@@ -9,13 +9,14 @@ use Rattle.std.proofs.lemmas.Grind.{div_ceil_times}
 use Rattle.std.proofs.lemmas.List.{length-map}
 use Rattle.std.proofs.lemmas.List.Elements.{Contains-append_left, Contains-append_right, All-from_recursion, recursion_from_All}
 use Rattle.std.proofs.lemmas.List.FromFn.{length-map-range_with_len}
+use Rattle.std.proofs.lemmas.Simd.{map-map}
 use Rattle.list_packing.proofs.PartsLemmas.{parts-within, All-parts}
 use Rattle.list_packing.specs.Parts.{parts}
 use Rattle.two_level.specs.Shape.{Shape}
 use Rattle.client_registry.proofs.DistinctLaws.{IsDistinct-first_seen}
-use Rattle.client_registry.proofs.SizedLaws.{accepted_shape}
+use Rattle.client_registry.proofs.SizedLaws.{accepted_shape, accepted_entries}
 use Rattle.client_registry.proofs.WordsLaws.{length-first_seen}
-use Rattle.client_registry.specs.Acceptance.{frames_needed, setup_refusal}
+use Rattle.client_registry.specs.Acceptance.{frames_needed, size_refusal}
 use Rattle.client_registry.specs.Documents.{all_words, IsCollected}
 use Rattle.client_registry.specs.Run.{Offsets}
 use Rattle.client_registry.specs.Setup.{Setup, setup_words}
@@ -25,11 +26,12 @@ use Rattle.sse_frames.specs.Order.{by_bytes}
 use Rattle.sse_frames.specs.Sending.{numbered, dict_frames, array_frames}
 use Rattle.sse_model.proofs.BlocksWithin.{blocks_within}
 use Rattle.sse_model.proofs.Counts.{AllByRecursion-append, length-entry_positions, length-block_positions, length-frames_of_setup, length-numbered}
-use Rattle.sse_model.proofs.Members.{Contains-cases, Contains-nil, AllByRecursion-from_members}
-use Rattle.sse_model.proofs.SealedEntries.{IsTold, IsNamed, entries_are, cells_have_names, blocks_have_names, AllDiffer-names}
+use Rattle.sse_model.proofs.LabelsApart.{entry_labels_differ}
+use Rattle.sse_model.proofs.Members.{AllByRecursion-from_members}
+use Rattle.sse_model.proofs.SealedEntries.{IsTold, IsNamed, entries_are, cells_have_names, blocks_have_names}
 use Rattle.sse_model.proofs.Texts.{cells_have_texts, blocks_have_texts}
-use Rattle.sse_model.specs.Names.{Name, name, ListLabel, Table, cell_size, block_size}
-use Rattle.sse_model.specs.Positions.{Position, word_blocks, sealed, ranks_of, entries_from, entry_positions, block_positions}
+use Rattle.sse_model.specs.Names.{Name, Table, cell_size, block_size}
+use Rattle.sse_model.specs.Positions.{Position, sealed, ranks_of, entry_positions, block_positions}
 use Rattle.sse_model.specs.Wire.{labels_in, frames_of_setup}
 
 -- The parts of a list.
@@ -126,22 +128,9 @@ module _ (shape : Shape) (limits : ((1 ≤ shape.b) × (shape.b ≤ 64)) × ((1 
 
 -- All of a setup.
 
-labels_from : (t : Table) (ranks : List ℕ) (epoch : ℕ) (s : Setup) (words : List (List ℕ)) (first : ℕ)
-    → map (λ entry. entry.label) (map (sealed t ranks) (entries_from epoch s first words)) ≡ map (λ word. t (name epoch word ListLabel 0)) words
-labels_from t ranks epoch s [] first = refl
-labels_from t ranks epoch s (word ∷ words) first =
-    ap (λ rest. t (name epoch word ListLabel 0) ∷ rest) (labels_from t ranks epoch s words (first + word_blocks s word))
-
-words_named : (names : List Name) (epoch : ℕ) (s : Setup) (words : List (List ℕ)) (first : ℕ) → AllByRecursion (IsNamed names) (entries_from epoch s first words)
-    → (w : List ℕ) → Contains words w → Contains names (name epoch w ListLabel 0)
-words_named names epoch s [] first named w within = absurd (Contains-nil w within)
-words_named names epoch s (word ∷ words) first named w within =
-    ⊎_elim (λ (same : word ≡ w). subst (λ v. Contains names (name epoch v ListLabel 0)) same named.0.0)
-    (λ rest. words_named names epoch s words (first + word_blocks s word) named.1 w rest) (Contains-cases word words w within)
-
 module _ (t : Table) (o : Offsets) (s : Setup) (names : List Name) (told : IsTold s.shape t names)
     (named : (p : Position) → Contains (entry_positions o.epoch s ++ block_positions o.epoch s) p → IsNamed names p)
-    (collected : IsCollected s.documents) (h : setup_refusal s.documents s.shape.b s.shape.big ≡ None) where
+    (collected : IsCollected s.documents) (h : size_refusal s ≡ None) where
   abbrev tags : List (List ℕ)
   tags = labels_in t (block_positions o.epoch s)
 
@@ -179,9 +168,10 @@ module _ (t : Table) (o : Offsets) (s : Setup) (names : List Name) (told : IsTol
 
   labels_differ : AllDiffer (map (λ (entry : Entry). entry.label) entries)
   labels_differ =
-      subst AllDiffer (sym (labels_from t ranks o.epoch s (setup_words s) 0))
-      (AllDiffer-names s.shape t names o.epoch ListLabel (λ w. 0) (setup_words s) told (λ v w. refl) (λ w. refl)
-      (IsDistinct-first_seen (all_words s.documents)) (words_named names o.epoch s (setup_words s) 0 entries_named))
+      subst AllDiffer (sym (map-map (λ (entry : Entry). entry.label) (sealed t ranks) (entry_positions o.epoch s)))
+      (entry_labels_differ t o.epoch s names told.apart
+      (AllByRecursion-from_members (λ p. Contains names p.label) (entry_positions o.epoch s)
+      (λ p within. (named p (Contains-append_left (entry_positions o.epoch s) (block_positions o.epoch s) p within)).0)))
 
   dict_is : AllByRecursion IsFrame (dict_frames s.shape entries)
   dict_is =
@@ -196,7 +186,7 @@ module _ (t : Table) (o : Offsets) (s : Setup) (names : List Name) (told : IsTol
 
   words_within : length entries ≤ 2 ^ 20
   words_within =
-      omega (arith, length-map (entry_positions o.epoch s) (sealed t ranks), length-entry_positions o.epoch s, length-first_seen (all_words s.documents), collected.pairs)
+      omega (arith, length-map (entry_positions o.epoch s) (sealed t ranks), length-entry_positions o.epoch s, accepted_entries s h collected)
 
   array_within : length blocks ≤ 2 ^ 20
   array_within =

@@ -1,10 +1,11 @@
 -- The encrypted texts have their sizes, and each of their values is a byte.
 use Rattle.std.proofs.Common.{◌≡◌, ℕ, zero, suc, ◌+◌, ◌*◌, ◌<◌, ◌≤◌, Bool, false, List, [], ◌∷◌, length, take, drop, map, refl, sym, ap, ◌∙◌, arith, length-take, length-drop}
-use Rattle.std.specs.Prelude.{Option, None, Some, All, is_none, is_some, option_map, position, slice_index, slice_index_or, sum_by, bit_xor}
+use Rattle.std.specs.Prelude.{Option, None, Some, All, is_none, is_some, option_map, position, replicate, slice_index, slice_index_or, sum_by, bit_xor}
 use Rattle.std.specs.Int.{byte_at, bytes_high_first}
 use Rattle.std.specs.List.{AllByRecursion, list_any, range_with_len}
 use Rattle.std.proofs.lemmas.Bool.{or_parts}
-use Rattle.std.proofs.lemmas.List.Elements.{All-from_recursion, All-append, All-nil, All-cons, All-map}
+use Rattle.std.proofs.lemmas.List.{length-replicate}
+use Rattle.std.proofs.lemmas.List.Elements.{All-from_recursion, All-append, All-nil, All-cons, All-map, All-replicate}
 use Rattle.std.proofs.lemmas.List.Folds.{fold-map}
 use Rattle.std.proofs.lemmas.List.FromFn.{length-map-range_with_len}
 use Rattle.std.proofs.lemmas.List.Sums.{sum_by-cons}
@@ -17,15 +18,15 @@ use Rattle.two_level.specs.Plan.{CellKind, Identifiers, DataPointers, BlockPoint
 use Rattle.two_level.specs.Planned.{kind_byte}
 use Rattle.client_registry.proofs.Positions.{is_some-position}
 use Rattle.client_registry.proofs.SizedLaws.{accepted_shape, accepted_lists}
-use Rattle.client_registry.specs.Acceptance.{setup_refusal}
+use Rattle.client_registry.specs.Acceptance.{dummy_entries, dummy_blocks, size_refusal}
 use Rattle.client_registry.specs.Documents.{list_lengths, words_of, ids_with}
 use Rattle.client_registry.specs.Setup.{Setup, setup_words, setup_list}
 use Rattle.client_registry.specs.declared.faults.SizeFault.TheVariants.{ListTooLong}
 use Rattle.sse_frames.specs.Frames.{IsBytes, be64}
-use Rattle.sse_model.proofs.Counts.{AllByRecursion-append, length-blocks_from}
+use Rattle.sse_model.proofs.Counts.{AllByRecursion-append, AllByRecursion-each, length-block_positions}
 use Rattle.sse_model.proofs.KeyValues.{IsBytes-from_All}
 use Rattle.sse_model.specs.Names.{cell_size, block_size}
-use Rattle.sse_model.specs.Positions.{Position, entry_positions, block_positions, word_blocks, laid_at, cell_text, block_text, block_position, entries_from, blocks_from}
+use Rattle.sse_model.specs.Positions.{Position, entry_positions, block_positions, word_blocks, laid_at, cell_text, block_text, block_position, dummy_entry, dummy_block, entries_from, blocks_from}
 
 -- Bytes.
 
@@ -56,6 +57,10 @@ kind_byte-lt Identifiers = omega arith
 kind_byte-lt DataPointers = omega arith
 kind_byte-lt BlockPointers = omega arith
 
+-- zeros are as many bytes
+IsBytes-zeros : (size : ℕ) → IsBytes size (replicate size 0)
+IsBytes-zeros size = IsBytes-from_All size (replicate size 0) (length-replicate size 0) (All-replicate (λ (b : ℕ). b < 256) size 0 (omega arith))
+
 -- an identifier is 8 bytes
 pub IsBytes-be64 : (n : ℕ) → IsBytes 8 (be64 n)
 IsBytes-be64 n = IsBytes-from_All 8 (be64 n) refl (All-be64 n)
@@ -85,7 +90,7 @@ none_of p f (x ∷ xs) none =
     (parts.0, none_of p f xs parts.1)
 
 -- each list of an accepted setup has a plan
-pub lists_have_plans : (s : Setup) → setup_refusal s.documents s.shape.b s.shape.big ≡ None → AllByRecursion (HasPlan s) (setup_words s)
+pub lists_have_plans : (s : Setup) → size_refusal s ≡ None → AllByRecursion (HasPlan s) (setup_words s)
 lists_have_plans s h =
     let long = λ (n : ℕ). is_none (plan s.shape n) in
     let lens = list_lengths s.documents in
@@ -153,16 +158,22 @@ module _ (epoch : ℕ) (s : Setup) (some : 0 < s.shape.big) (ranks : List ℕ) w
       (λ i within. block_is s some first word ranks planned.0 (omega (arith, enough, sum)) i (omega (arith, within))))
       (blocks_from_are words (first + word_blocks s word) planned.1 (omega (arith, enough, sum)))
 
-module _ (epoch : ℕ) (s : Setup) (h : setup_refusal s.documents s.shape.b s.shape.big ≡ None) (ranks : List ℕ) (enough : length ranks ≡ length (block_positions epoch s)) where
+module _ (epoch : ℕ) (s : Setup) (h : size_refusal s ≡ None) (ranks : List ℕ) (enough : length ranks ≡ length (block_positions epoch s)) where
   in_all : 0 + sum_by (word_blocks s) (setup_words s) ≤ length ranks
   in_all =
       let same = fold-map (λ a n. a + block_count (plan s.shape n)) (λ word. length (ids_with s.documents word)) 0 (setup_words s) in
-      omega (arith, enough, length-blocks_from epoch s 0 (setup_words s), same)
+      omega (arith, enough, length-block_positions epoch s, same)
 
   -- the plaintext of each cell of an accepted setup has a cell's size
   pub cells_have_texts : AllByRecursion (HasText (cell_size s.shape) ranks) (entry_positions epoch s)
-  cells_have_texts = cells_from epoch s (accepted_shape s h).1.0 ranks (setup_words s) 0 (lists_have_plans s h) in_all
+  cells_have_texts =
+      AllByRecursion-append (HasText (cell_size s.shape) ranks) (entries_from epoch s 0 (setup_words s)) (map (dummy_entry epoch s) (range_with_len 0 (dummy_entries s)))
+      (cells_from epoch s (accepted_shape s h).1.0 ranks (setup_words s) 0 (lists_have_plans s h) in_all)
+      (AllByRecursion-each (HasText (cell_size s.shape) ranks) (dummy_entry epoch s) (λ i. IsBytes-zeros (cell_size s.shape)) (range_with_len 0 (dummy_entries s)))
 
   -- and that of each block a block's
   pub blocks_have_texts : AllByRecursion (HasText (block_size s.shape) ranks) (block_positions epoch s)
-  blocks_have_texts = blocks_from_are epoch s (accepted_shape s h).1.0 ranks (setup_words s) 0 (lists_have_plans s h) in_all
+  blocks_have_texts =
+      AllByRecursion-append (HasText (block_size s.shape) ranks) (blocks_from epoch s 0 (setup_words s)) (map (dummy_block epoch s) (range_with_len 0 (dummy_blocks s)))
+      (blocks_from_are epoch s (accepted_shape s h).1.0 ranks (setup_words s) 0 (lists_have_plans s h) in_all)
+      (AllByRecursion-each (HasText (block_size s.shape) ranks) (dummy_block epoch s) (λ j. IsBytes-zeros (block_size s.shape)) (range_with_len 0 (dummy_blocks s)))

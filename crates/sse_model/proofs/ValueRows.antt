@@ -10,7 +10,8 @@ use Rattle.client_registry.specs.FirstClash.{first_clash}
 use Rattle.client_registry.specs.Live.{counter, matching_ids}
 use Rattle.client_registry.specs.Run.{at_first}
 use Rattle.sse_frames.specs.Frames.{Entry}
-use Rattle.sse_model.specs.Names.{Kind, name, Token, ListLabel, ListPad, PlusLabel, Revocation, PlaceTag}
+use Rattle.sse_model.specs.Compared.{Labels, collision_of_setup}
+use Rattle.sse_model.specs.Names.{Kind, name, no_word, Token, ListLabel, ListPad, PlusLabel, Revocation, PlaceTag, DummyTag}
 use Rattle.sse_model.specs.Positions.{entry_positions, block_positions, ranks_of, sealed}
 use Rattle.sse_model.specs.Wire.{labels_in}
 use Rattle.sse_model.specs.Drawn.{probed_by, drawn, was_sent}
@@ -77,6 +78,28 @@ cell_and_block : encrypted of_two ≡
     entry (hex (codes "c3c5c7c9cbcdcfd1d3d5d7d9dbdddfe1")) (hex (codes "c5c5c6c7c8c9cacbcd"))
     ∷ entry (hex (codes "c8caccced0d2d4d6d8dadcdee0e2e4e6")) (hex (codes "c5c6c7c8c9cacbcdcdcecfd0d1d2d3d6")) ∷ []
 cell_and_block = refl
+
+-- With a Q of 2: a dummy's label and tag, and their pads, over zeros.
+
+abbrev dummy_value : Kind → ℕ → List ℕ
+dummy_value kind number = zero_table of_one.shape (name 0 no_word kind number)
+
+dummy_tag_values : dummy_value DummyTag 0 ∷ dummy_value DummyTag 1 ∷ [] ≡ hex (codes "0c0e10121416181a1c1e20222426282a") ∷ hex (codes "1416181a1c1e20222426282a2c2e3032") ∷ []
+dummy_tag_values = refl
+
+word_and_dummy : encrypted (record of_one { pad = 2 }) ≡
+    entry (hex (codes "c3c5c7c9cbcdcfd1d3d5d7d9dbdddfe1")) (hex (codes "c4c5c6c7c8c9cacbcd"))
+    ∷ entry (hex (codes "080a0c0e10121416181a1c1e20222426")) (hex (codes "090a0b0c0d0e0f1011")) ∷ []
+word_and_dummy = refl
+
+-- the dummy block has the lesser tag, and so the word's block the rank 1, to which its cell points by 2
+ranks_with_dummies : plaintexts (record of_two { pad = 2 }) ≡
+    hex (codes "010000000000000002") ∷ hex (codes "000000000000000000") ∷ hex (codes "00000000000000010000000000000002") ∷ hex (codes "00000000000000000000000000000000") ∷ []
+ranks_with_dummies = refl
+
+-- dummies 0 and 32 have equal labels under the toy function, and so a setup with 63 of them collides
+equal_dummies : collision_of_setup (zero_table of_one.shape) 0 (record of_one { pad = 64 }) ≡ Some (Labels 1 33)
+equal_dummies = refl
 
 -- the search looks up the label of addition 0 and the revocation number of identifier 1, neither of which was drawn
 looked_up : probed_by 0 of_one [] (Search a) ≡ name 0 a ListLabel 0 ∷ name 0 a PlusLabel 0 ∷ name 0 a Revocation 1 ∷ []

@@ -1,16 +1,17 @@
 -- What is encrypted: for each cell, block and new addition its label or tag, its pad, and its plaintext.
-use Rattle.std.specs.Prelude.{ℕ, suc, ◌+◌, ◌&&◌, ◌||◌, not, Bool, List, [], ◌∷◌, ◌++◌, length, map, filter, take, drop, slice_index_or, bytes_eq, nat_lt, Option, None, Some}
+use Rattle.std.specs.Prelude.{ℕ, suc, ◌+◌, ◌&&◌, ◌||◌, not, Bool, List, [], ◌∷◌, ◌++◌, length, map, filter, take, drop, replicate, slice_index_or, bytes_eq, nat_lt, Option, None, Some}
 use Rattle.std.specs.List.{range_with_len}
 use Rattle.two_level.specs.Plan.{plan, block_count}
 use Rattle.two_level.specs.Laid.{Laid, laid, cell_bytes, number_bytes}
 use Rattle.keyed_fn.specs.Xored.{xored}
+use Rattle.client_registry.specs.Acceptance.{dummy_entries, dummy_blocks}
 use Rattle.client_registry.specs.Document.{Document}
 use Rattle.client_registry.specs.Setup.{Setup, setup_words, setup_list}
 use Rattle.client_registry.specs.Command.{Command}
 use Rattle.client_registry.specs.Live.{counter, is_listed}
 use Rattle.sse_frames.specs.Frames.{Entry, be64}
 use Rattle.sse_frames.specs.Order.{is_below}
-use Rattle.sse_model.specs.Names.{Name, name, ListLabel, ListPad, PlaceTag, PlusLabel, PlusPad, Table}
+use Rattle.sse_model.specs.Names.{Name, name, no_word, ListLabel, ListPad, PlaceTag, PlusLabel, PlusPad, DummyLabel, DummyCell, DummyTag, DummyBlock, Table, cell_size, block_size}
 
 -- one encrypted text: the name that it is found by, the name of its pad, and its plaintext under these ranks
 pub record Position : Type 0 where
@@ -61,13 +62,28 @@ blocks_from epoch s first (word ∷ words) =
     map (block_position epoch s first word) (range_with_len 0 (word_blocks s word))
     ++ blocks_from epoch s (first + word_blocks s word) words
 
--- setup's entries, by word number
-abbrev pub entry_positions : ℕ → Setup → List Position
-entry_positions epoch s = entries_from epoch s 0 (setup_words s)
+-- dummies: zeros under a pad of their own
+abbrev pub dummy_entry : ℕ → Setup → ℕ → Position
+dummy_entry epoch s i = record {
+  label = name epoch no_word DummyLabel i;
+  pad = name epoch no_word DummyCell i;
+  clear = λ ranks. replicate (cell_size s.shape) 0;
+}
 
--- setup's blocks, by word number and then by block number
+abbrev pub dummy_block : ℕ → Setup → ℕ → Position
+dummy_block epoch s j = record {
+  label = name epoch no_word DummyTag j;
+  pad = name epoch no_word DummyBlock j;
+  clear = λ ranks. replicate (block_size s.shape) 0;
+}
+
+-- setup's entries, by word number, then the dummies
+abbrev pub entry_positions : ℕ → Setup → List Position
+entry_positions epoch s = entries_from epoch s 0 (setup_words s) ++ map (dummy_entry epoch s) (range_with_len 0 (dummy_entries s))
+
+-- setup's blocks, by word number and then by block number, then the dummies
 abbrev pub block_positions : ℕ → Setup → List Position
-block_positions epoch s = blocks_from epoch s 0 (setup_words s)
+block_positions epoch s = blocks_from epoch s 0 (setup_words s) ++ map (dummy_block epoch s) (range_with_len 0 (dummy_blocks s))
 
 -- the words of a document whose pair with it isn't listed, and those whose pair is, in the given order
 abbrev pub fresh_words : Setup → List Command → Document → List (List ℕ)

@@ -3,6 +3,7 @@ use Rattle.std.proofs.Common.{◌≡◌, ◌⊎◌, ℕ, ◌+◌, true, false, L
 use Rattle.std.specs.Prelude.{Contains, flat_map}
 use Rattle.std.specs.List.{AllByRecursion, IsDistinct, range_with_len}
 use Rattle.std.proofs.lemmas.Bool.{true≢false}
+use Rattle.client_registry.specs.Acceptance.{dummy_entries, dummy_blocks}
 use Rattle.client_registry.specs.Command.{Command, Add}
 use Rattle.client_registry.specs.Document.{Document}
 use Rattle.client_registry.specs.Live.{counter}
@@ -14,12 +15,12 @@ use Rattle.sse_leakage.proofs.Names.{drawings_once}
 use Rattle.sse_leakage.specs.Drawing.{Drawing, ForEntry, ForBlock, drawings_by, drawings}
 use Rattle.sse_leakage.specs.Leaking.{leak_by, leak}
 use Rattle.sse_leakage.specs.Relabelled.{Use, bare, uses_at, uses_in, uses, relabelled}
-use Rattle.sse_model.proofs.Counts.{AllByRecursion-append}
+use Rattle.sse_model.proofs.Counts.{AllByRecursion-append, AllByRecursion-each}
 use Rattle.sse_model.proofs.Members.{Contains-map}
 use Rattle.sse_model.proofs.SameName.{same_name-Decides}
 use Rattle.sse_model.specs.Drawn.{is_compared, drawn, probed, IsCollisionFree}
 use Rattle.sse_model.specs.Names.{Name, Class, ListLabels, CellPads, BlockPads, PlaceTags, Table, name, PlusLabel, PlusPad, class_of, same_name}
-use Rattle.sse_model.specs.Positions.{Position, word_blocks, entries_from, blocks_from, block_position, entry_positions, block_positions, addition_positions, fresh_words}
+use Rattle.sse_model.specs.Positions.{Position, word_blocks, entries_from, blocks_from, block_position, dummy_entry, dummy_block, entry_positions, block_positions, addition_positions, fresh_words}
 use Rattle.sse_model.specs.Values.{IsValue}
 use Rattle.sse_relabelling.proofs.Beside.{paired-over}
 use Rattle.sse_relabelling.proofs.KeptValues.{SearchedTogether, is_searched, searched_together, probed_are_searched, alike_uses, names_used, of_map, first_ranks, values_kept, relabelled_back}
@@ -67,6 +68,18 @@ blocks_are epoch s first [] = tt
 blocks_are epoch s first (w ∷ ws) =
     AllByRecursion-append (IsOf epoch PlaceTags BlockPads) (map (block_position epoch s first w) (range_with_len 0 (word_blocks s w))) (blocks_from epoch s (first + word_blocks s w) ws)
     (each_is epoch s first w (range_with_len 0 (word_blocks s w))) (blocks_are epoch s (first + word_blocks s w) ws)
+
+entry_positions_are : (epoch : ℕ) (s : Setup) → AllByRecursion (IsOf epoch ListLabels CellPads) (entry_positions epoch s)
+entry_positions_are epoch s =
+    AllByRecursion-append (IsOf epoch ListLabels CellPads) (entries_from epoch s 0 (setup_words s)) (map (dummy_entry epoch s) (range_with_len 0 (dummy_entries s)))
+    (entries_are epoch s 0 (setup_words s))
+    (AllByRecursion-each (IsOf epoch ListLabels CellPads) (dummy_entry epoch s) (λ i. record { label_is = refl; pad_is = refl; label_epoch = refl; pad_epoch = refl }) (range_with_len 0 (dummy_entries s)))
+
+block_positions_are : (epoch : ℕ) (s : Setup) → AllByRecursion (IsOf epoch PlaceTags BlockPads) (block_positions epoch s)
+block_positions_are epoch s =
+    AllByRecursion-append (IsOf epoch PlaceTags BlockPads) (blocks_from epoch s 0 (setup_words s)) (map (dummy_block epoch s) (range_with_len 0 (dummy_blocks s)))
+    (blocks_are epoch s 0 (setup_words s))
+    (AllByRecursion-each (IsOf epoch PlaceTags BlockPads) (dummy_block epoch s) (λ j. record { label_is = refl; pad_is = refl; label_epoch = refl; pad_epoch = refl }) (range_with_len 0 (dummy_blocks s)))
 
 -- Names.
 
@@ -119,11 +132,11 @@ module _ (o : Offsets) (run other : Run) (t : Table) (history : IsHistory run) (
         paired-append OfOneClass (map ForEntry e) (map ForBlock b) (map ForEntry e2) (map ForBlock b2)
             (paired-map OfOneClass ForEntry ForEntry e e2
             (paired-weaker (λ p q. Unit {0}) (λ p q. OfOneClass (ForEntry p) (ForEntry q)) (IsOf o.epoch ListLabels CellPads) (IsOf o.epoch ListLabels CellPads) e e2
-            (entries_are o.epoch run.setup 0 (setup_words run.setup)) (entries_are o.epoch other.setup 0 (setup_words other.setup)) (paired-each (λ p q. Unit {0}) e e2 alike.entries (λ p q. tt))
+            (entry_positions_are o.epoch run.setup) (entry_positions_are o.epoch other.setup) (paired-each (λ p q. Unit {0}) e e2 alike.entries (λ p q. tt))
             (λ p q a a2 unit. texts_alike ranks o.epoch ListLabels CellPads refl p q a a2)))
             (paired-map OfOneClass ForBlock ForBlock b b2
             (paired-weaker (λ p q. Unit {0}) (λ p q. OfOneClass (ForBlock p) (ForBlock q)) (IsOf o.epoch PlaceTags BlockPads) (IsOf o.epoch PlaceTags BlockPads) b b2
-            (blocks_are o.epoch run.setup 0 (setup_words run.setup)) (blocks_are o.epoch other.setup 0 (setup_words other.setup)) (paired-each (λ p q. Unit {0}) b b2 alike.blocks (λ p q. tt))
+            (block_positions_are o.epoch run.setup) (block_positions_are o.epoch other.setup) (paired-each (λ p q. Unit {0}) b b2 alike.blocks (λ p q. tt))
             (λ p q a a2 unit. texts_alike ranks o.epoch PlaceTags BlockPads refl p q a a2))),
         paired-over o run other leaks (Paired OfOneClass) (drawings_by o.epoch run.setup) (drawings_by o.epoch other.setup)
             (λ past past2 c c2 beside. paired-command o run.setup other.setup OfOneClass

@@ -10,11 +10,13 @@ use Rattle.std.proofs.lemmas.List.Sums.{sum_by-cons}
 use Rattle.std.proofs.lemmas.Slice.Eq.{bytes_eq-Decides}
 use Rattle.client_registry.proofs.DistinctLaws.{IsDistinct-first_seen}
 use Rattle.client_registry.proofs.Positions.{position-cons}
+use Rattle.client_registry.specs.Acceptance.{dummy_entries, dummy_blocks}
 use Rattle.client_registry.specs.Documents.{all_words}
 use Rattle.client_registry.specs.Setup.{Setup, setup_words}
 use Rattle.sse_leakage.proofs.Places.{none_is_some}
-use Rattle.sse_model.proofs.Counts.{AllByRecursion-append}
-use Rattle.sse_model.specs.Positions.{Position, word_blocks, entry_position, block_position, entries_from, blocks_from, entry_positions, block_positions}
+use Rattle.sse_model.proofs.Counts.{AllByRecursion-append, AllByRecursion-each}
+use Rattle.sse_model.specs.Names.{no_word}
+use Rattle.sse_model.specs.Positions.{Position, word_blocks, entry_position, block_position, dummy_entry, dummy_block, entries_from, blocks_from, entry_positions, block_positions}
 use Rattle.sse_relabelling.proofs.Standing.{some_inside, take-middle}
 
 -- neither name of the text is of the word
@@ -78,7 +80,7 @@ none_differ w (v ∷ vs) e = by (none_differ w vs) (bytes_eq w v) refl (sym (pos
 
 -- Positions.
 
-module _ (epoch : ℕ) (s : Setup) (w : List ℕ) where
+module _ (epoch : ℕ) (s : Setup) (w : List ℕ) (some : no_word ≡ w → ⊥) where
   is_other : (v : List ℕ) → bytes_eq w v ≡ false → v ≡ w → ⊥
   is_other v e same = true≢false (sym ((bytes_eq-Decides w v).1 (sym same)) ∙ e)
 
@@ -114,6 +116,13 @@ module _ (epoch : ℕ) (s : Setup) (w : List ℕ) where
       AllByRecursion-append (IsNotOf w) (map (block_position epoch s first v) (range_with_len 0 (word_blocks s v))) (blocks_from epoch s (first + word_blocks s v) vs)
       (each_not_of first v differ.0 (range_with_len 0 (word_blocks s v))) (blocks_not_of (first + word_blocks s v) vs differ.1)
 
+  -- no dummy is of a word
+  dummy_entries_not_of : AllByRecursion (IsNotOf w) (map (dummy_entry epoch s) (range_with_len 0 (dummy_entries s)))
+  dummy_entries_not_of = AllByRecursion-each (IsNotOf w) (dummy_entry epoch s) (λ i. (some, some)) (range_with_len 0 (dummy_entries s))
+
+  dummy_blocks_not_of : AllByRecursion (IsNotOf w) (map (dummy_block epoch s) (range_with_len 0 (dummy_blocks s)))
+  dummy_blocks_not_of = AllByRecursion-each (IsNotOf w) (dummy_block epoch s) (λ j. (some, some)) (range_with_len 0 (dummy_blocks s))
+
   length-entries : (first : ℕ) (words : List (List ℕ)) → length (entries_from epoch s first words) ≡ length words
   length-entries first [] = refl
   length-entries first (v ∷ vs) = ap (λ (n : ℕ). suc n) (length-entries (first + word_blocks s v) vs)
@@ -143,19 +152,34 @@ module _ (epoch : ℕ) (s : Setup) (w : List ℕ) where
   pub home_at : (i : ℕ) → position (bytes_eq w) (setup_words s) ≡ Some i → HomeAt i (sum_by (word_blocks s) (take i (setup_words s)))
   home_at i e = record {
     entries_before = entries_from epoch s 0 p.left;
-    entries_behind = entries_from epoch s (first + word_blocks s w) p.right;
-    entries = ap (entries_from epoch s 0) p.parts ∙ entries-append 0 p.left (w ∷ p.right) ∙ ap (λ n. entries_from epoch s 0 p.left ++ entries_from epoch s n (w ∷ p.right)) (zero-add (sum_by (word_blocks s) p.left) ∙ sym at_first);
+    entries_behind = entries_from epoch s (first + word_blocks s w) p.right ++ dummies;
+    entries =
+        ap (λ own. own ++ dummies)
+        (ap (entries_from epoch s 0) p.parts ∙ entries-append 0 p.left (w ∷ p.right) ∙ ap (λ n. entries_from epoch s 0 p.left ++ entries_from epoch s n (w ∷ p.right)) (zero-add (sum_by (word_blocks s) p.left) ∙ sym at_first))
+        ∙ append_assoc (entries_from epoch s 0 p.left) (entries_from epoch s first (w ∷ p.right)) dummies;
     entry_number = length-entries 0 p.left ∙ p.size;
     entries_before_differ = entries_not_of 0 p.left p.left_differ;
-    entries_behind_differ = entries_not_of (first + word_blocks s w) p.right p.right_differ;
+    entries_behind_differ =
+        AllByRecursion-append (IsNotOf w) (entries_from epoch s (first + word_blocks s w) p.right) dummies (entries_not_of (first + word_blocks s w) p.right p.right_differ) dummy_entries_not_of;
     blocks_before = blocks_from epoch s 0 p.left;
-    blocks_behind = blocks_from epoch s (first + word_blocks s w) p.right;
-    blocks = ap (blocks_from epoch s 0) p.parts ∙ blocks-append 0 p.left (w ∷ p.right) ∙ ap (λ n. blocks_from epoch s 0 p.left ++ blocks_from epoch s n (w ∷ p.right)) (zero-add (sum_by (word_blocks s) p.left) ∙ sym at_first);
+    blocks_behind = blocks_from epoch s (first + word_blocks s w) p.right ++ dummies2;
+    blocks =
+        ap (λ own. own ++ dummies2)
+        (ap (blocks_from epoch s 0) p.parts ∙ blocks-append 0 p.left (w ∷ p.right) ∙ ap (λ n. blocks_from epoch s 0 p.left ++ blocks_from epoch s n (w ∷ p.right)) (zero-add (sum_by (word_blocks s) p.left) ∙ sym at_first))
+        ∙ append_assoc (blocks_from epoch s 0 p.left) (blocks_from epoch s first (w ∷ p.right)) dummies2
+        ∙ ap (λ rest. blocks_from epoch s 0 p.left ++ rest) (append_assoc (map (block_position epoch s first w) (range_with_len 0 (word_blocks s w))) (blocks_from epoch s (first + word_blocks s w) p.right) dummies2);
     block_number = length-blocks 0 p.left ∙ sym at_first;
     blocks_before_differ = blocks_not_of 0 p.left p.left_differ;
-    blocks_behind_differ = blocks_not_of (first + word_blocks s w) p.right p.right_differ;
+    blocks_behind_differ =
+        AllByRecursion-append (IsNotOf w) (blocks_from epoch s (first + word_blocks s w) p.right) dummies2 (blocks_not_of (first + word_blocks s w) p.right p.right_differ) dummy_blocks_not_of;
   }
     where
+      dummies : List Position
+      dummies = map (dummy_entry epoch s) (range_with_len 0 (dummy_entries s))
+
+      dummies2 : List Position
+      dummies2 = map (dummy_block epoch s) (range_with_len 0 (dummy_blocks s))
+
       p : Split (setup_words s) w i
       p = split (setup_words s) (IsDistinct-first_seen (all_words s.documents)) w i e
 
@@ -167,4 +191,8 @@ module _ (epoch : ℕ) (s : Setup) (w : List ℕ) where
 
   -- a word that isn't the setup's has neither
   pub no_home : position (bytes_eq w) (setup_words s) ≡ None → AllByRecursion (IsNotOf w) (entry_positions epoch s) × AllByRecursion (IsNotOf w) (block_positions epoch s)
-  no_home e = let differ = none_differ w (setup_words s) e in (entries_not_of 0 (setup_words s) differ, blocks_not_of 0 (setup_words s) differ)
+  no_home e =
+      let differ = none_differ w (setup_words s) e in (
+        AllByRecursion-append (IsNotOf w) (entries_from epoch s 0 (setup_words s)) (map (dummy_entry epoch s) (range_with_len 0 (dummy_entries s))) (entries_not_of 0 (setup_words s) differ) dummy_entries_not_of,
+        AllByRecursion-append (IsNotOf w) (blocks_from epoch s 0 (setup_words s)) (map (dummy_block epoch s) (range_with_len 0 (dummy_blocks s))) (blocks_not_of 0 (setup_words s) differ) dummy_blocks_not_of,
+      )

@@ -1,22 +1,25 @@
 -- Two runs of equal leakage and a search of both at one place: all that the one uses for the word of its search, the other uses at the
 -- same places for the word of its own, over the same plaintexts.
 use Rattle.std.proofs.Common.{◌≡◌, ℕ, ◌+◌, Bool, true, false, not, List, [], ◌∷◌, ◌++◌, length, map, filter, refl, sym, ap, ◌∙◌, subst, Some, None}
-use Rattle.std.specs.Prelude.{Option, flat_map, if◌then◌else◌}
+use Rattle.std.specs.Prelude.{Contains, Option, flat_map, if◌then◌else◌}
 use Rattle.std.specs.List.{list_any, range_with_len}
 use Rattle.std.proofs.lemmas.Bool.{true≢false}
+use Rattle.std.proofs.lemmas.List.Elements.{All-contains, Contains-append_right}
 use Rattle.client_registry.specs.Command.{Command, Add, Delete, Search}
 use Rattle.client_registry.specs.Live.{live, is_listed, added_list, counter}
 use Rattle.client_registry.specs.Run.{Run, Offsets}
 use Rattle.client_registry.specs.Setup.{Setup, setup_list}
-use Rattle.client_registry.specs.Sized.{IsHistory}
+use Rattle.client_registry.specs.Sized.{IsSizedCommand, IsHistory}
+use Rattle.client_registry.specs.WordRule.{word_refusal}
 use Rattle.sse_frames.specs.Frames.{be64}
 use Rattle.sse_leakage.proofs.Law.{unsent, sent}
 use Rattle.sse_leakage.specs.Drawing.{Drawing, ForEntry, ForBlock, ForNumber, ForToken, drawings_by, drawings}
 use Rattle.sse_leakage.specs.Firsts.{number_origin}
 use Rattle.sse_leakage.specs.Leaking.{sent_at, word_deleted, leak}
 use Rattle.sse_leakage.specs.Relabelled.{bare, uses_in, uses}
+use Rattle.sse_model.proofs.Members.{Contains-head}
 use Rattle.sse_model.specs.Drawn.{was_sent, searches_for, probed_by, probed}
-use Rattle.sse_model.specs.Names.{Table, Name, Kind, name, ListLabel, PlusLabel, PlusPad, Revocation, Token}
+use Rattle.sse_model.specs.Names.{Table, Name, Kind, name, no_word, ListLabel, PlusLabel, PlusPad, Revocation, Token}
 use Rattle.sse_model.specs.Positions.{Position, entry_positions, block_positions, addition_positions, fresh_words}
 use Rattle.sse_model.specs.Wire.{words_live}
 use Rattle.sse_relabelling.proofs.Beside.{Beside, paired-over}
@@ -58,6 +61,16 @@ probed_alike R epoch v v2 count ids each = (
       (paired-same R (λ c. name epoch v PlusLabel c) (λ c. name epoch v2 PlusLabel c) (range_with_len 0 (count + 1)) (λ c. each PlusLabel c))
       (paired-same R (λ id. name epoch v Revocation id) (λ id. name epoch v2 Revocation id) ids (λ id. each Revocation id)),
 )
+
+-- the word of a search has a byte at least, and so isn't what dummies have in its place
+is_word : (run : Run) → IsHistory run → (past rest : List Command) (word : List ℕ) → run.later ≡ past ++ Search word ∷ rest → no_word ≡ word → ⊥
+is_word run history past rest word parts none = refused (ap word_refusal none ∙ valid)
+  where
+    valid : word_refusal word ≡ None
+    valid = All-contains IsSizedCommand run.later (Search word) history.each (subst (λ cs. Contains cs (Search word)) (sym parts) (Contains-append_right past (Search word ∷ rest) (Search word) (Contains-head (Search word) rest)))
+
+    refused : word_refusal no_word ≡ None → ⊥
+    refused e = absurd (cc)
 
 module _ (o : Offsets) (run other : Run) (history : IsHistory run) (history2 : IsHistory other) (leaks : leak o run ≡ leak o other) where
   -- what is so of any name of a search and the same of the other's word is so of all that is looked up
@@ -156,7 +169,7 @@ module _ (o : Offsets) (run other : Run) (history : IsHistory run) (history2 : I
 
     drawings_renamed : Paired (Paired Renamed) (drawings o run) (drawings o other)
     drawings_renamed =
-        let setup = setup_renamed o.epoch run.setup other.setup (setups o run other leaks) w w2 (homes_beside o run other history history2 leaks front front2 w w2 search)
+        let setup = setup_renamed o.epoch run.setup other.setup (setups o run other leaks) w w2 (is_word run history front search.rest w search.parts) (is_word other history2 front2 search.rest2 w2 search.parts2) (homes_beside o run other history history2 leaks front front2 w w2 search)
         (lists_beside o run other history history2 leaks front front2 w w2 search) ranks in
         let e = entry_positions o.epoch run.setup in
         let e2 = entry_positions o.epoch other.setup in

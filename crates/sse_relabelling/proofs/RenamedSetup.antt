@@ -12,7 +12,7 @@ use Rattle.sse_leakage.specs.Drawing.{Drawing, ForEntry, ForBlock}
 use Rattle.sse_leakage.specs.Leaking.{home}
 use Rattle.sse_leakage.specs.Relabelled.{Use, uses_in}
 use Rattle.sse_model.proofs.Counts.{AllByRecursion-append}
-use Rattle.sse_model.specs.Names.{name}
+use Rattle.sse_model.specs.Names.{name, no_word}
 use Rattle.sse_model.specs.Positions.{Position, word_blocks, laid_at, cell_text, block_text, entry_position, block_position, entry_positions, block_positions}
 use Rattle.sse_relabelling.proofs.HomePositions.{IsNotOf, HomeAt, home_at, no_home}
 use Rattle.sse_relabelling.proofs.Pairs.{heads, fewer, paired-length, paired-append}
@@ -39,7 +39,7 @@ pub paired-same : {A B C : Type 0} (R : B → C → Type 0) (f : A → B) (g : A
 paired-same R f g [] each = tt
 paired-same R f g (x ∷ xs) each = (each x, paired-same R f g xs each)
 
-module _ (epoch : ℕ) (s s2 : Setup) (alike : AreAlikeSetups epoch s s2) (w w2 : List ℕ) (homes : home s w ≡ home s2 w2) (lists : setup_list s w ≡ setup_list s2 w2) (ranks : List ℕ) where
+module _ (epoch : ℕ) (s s2 : Setup) (alike : AreAlikeSetups epoch s s2) (w w2 : List ℕ) (some : no_word ≡ w → ⊥) (some2 : no_word ≡ w2 → ⊥) (homes : home s w ≡ home s2 w2) (lists : setup_list s w ≡ setup_list s2 w2) (ranks : List ℕ) where
   abbrev OfEntries : Position → Position → Type 0
   OfEntries p q = AreRenamed ranks w w2 (ForEntry p) (ForEntry q)
 
@@ -72,7 +72,7 @@ module _ (epoch : ℕ) (s s2 : Setup) (alike : AreAlikeSetups epoch s s2) (w w2 
         (paired-same OfBlocks (block_position epoch s first w) (block_position epoch s2 first2 w2) (range_with_len 0 (word_blocks s w))
         (λ k. ((λ same. (refl, refl)), ((λ same. (refl, ap (λ l. Some (block_text k l)) same_laid)), tt))))
 
-    module _ (i : ℕ) (h : HomeAt epoch s w i first) (h2 : HomeAt epoch s2 w2 i first2) where
+    module _ (i : ℕ) (h : HomeAt epoch s w some i first) (h2 : HomeAt epoch s2 w2 some2 i first2) where
       entries_at : Paired OfEntries (entry_positions epoch s) (entry_positions epoch s2)
       entries_at =
           subst (λ ps. Paired OfEntries ps (entry_positions epoch s2)) (sym h.entries)
@@ -147,7 +147,7 @@ module _ (epoch : ℕ) (s s2 : Setup) (alike : AreAlikeSetups epoch s s2) (w w2 
           → option_map (home_from s w) m ≡ option_map (home_from s2 w2) m2
           → Paired OfEntries (entry_positions epoch s) (entry_positions epoch s2) × Paired OfBlocks (block_positions epoch s) (block_positions epoch s2)
       by None m2 is is2 same =
-          let none = no_home epoch s w is in (
+          let none = no_home epoch s w some is in (
             paired-first (IsNotOf w) OfEntries (entry_positions epoch s) (entry_positions epoch s2) none.0 alike.entries others,
             paired-first (IsNotOf w) OfBlocks (block_positions epoch s) (block_positions epoch s2) none.1 alike.blocks others,
           )
@@ -158,6 +158,6 @@ module _ (epoch : ℕ) (s s2 : Setup) (alike : AreAlikeSetups epoch s s2) (w w2 
           let ranges : blocks_home s w i ≡ blocks_home s2 w2 i = ap (λ (x : Home). x.blocks) one ∙ ap (blocks_home s2 w2) (sym at) in
           let first = sum_by (word_blocks s) (take i (setup_words s)) in
           let first2 = sum_by (word_blocks s2) (take i (setup_words s2)) in
-          let h = home_at epoch s w i is in
-          let h2 = home_at epoch s2 w2 i (is2 ∙ ap (λ n. Some n) (sym at)) in
+          let h = home_at epoch s w some i is in
+          let h2 = home_at epoch s2 w2 some2 i (is2 ∙ ap (λ n. Some n) (sym at)) in
           (entries_at first first2 ranges i h h2, blocks_renamed_at first first2 ranges i h h2)

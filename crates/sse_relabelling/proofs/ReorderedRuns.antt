@@ -2,13 +2,14 @@
 use Rattle.std.proofs.Common.{◌≡◌, ℕ, zero, suc, ◌+◌, ◌<◌, Bool, not, ◌&&◌, List, [], ◌∷◌, ◌++◌, length, map, filter, refl, sym, ap, ◌∙◌, subst, arith, append_assoc, zero-add}
 use Rattle.std.specs.Prelude.{Contains, bytes_eq, flat_map}
 use Rattle.std.specs.List.{AllByRecursion, IsDistinct, list_any, range_with_len}
+use Rattle.std.proofs.lemmas.Bool.{true≢false}
 use Rattle.std.proofs.lemmas.List.Concat.{flat_map-append, flat_map_single}
 use Rattle.std.proofs.lemmas.List.Elements.{All-contains, Contains-append_left, Contains-append_right, Contains-push}
 use Rattle.std.proofs.lemmas.Simd.{map-map}
 use Rattle.std.proofs.lemmas.Slice.Eq.{bytes_eq-Decides}
 use Rattle.client_registry.proofs.DistinctLaws.{IsDistinct-first_seen}
 use Rattle.client_registry.proofs.SizedLaws.{IsHistory-front}
-use Rattle.client_registry.specs.Acceptance.{frames_needed}
+use Rattle.client_registry.specs.Acceptance.{dummy_entries, dummy_blocks, frames_needed}
 use Rattle.client_registry.specs.Command.{Command, Add, Delete, Search}
 use Rattle.client_registry.specs.Document.{Document}
 use Rattle.client_registry.specs.Documents.{all_words}
@@ -28,8 +29,8 @@ use Rattle.sse_model.proofs.Members.{Contains-map, AllByRecursion-from_members}
 use Rattle.sse_model.proofs.Prefixes.{run_of, drawn-append}
 use Rattle.sse_model.proofs.SentNumbers.{are_accepted-push, deleted_is_drawn, relisted_is_drawn, added_is_drawn, set_up_is_drawn}
 use Rattle.sse_model.specs.Drawn.{drawn_by, drawn, probed, IsCollisionFree}
-use Rattle.sse_model.specs.Names.{Name, Table, name, Token, ListLabel, PlaceTag, PlusLabel, PlusPad, Revocation}
-use Rattle.sse_model.specs.Positions.{Position, word_blocks, block_position, entries_from, blocks_from, entry_positions, block_positions, addition_positions, fresh_words, listed_words, sealed}
+use Rattle.sse_model.specs.Names.{Name, Table, name, no_word, same_kind, Token, ListLabel, PlaceTag, DummyTag, PlusLabel, PlusPad, Revocation}
+use Rattle.sse_model.specs.Positions.{Position, word_blocks, block_position, dummy_entry, dummy_block, entries_from, blocks_from, entry_positions, block_positions, addition_positions, fresh_words, listed_words, sealed}
 use Rattle.sse_model.specs.Wire.{words_live, numbers_of_words, frames_of_setup, frames_of, next_number, wire}
 use Rattle.sse_relabelling.proofs.InAnyOrder.{AreSame, list_any-filter}
 use Rattle.sse_relabelling.proofs.Orderly.{words_differ}
@@ -65,6 +66,18 @@ labels_told names epoch s first w rest a (suc n) all =
     by later (suc j) within =
         subst (λ k. Contains names (name epoch w PlaceTag k)) (let e : a + 1 + j ≡ a + suc j = omega arith in e)
         (later j (let h : j < n = omega (arith, within) in h))
+
+-- what is so of the items of two lists is so of each list's
+parts_told : {X : Type 0} (P : X → Type 0) (xs ys : List X) → AllByRecursion P (xs ++ ys) → AllByRecursion P xs × AllByRecursion P ys
+parts_told P [] ys all = (tt, all)
+parts_told P (x ∷ xs) ys all = let rest = parts_told P xs ys all.1 in ((all.0, rest.0), rest.1)
+
+-- and what is so of a range's items is so of each
+told_at : {X : Type 0} (P : X → Type 0) (f : ℕ → X) (a n : ℕ) → AllByRecursion P (map f (range_with_len a n)) → (j : ℕ) → j < n → P (f (a + j))
+told_at P f a zero all j within = absurd (omega (arith, within))
+told_at P f a (suc n) all zero within = subst (λ k. P (f k)) (let e : a ≡ a + 0 = omega arith in e) all.0
+told_at P f a (suc n) all (suc j) within =
+    subst (λ k. P (f k)) (let e : a + 1 + j ≡ a + suc j = omega arith in e) (told_at P f (a + 1) n all.1 j (let h : j < n = omega (arith, within) in h))
 
 -- the label of a word's entry and the tags of its blocks are among these names
 abbrev IsKnown : List Name → ℕ → Setup → List ℕ → Type 0
@@ -106,22 +119,42 @@ module _ (t : Table) (o : Offsets) (run other : Run) (history : IsHistory run) (
     same = setup_words_same run.setup other.setup reordered.documents;
   }
 
+  abbrev IsTold : Position → Type 0
+  IsTold p = Contains names p.label
+
+  told : (p : Position) → Contains (entry_positions o.epoch run.setup ++ block_positions o.epoch run.setup) p → IsTold p
+  told p within = in_run [] run.later refl p.label (set_up_is_drawn o run.setup [] p within).0
+
+  entries_told : AllByRecursion IsTold (entries_from o.epoch run.setup 0 (setup_words run.setup))
+  entries_told =
+      (parts_told IsTold (entries_from o.epoch run.setup 0 (setup_words run.setup)) (map (dummy_entry o.epoch run.setup) (range_with_len 0 (dummy_entries run.setup)))
+      (AllByRecursion-from_members IsTold (entry_positions o.epoch run.setup)
+      (λ p within. told p (Contains-append_left (entry_positions o.epoch run.setup) (block_positions o.epoch run.setup) p within)))).0
+
+  blocks_told : AllByRecursion IsTold (blocks_from o.epoch run.setup 0 (setup_words run.setup)) × AllByRecursion IsTold (map (dummy_block o.epoch run.setup) (range_with_len 0 (dummy_blocks run.setup)))
+  blocks_told =
+      parts_told IsTold (blocks_from o.epoch run.setup 0 (setup_words run.setup)) (map (dummy_block o.epoch run.setup) (range_with_len 0 (dummy_blocks run.setup)))
+      (AllByRecursion-from_members IsTold (block_positions o.epoch run.setup)
+      (λ p within. told p (Contains-append_right (entry_positions o.epoch run.setup) (block_positions o.epoch run.setup) p within)))
+
   known : AllByRecursion (IsKnown names o.epoch run.setup) (setup_words run.setup)
-  known =
-      let drawn_first = λ (p : Position) (within : Contains (entry_positions o.epoch run.setup ++ block_positions o.epoch run.setup) p). in_run [] run.later refl p.label (set_up_is_drawn o run.setup [] p within).0 in
-      known_from names o.epoch run.setup 0 (setup_words run.setup)
-      (AllByRecursion-from_members (λ (p : Position). Contains names p.label) (entry_positions o.epoch run.setup)
-      (λ p within. drawn_first p (Contains-append_left (entry_positions o.epoch run.setup) (block_positions o.epoch run.setup) p within)))
-      (AllByRecursion-from_members (λ (p : Position). Contains names p.label) (block_positions o.epoch run.setup)
-      (λ p within. drawn_first p (Contains-append_right (entry_positions o.epoch run.setup) (block_positions o.epoch run.setup) p within)))
+  known = known_from names o.epoch run.setup 0 (setup_words run.setup) entries_told blocks_told.0
+
+  dummy_told : (j : ℕ) → j < dummy_blocks run.setup → Contains names (name o.epoch no_word DummyTag j)
+  dummy_told j within =
+      subst (λ k. Contains names (name o.epoch no_word DummyTag k)) (zero-add j)
+      (told_at IsTold (dummy_block o.epoch run.setup) 0 (dummy_blocks run.setup) blocks_told.1 j within)
 
   setups_same : frames_of_setup t o run.setup ≡ frames_of_setup t o other.setup
   setups_same =
-      setup_frames_same t o run.setup other.setup reordered.shape (setup_list_same run.setup other.setup reordered.documents) words_same (IsKnown names o.epoch run.setup) known
+      setup_frames_same t o run.setup other.setup reordered.shape reordered.pad (setup_list_same run.setup other.setup reordered.documents) words_same (IsKnown names o.epoch run.setup) known
       (λ v w k k2 same. ap (λ (n : Name). n.word) (free (name o.epoch v ListLabel 0) (name o.epoch w ListLabel 0) k.0 k2.0 refl refl refl same))
       (λ v w i j within inside k k2 same.
       let one = free (name o.epoch v PlaceTag i) (name o.epoch w PlaceTag j) (k.1 i within) (k2.1 j inside) refl refl refl same in
       (ap (λ (n : Name). n.word) one, ap (λ (n : Name). n.number) one))
+      (λ i j within inside same. ap (λ (n : Name). n.number) (free (name o.epoch no_word DummyTag i) (name o.epoch no_word DummyTag j) (dummy_told i within) (dummy_told j inside) refl refl refl same))
+      (λ w i j within inside k same.
+      true≢false (ap (λ (n : Name). same_kind n.kind PlaceTag) (free (name o.epoch w PlaceTag i) (name o.epoch no_word DummyTag j) (k.1 i within) (dummy_told j inside) refl refl refl same)))
 
   needed_same : frames_needed run.setup ≡ frames_needed other.setup
   needed_same = sym (length-frames_of_setup t o run.setup) ∙ ap length setups_same ∙ length-frames_of_setup t o other.setup

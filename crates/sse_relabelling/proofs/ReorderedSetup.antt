@@ -1,12 +1,12 @@
 -- Setups whose documents have the same words send the same frames, where labels differ and tags differ.
-use Rattle.std.proofs.Common.{◌≡◌, ◌≢◌, ℕ, zero, suc, ◌+◌, ◌*◌, ◌<◌, ◌≤◌, Bool, true, false, cond, ◌&&◌, ◌||◌, List, [], ◌∷◌, ◌++◌, length, map, filter, take, drop, le-ltb, refl, sym, ap, ◌∙◌, subst, arith, zero-add, ⊎_elim}
-use Rattle.std.specs.Prelude.{Contains, bytes_eq, flat_map, nat_lt, slice_index_or}
+use Rattle.std.proofs.Common.{◌≡◌, ◌≢◌, ℕ, zero, suc, ◌+◌, ◌-◌, ◌*◌, ◌<◌, ◌≤◌, Bool, true, false, cond, ◌&&◌, ◌||◌, List, [], ◌∷◌, ◌++◌, length, map, filter, take, drop, le-ltb, refl, sym, ap, ◌∙◌, subst, arith, zero-add, append_assoc, ⊎_elim}
+use Rattle.std.specs.Prelude.{Contains, bytes_eq, flat_map, nat_lt, replicate, slice_index_or}
 use Rattle.std.specs.List.{AllByRecursion, IsDistinct, list_any, range_with_len}
 use Rattle.std.specs.Cmp.Lexicographic.{same_text}
 use Rattle.std.proofs.lemmas.Bool.{true≢false}
-use Rattle.std.proofs.lemmas.List.{length-map, map-append, take_at, drop_at, drop-drop}
+use Rattle.std.proofs.lemmas.List.{length-append, length-map, map-append, map-id, take_at, drop_at, drop-drop}
 use Rattle.std.proofs.lemmas.List.Concat.{flat_map_single}
-use Rattle.std.proofs.lemmas.List.Elements.{All-contains, All-from_recursion}
+use Rattle.std.proofs.lemmas.List.Elements.{All-contains, All-from_recursion, filter-append}
 use Rattle.std.proofs.lemmas.List.FromFn.{length-map-range_with_len}
 use Rattle.std.proofs.lemmas.Simd.{map-map}
 use Rattle.std.proofs.lemmas.Slice.Eq.{bytes_eq-Decides}
@@ -14,19 +14,22 @@ use Rattle.keyed_fn.specs.Xored.{xored}
 use Rattle.list_packing.specs.Parts.{parts}
 use Rattle.two_level.specs.Laid.{laid}
 use Rattle.two_level.specs.Plan.{plan, block_count}
+use Rattle.two_level.specs.Shape.{Shape}
+use Rattle.client_registry.specs.Acceptance as acceptance
+use Rattle.client_registry.specs.Acceptance.{padded, dummy_entries, dummy_blocks}
 use Rattle.client_registry.specs.Run.{Offsets}
 use Rattle.client_registry.specs.Setup.{Setup, setup_words, setup_list}
 use Rattle.sse_frames.proofs.Sorted.{AllDiffer, length-by_bytes}
 use Rattle.sse_frames.specs.Frames.{Entry, SetupBegin, SetupDict, SetupArray, SetupEnd}
 use Rattle.sse_frames.specs.Order.{is_below, by_bytes}
 use Rattle.sse_frames.specs.Sending.{numbered, setup_frames}
-use Rattle.sse_model.proofs.Counts.{AllByRecursion-append}
+use Rattle.sse_model.proofs.Counts.{AllByRecursion-append, length-blocks_from}
 use Rattle.sse_model.proofs.Members.{Contains-nil, Contains-cases, Contains-from_list_any, AllByRecursion-from_members}
-use Rattle.sse_model.specs.Names.{Table, name, ListLabel, ListPad, PlaceTag}
-use Rattle.sse_model.specs.Positions.{Position, word_blocks, cell_text, block_text, block_position, entries_from, blocks_from, entry_positions, block_positions, comes_before, ranks_of, sealed}
+use Rattle.sse_model.specs.Names.{Table, name, no_word, ListLabel, ListPad, PlaceTag, DummyLabel, DummyCell, DummyTag, DummyBlock, cell_size, block_size}
+use Rattle.sse_model.specs.Positions.{Position, word_blocks, cell_text, block_text, block_position, dummy_entry, dummy_block, entries_from, blocks_from, entry_positions, block_positions, comes_before, ranks_of, sealed}
 use Rattle.sse_model.specs.Wire.{labels_in, frames_of_setup}
 use Rattle.sse_relabelling.proofs.InAnyOrder.{AreSame}
-use Rattle.sse_relabelling.proofs.SortedInAnyOrder.{sorted_same, count_same}
+use Rattle.sse_relabelling.proofs.SortedInAnyOrder.{sorted_same-before, count_same}
 
 -- Ranks, where no two tags are equal.
 
@@ -107,6 +110,22 @@ module _ (t : Table) (epoch : ℕ) where
     text = xored (block_text j (laid s.shape (map rank (tags_of s w)) (setup_list s w))) (t (name epoch w ListPad (suc j)));
   }) (range_with_len 0 (word_blocks s w))
 
+  -- the tags and the texts of so many dummies, which no rank shows in
+  abbrev pub dummy_tags : ℕ → List (List ℕ)
+  dummy_tags count = map (λ j. t (name epoch no_word DummyTag j)) (range_with_len 0 count)
+
+  abbrev dummy_entry_texts : Shape → ℕ → List Entry
+  dummy_entry_texts shape count = map (λ i. record {
+    label = t (name epoch no_word DummyLabel i);
+    text = xored (replicate (cell_size shape) 0) (t (name epoch no_word DummyCell i));
+  }) (range_with_len 0 count)
+
+  abbrev dummy_block_texts : Shape → ℕ → List Entry
+  dummy_block_texts shape count = map (λ j. record {
+    label = t (name epoch no_word DummyTag j);
+    text = xored (replicate (block_size shape) 0) (t (name epoch no_word DummyBlock j));
+  }) (range_with_len 0 count)
+
   module _ (s : Setup) where
     pub tags_by_word : (first : ℕ) (words : List (List ℕ)) → labels_in t (blocks_from epoch s first words) ≡ flat_map (tags_of s) words
     tags_by_word first [] = refl
@@ -114,25 +133,31 @@ module _ (t : Table) (epoch : ℕ) where
         map-append (λ (p : Position). t p.label) (map (block_position epoch s first w) (range_with_len 0 (word_blocks s w))) (blocks_from epoch s (first + word_blocks s w) ws)
         ∙ (λ i. map-map (λ (p : Position). t p.label) (block_position epoch s first w) (range_with_len 0 (word_blocks s w)) i ++ tags_by_word (first + word_blocks s w) ws i)
 
-    module _ (rank : List ℕ → ℕ) (ranks : List ℕ) where
-      own_ranks : (w : List ℕ) (ws : List (List ℕ)) (first : ℕ) → drop first ranks ≡ map rank (flat_map (tags_of s) (w ∷ ws)) → take (word_blocks s w) (drop first ranks) ≡ map rank (tags_of s w)
-      own_ranks w ws first e =
-          ap (take (word_blocks s w)) (e ∙ map-append rank (tags_of s w) (flat_map (tags_of s) ws))
-          ∙ take_at (map rank (tags_of s w)) (map rank (flat_map (tags_of s) ws)) (word_blocks s w) (length-map (tags_of s w) rank ∙ length-map-range_with_len _ 0 (word_blocks s w))
+    -- the tags of the dummies, which stand behind those of the words
+    module _ (dummies : List (List ℕ)) (rank : List ℕ → ℕ) (ranks : List ℕ) where
+      split_ranks : (w : List ℕ) (ws : List (List ℕ)) → map rank (flat_map (tags_of s) (w ∷ ws) ++ dummies) ≡ map rank (tags_of s w) ++ map rank (flat_map (tags_of s) ws ++ dummies)
+      split_ranks w ws =
+          ap (map rank) (append_assoc (tags_of s w) (flat_map (tags_of s) ws) dummies)
+          ∙ map-append rank (tags_of s w) (flat_map (tags_of s) ws ++ dummies)
 
-      later_ranks : (w : List ℕ) (ws : List (List ℕ)) (first : ℕ) → drop first ranks ≡ map rank (flat_map (tags_of s) (w ∷ ws)) → drop (first + word_blocks s w) ranks ≡ map rank (flat_map (tags_of s) ws)
+      own_ranks : (w : List ℕ) (ws : List (List ℕ)) (first : ℕ) → drop first ranks ≡ map rank (flat_map (tags_of s) (w ∷ ws) ++ dummies) → take (word_blocks s w) (drop first ranks) ≡ map rank (tags_of s w)
+      own_ranks w ws first e =
+          ap (take (word_blocks s w)) (e ∙ split_ranks w ws)
+          ∙ take_at (map rank (tags_of s w)) (map rank (flat_map (tags_of s) ws ++ dummies)) (word_blocks s w) (length-map (tags_of s w) rank ∙ length-map-range_with_len _ 0 (word_blocks s w))
+
+      later_ranks : (w : List ℕ) (ws : List (List ℕ)) (first : ℕ) → drop first ranks ≡ map rank (flat_map (tags_of s) (w ∷ ws) ++ dummies) → drop (first + word_blocks s w) ranks ≡ map rank (flat_map (tags_of s) ws ++ dummies)
       later_ranks w ws first e =
           sym (drop-drop (word_blocks s w) first ranks)
-          ∙ ap (drop (word_blocks s w)) (e ∙ map-append rank (tags_of s w) (flat_map (tags_of s) ws))
-          ∙ drop_at (map rank (tags_of s w)) (map rank (flat_map (tags_of s) ws)) (word_blocks s w) (length-map (tags_of s w) rank ∙ length-map-range_with_len _ 0 (word_blocks s w))
+          ∙ ap (drop (word_blocks s w)) (e ∙ split_ranks w ws)
+          ∙ drop_at (map rank (tags_of s w)) (map rank (flat_map (tags_of s) ws ++ dummies)) (word_blocks s w) (length-map (tags_of s w) rank ∙ length-map-range_with_len _ 0 (word_blocks s w))
 
-      entries_by_word : (first : ℕ) (words : List (List ℕ)) → drop first ranks ≡ map rank (flat_map (tags_of s) words) → map (sealed t ranks) (entries_from epoch s first words) ≡ map (entry_of s rank) words
+      entries_by_word : (first : ℕ) (words : List (List ℕ)) → drop first ranks ≡ map rank (flat_map (tags_of s) words ++ dummies) → map (sealed t ranks) (entries_from epoch s first words) ≡ map (entry_of s rank) words
       entries_by_word first [] e = refl
       entries_by_word first (w ∷ ws) e =
           λ i. record { label = t (name epoch w ListLabel 0); text = xored (cell_text (laid s.shape (own_ranks w ws first e i) (setup_list s w))) (t (name epoch w ListPad 0)) }
           ∷ entries_by_word (first + word_blocks s w) ws (later_ranks w ws first e) i
 
-      blocks_by_word : (first : ℕ) (words : List (List ℕ)) → drop first ranks ≡ map rank (flat_map (tags_of s) words) → map (sealed t ranks) (blocks_from epoch s first words) ≡ flat_map (blocks_of s rank) words
+      blocks_by_word : (first : ℕ) (words : List (List ℕ)) → drop first ranks ≡ map rank (flat_map (tags_of s) words ++ dummies) → map (sealed t ranks) (blocks_from epoch s first words) ≡ flat_map (blocks_of s rank) words
       blocks_by_word first [] e = refl
       blocks_by_word first (w ∷ ws) e =
           map-append (sealed t ranks) (map (block_position epoch s first w) (range_with_len 0 (word_blocks s w))) (blocks_from epoch s (first + word_blocks s w) ws)
@@ -140,16 +165,29 @@ module _ (t : Table) (epoch : ℕ) where
           ∙ (λ k. map (λ j. record { label = t (name epoch w PlaceTag j); text = xored (block_text j (laid s.shape (own_ranks w ws first e k) (setup_list s w))) (t (name epoch w ListPad (suc j))) }) (range_with_len 0 (word_blocks s w)))) i
           ++ blocks_by_word (first + word_blocks s w) ws (later_ranks w ws first e) i)
 
-    -- the texts of a setup, each by its word alone and the tags of all
+    -- the tags of all
+    pub all_tags : labels_in t (block_positions epoch s) ≡ flat_map (tags_of s) (setup_words s) ++ dummy_tags (dummy_blocks s)
+    all_tags =
+        map-append (λ (p : Position). t p.label) (blocks_from epoch s 0 (setup_words s)) (map (dummy_block epoch s) (range_with_len 0 (dummy_blocks s)))
+        ∙ (λ i. tags_by_word 0 (setup_words s) i ++ map-map (λ (p : Position). t p.label) (dummy_block epoch s) (range_with_len 0 (dummy_blocks s)) i)
+
+    -- the texts of a setup, each by its word alone and the tags of all, and those of the dummies
     pub texts_by_word : AllDiffer (labels_in t (block_positions epoch s))
-        → (map (sealed t (ranks_of (labels_in t (block_positions epoch s)))) (entry_positions epoch s) ≡ map (entry_of s (below_count (flat_map (tags_of s) (setup_words s)))) (setup_words s))
-        × (map (sealed t (ranks_of (labels_in t (block_positions epoch s)))) (block_positions epoch s) ≡ flat_map (blocks_of s (below_count (flat_map (tags_of s) (setup_words s)))) (setup_words s))
+        → (map (sealed t (ranks_of (labels_in t (block_positions epoch s)))) (entry_positions epoch s)
+        ≡ map (entry_of s (below_count (flat_map (tags_of s) (setup_words s) ++ dummy_tags (dummy_blocks s)))) (setup_words s) ++ dummy_entry_texts s.shape (dummy_entries s))
+        × (map (sealed t (ranks_of (labels_in t (block_positions epoch s)))) (block_positions epoch s)
+        ≡ flat_map (blocks_of s (below_count (flat_map (tags_of s) (setup_words s) ++ dummy_tags (dummy_blocks s)))) (setup_words s) ++ dummy_block_texts s.shape (dummy_blocks s))
     texts_by_word differ =
         let tags = labels_in t (block_positions epoch s) in
-        let by_word = tags_by_word 0 (setup_words s) in
-        let rank = below_count (flat_map (tags_of s) (setup_words s)) in
-        let ranks : ranks_of tags ≡ map rank (flat_map (tags_of s) (setup_words s)) = ranks_counted tags differ ∙ (λ i. map (below_count (by_word i)) (by_word i)) in
-        (entries_by_word rank (ranks_of tags) 0 (setup_words s) ranks, blocks_by_word rank (ranks_of tags) 0 (setup_words s) ranks)
+        let own = flat_map (tags_of s) (setup_words s) in
+        let others = dummy_tags (dummy_blocks s) in
+        let rank = below_count (own ++ others) in
+        let ranks : ranks_of tags ≡ map rank (own ++ others) = ranks_counted tags differ ∙ (λ i. map (below_count (all_tags i)) (all_tags i)) in (
+          map-append (sealed t (ranks_of tags)) (entries_from epoch s 0 (setup_words s)) (map (dummy_entry epoch s) (range_with_len 0 (dummy_entries s)))
+              ∙ (λ i. entries_by_word others rank (ranks_of tags) 0 (setup_words s) ranks i ++ map-map (sealed t (ranks_of tags)) (dummy_entry epoch s) (range_with_len 0 (dummy_entries s)) i),
+          map-append (sealed t (ranks_of tags)) (blocks_from epoch s 0 (setup_words s)) (map (dummy_block epoch s) (range_with_len 0 (dummy_blocks s)))
+              ∙ (λ i. blocks_by_word others rank (ranks_of tags) 0 (setup_words s) ranks i ++ map-map (sealed t (ranks_of tags)) (dummy_block epoch s) (range_with_len 0 (dummy_blocks s)) i),
+        )
 
 -- Frames.
 
@@ -168,31 +206,82 @@ any_from_contains w (v ∷ vs) within =
     or_later true e = refl
     or_later false e = e
 
+-- a test that each passes keeps all
+all_pass : {X : Type 0} (xs : List X) → filter (λ x. true) xs ≡ xs
+all_pass [] = refl
+all_pass (x ∷ xs) = ap (λ rest. x ∷ rest) (all_pass xs)
+
 -- what is known of the one words is known of the others
 pub known_there : (Known : List ℕ → Type 0) (ws vs : List (List ℕ)) → AreSame ws vs → AllByRecursion Known ws → AllByRecursion Known vs
 known_there Known ws vs same known =
     AllByRecursion-from_members Known vs
     (λ v within. All-contains Known ws v (All-from_recursion Known ws known) (Contains-from_list_any v ws (same.same v ∙ any_from_contains v vs within)))
 
-module _ (t : Table) (o : Offsets) (s s2 : Setup) (shape : s.shape ≡ s2.shape) (lists : (word : List ℕ) → setup_list s word ≡ setup_list s2 word)
+module _ (t : Table) (o : Offsets) (s s2 : Setup) (shape : s.shape ≡ s2.shape) (pad : s.pad ≡ s2.pad) (lists : (word : List ℕ) → setup_list s word ≡ setup_list s2 word)
     (words : AreSame (setup_words s) (setup_words s2))
     (Known : List ℕ → Type 0) (known : AllByRecursion Known (setup_words s))
     (labels_apart : (v w : List ℕ) → Known v → Known w → t (name o.epoch v ListLabel 0) ≡ t (name o.epoch w ListLabel 0) → v ≡ w)
-    (tags_apart : (v w : List ℕ) (i j : ℕ) → i < word_blocks s v → j < word_blocks s w → Known v → Known w → t (name o.epoch v PlaceTag i) ≡ t (name o.epoch w PlaceTag j) → (v ≡ w) × (i ≡ j)) where
+    (tags_apart : (v w : List ℕ) (i j : ℕ) → i < word_blocks s v → j < word_blocks s w → Known v → Known w → t (name o.epoch v PlaceTag i) ≡ t (name o.epoch w PlaceTag j) → (v ≡ w) × (i ≡ j))
+    (dummies_apart : (i j : ℕ) → i < dummy_blocks s → j < dummy_blocks s → t (name o.epoch no_word DummyTag i) ≡ t (name o.epoch no_word DummyTag j) → i ≡ j)
+    (tags_and_dummies : (w : List ℕ) (i j : ℕ) → i < word_blocks s w → j < dummy_blocks s → Known w → t (name o.epoch w PlaceTag i) ≢ t (name o.epoch no_word DummyTag j)) where
+  abbrev own_tags : List (List ℕ)
+  own_tags = flat_map (tags_of t o.epoch s) (setup_words s)
+
+  abbrev own_tags2 : List (List ℕ)
+  own_tags2 = flat_map (tags_of t o.epoch s2) (setup_words s2)
+
   abbrev rank : List ℕ → ℕ
-  rank = below_count (flat_map (tags_of t o.epoch s) (setup_words s))
+  rank = below_count (own_tags ++ dummy_tags t o.epoch (dummy_blocks s))
 
   abbrev rank2 : List ℕ → ℕ
-  rank2 = below_count (flat_map (tags_of t o.epoch s2) (setup_words s2))
+  rank2 = below_count (own_tags2 ++ dummy_tags t o.epoch (dummy_blocks s2))
 
   same_tags : tags_of t o.epoch s ≡ tags_of t o.epoch s2
   same_tags = λ i w. map (λ j. t (name o.epoch w PlaceTag j)) (range_with_len 0 (block_count (plan (shape i) (length (lists w i)))))
 
-  same_ranks : rank ≡ rank2
-  same_ranks = λ i u. (count_same (tags_key) (tags_of t o.epoch s) (λ v. is_below v u) (setup_words s) (setup_words s2) words ∙ ap (λ (tags : List ℕ → List (List ℕ)). length (filter (λ v. is_below v u) (flat_map tags (setup_words s2)))) same_tags) i
+  abbrev key_itself : List ℕ → List ℕ
+  key_itself u = u
+
+  -- as many of their own tags pass
+  same_count : (p : List ℕ → Bool) → length (filter p own_tags) ≡ length (filter p own_tags2)
+  same_count p =
+      count_same key_itself (tags_of t o.epoch s) p (setup_words s) (setup_words s2) words
+      ∙ ap (λ (tags : List ℕ → List (List ℕ)). length (filter p (flat_map tags (setup_words s2)))) same_tags
+
+  -- as many words and blocks of their own, and so as many dummies
+  same_words : length (setup_words s) ≡ length (setup_words s2)
+  same_words =
+      ap length (sym (flat_map_single key_itself (setup_words s) ∙ map-id (setup_words s)))
+      ∙ sym (ap length (all_pass (flat_map (λ w. w ∷ []) (setup_words s))))
+      ∙ count_same key_itself (λ w. w ∷ []) (λ w. true) (setup_words s) (setup_words s2) words
+      ∙ ap length (all_pass (flat_map (λ w. w ∷ []) (setup_words s2)))
+      ∙ ap length (flat_map_single key_itself (setup_words s2) ∙ map-id (setup_words s2))
+
+  same_blocks_count : acceptance.blocks_of s ≡ acceptance.blocks_of s2
+  same_blocks_count =
+      sym (length-own s) ∙ sym (ap length (all_pass own_tags)) ∙ same_count (λ u. true) ∙ ap length (all_pass own_tags2) ∙ length-own s2
     where
-      tags_key : List ℕ → List ℕ
-      tags_key u = u
+      length-own : (r : Setup) → length (flat_map (tags_of t o.epoch r) (setup_words r)) ≡ acceptance.blocks_of r
+      length-own r =
+          ap length (sym (tags_by_word t o.epoch r 0 (setup_words r)))
+          ∙ length-map (blocks_from o.epoch r 0 (setup_words r)) (λ p. t p.label)
+          ∙ length-blocks_from o.epoch r 0 (setup_words r)
+
+  same_dummy_entries : dummy_entries s ≡ dummy_entries s2
+  same_dummy_entries = λ i. padded (pad i) (same_words i) - same_words i
+
+  same_dummy_blocks : dummy_blocks s ≡ dummy_blocks s2
+  same_dummy_blocks = λ i. padded (pad i) (same_blocks_count i) - same_blocks_count i
+
+  same_ranks : rank ≡ rank2
+  same_ranks =
+      λ i u.
+      (counted own_tags (dummy_tags t o.epoch (dummy_blocks s)) u
+      ∙ (λ j. same_count (λ v. is_below v u) j + length (filter (λ v. is_below v u) (dummy_tags t o.epoch (same_dummy_blocks j))))
+      ∙ sym (counted own_tags2 (dummy_tags t o.epoch (dummy_blocks s2)) u)) i
+    where
+      counted : (xs ys : List (List ℕ)) (u : List ℕ) → below_count (xs ++ ys) u ≡ below_count xs u + below_count ys u
+      counted xs ys u = ap length (filter-append (λ v. is_below v u) xs ys) ∙ length-append (filter (λ v. is_below v u) xs) (filter (λ v. is_below v u) ys)
 
   same_entry : entry_of t o.epoch s rank ≡ entry_of t o.epoch s2 rank2
   same_entry = λ i w. record {
@@ -212,27 +301,30 @@ module _ (t : Table) (o : Offsets) (s s2 : Setup) (shape : s.shape ≡ s2.shape)
   known2 : AllByRecursion Known (setup_words s2)
   known2 = known_there Known (setup_words s) (setup_words s2) words known
 
-  sorted_entries : by_bytes label_of (map (entry_of t o.epoch s rank) (setup_words s)) ≡ by_bytes label_of (map (entry_of t o.epoch s2 rank2) (setup_words s2))
+  sorted_entries : by_bytes label_of (map (entry_of t o.epoch s rank) (setup_words s) ++ dummy_entry_texts t o.epoch s.shape (dummy_entries s))
+      ≡ by_bytes label_of (map (entry_of t o.epoch s2 rank2) (setup_words s2) ++ dummy_entry_texts t o.epoch s2.shape (dummy_entries s2))
   sorted_entries =
-      ap (by_bytes label_of) (sym (flat_map_single (entry_of t o.epoch s rank) (setup_words s)))
-      ∙ sorted_same label_of (λ w. entry_of t o.epoch s rank w ∷ []) Known
+      let dummies = dummy_entry_texts t o.epoch s.shape (dummy_entries s) in
+      ap (λ own. by_bytes label_of (own ++ dummies)) (sym (flat_map_single (entry_of t o.epoch s rank) (setup_words s)))
+      ∙ sorted_same-before label_of (λ w. entry_of t o.epoch s rank w ∷ []) dummies Known
       (λ v w k k2 apart. ((λ same. apart (labels_apart v w k k2 same), tt), tt)) (setup_words s) (setup_words s2) words known known2
-      ∙ ap (by_bytes label_of) (flat_map_single (entry_of t o.epoch s rank) (setup_words s2))
-      ∙ ap (λ (entry : List ℕ → Entry). by_bytes label_of (map entry (setup_words s2))) same_entry
+      ∙ ap (λ own. by_bytes label_of (own ++ dummies)) (flat_map_single (entry_of t o.epoch s rank) (setup_words s2))
+      ∙ (λ i. by_bytes label_of (map (same_entry i) (setup_words s2) ++ dummy_entry_texts t o.epoch (shape i) (same_dummy_entries i)))
 
   -- what is so of each number of a range
   each_number : {X : Type 0} (P : X → Type 0) (f : ℕ → X) (a n : ℕ) → ((j : ℕ) → a ≤ j → j < a + n → P (f j)) → AllByRecursion P (map f (range_with_len a n))
   each_number P f a zero each = tt
   each_number P f a (suc n) each = (each a (omega arith) (omega arith), each_number P f (a + 1) n (λ j above within. each j (let h : a ≤ j = omega (arith, above) in h) (let h : j < a + suc n = omega (arith, within) in h)))
 
-  sorted_blocks : by_bytes label_of (flat_map (blocks_of t o.epoch s rank) (setup_words s)) ≡ by_bytes label_of (flat_map (blocks_of t o.epoch s2 rank2) (setup_words s2))
+  sorted_blocks : by_bytes label_of (flat_map (blocks_of t o.epoch s rank) (setup_words s) ++ dummy_block_texts t o.epoch s.shape (dummy_blocks s))
+      ≡ by_bytes label_of (flat_map (blocks_of t o.epoch s2 rank2) (setup_words s2) ++ dummy_block_texts t o.epoch s2.shape (dummy_blocks s2))
   sorted_blocks =
-      sorted_same label_of (blocks_of t o.epoch s rank) Known
+      sorted_same-before label_of (blocks_of t o.epoch s rank) (dummy_block_texts t o.epoch s.shape (dummy_blocks s)) Known
       (λ v w k k2 apart. each_number (λ (x : Entry). AllByRecursion (λ (y : Entry). x.label ≢ y.label) (blocks_of t o.epoch s rank w)) _ 0 (word_blocks s v)
       (λ i low within. each_number (λ (y : Entry). t (name o.epoch v PlaceTag i) ≢ y.label) _ 0 (word_blocks s w)
       (λ j above inside. λ same. apart (tags_apart v w i j (let h : i < word_blocks s v = omega (arith, within) in h) (let h : j < word_blocks s w = omega (arith, inside) in h) k k2 same).0)))
       (setup_words s) (setup_words s2) words known known2
-      ∙ ap (λ (blocks : List ℕ → List Entry). by_bytes label_of (flat_map blocks (setup_words s2))) same_blocks
+      ∙ (λ i. by_bytes label_of (flat_map (same_blocks i) (setup_words s2) ++ dummy_block_texts t o.epoch (shape i) (same_dummy_blocks i)))
 
   -- no two tags are equal
   own_differ : (w : List ℕ) → Known w → (a n : ℕ) → a + n ≤ word_blocks s w → AllDiffer (map (λ j. t (name o.epoch w PlaceTag j)) (range_with_len a n))
@@ -268,15 +360,42 @@ module _ (t : Table) (o : Offsets) (s s2 : Setup) (shape : s.shape ≡ s2.shape)
   tags_differ (w ∷ ws) differ all =
       differ-append (tags_of t o.epoch s w) (flat_map (tags_of t o.epoch s) ws) (own_differ w all.0 0 (word_blocks s w) (omega arith)) (tags_differ ws differ.1 all.1) (others_differ w all.0 ws differ.0 all.1)
 
+  -- nor of dummies
+  dummies_differ : (a n : ℕ) → a + n ≤ dummy_blocks s → AllDiffer (map (λ j. t (name o.epoch no_word DummyTag j)) (range_with_len a n))
+  dummies_differ a zero within = tt
+  dummies_differ a (suc n) within = (
+    each_number (λ tag. t (name o.epoch no_word DummyTag a) ≢ tag) (λ j. t (name o.epoch no_word DummyTag j)) (a + 1) n
+        (λ j above inside. λ same.
+        let low : a < dummy_blocks s = omega (arith, within) in
+        let high : j < dummy_blocks s = omega (arith, within, inside) in
+        let at : a ≡ j = dummies_apart a j low high same in
+        omega (arith, at, above)),
+    dummies_differ (a + 1) n (let h : a + 1 + n ≤ dummy_blocks s = omega (arith, within) in h),
+  )
+
+  -- nor one of a word and one of a dummy
+  from_dummies : (ws : List (List ℕ)) → AllByRecursion Known ws → AllByRecursion (λ x. AllByRecursion (λ y. x ≢ y) (dummy_tags t o.epoch (dummy_blocks s))) (flat_map (tags_of t o.epoch s) ws)
+  from_dummies [] all = tt
+  from_dummies (w ∷ ws) all =
+      AllByRecursion-append (λ x. AllByRecursion (λ y. x ≢ y) (dummy_tags t o.epoch (dummy_blocks s))) (tags_of t o.epoch s w) (flat_map (tags_of t o.epoch s) ws)
+      (each_number (λ x. AllByRecursion (λ y. x ≢ y) (dummy_tags t o.epoch (dummy_blocks s))) (λ j. t (name o.epoch w PlaceTag j)) 0 (word_blocks s w)
+      (λ i low within. each_number (λ y. t (name o.epoch w PlaceTag i) ≢ y) (λ j. t (name o.epoch no_word DummyTag j)) 0 (dummy_blocks s)
+      (λ j above inside. tags_and_dummies w i j (let h : i < word_blocks s w = omega (arith, within) in h) (let h : j < dummy_blocks s = omega (arith, inside) in h) all.0)))
+      (from_dummies ws all.1)
+
+  all_differ : (ws : List (List ℕ)) → IsDistinct bytes_eq ws → AllByRecursion Known ws → AllDiffer (flat_map (tags_of t o.epoch s) ws ++ dummy_tags t o.epoch (dummy_blocks s))
+  all_differ ws differ all =
+      differ-append (flat_map (tags_of t o.epoch s) ws) (dummy_tags t o.epoch (dummy_blocks s)) (tags_differ ws differ all) (dummies_differ 0 (dummy_blocks s) (omega arith)) (from_dummies ws all)
+
   pub setup_frames_same : frames_of_setup t o s ≡ frames_of_setup t o s2
   setup_frames_same =
-      let one = texts_by_word t o.epoch s (subst AllDiffer (sym (tags_by_word t o.epoch s 0 (setup_words s))) (tags_differ (setup_words s) words.differ known)) in
+      let one = texts_by_word t o.epoch s (subst AllDiffer (sym (all_tags t o.epoch s)) (all_differ (setup_words s) words.differ known)) in
       let two = texts_by_word t o.epoch s2
-      (subst AllDiffer (ap (λ (tags : List ℕ → List (List ℕ)). flat_map tags (setup_words s2)) same_tags ∙ sym (tags_by_word t o.epoch s2 0 (setup_words s2))) (tags_differ (setup_words s2) words.differ2 known2)) in
-      let es = map (entry_of t o.epoch s rank) (setup_words s) in
-      let es2 = map (entry_of t o.epoch s2 rank2) (setup_words s2) in
-      let bs = flat_map (blocks_of t o.epoch s rank) (setup_words s) in
-      let bs2 = flat_map (blocks_of t o.epoch s2 rank2) (setup_words s2) in
+      (subst AllDiffer ((λ i. flat_map (same_tags i) (setup_words s2) ++ dummy_tags t o.epoch (same_dummy_blocks i)) ∙ sym (all_tags t o.epoch s2)) (all_differ (setup_words s2) words.differ2 known2)) in
+      let es = map (entry_of t o.epoch s rank) (setup_words s) ++ dummy_entry_texts t o.epoch s.shape (dummy_entries s) in
+      let es2 = map (entry_of t o.epoch s2 rank2) (setup_words s2) ++ dummy_entry_texts t o.epoch s2.shape (dummy_entries s2) in
+      let bs = flat_map (blocks_of t o.epoch s rank) (setup_words s) ++ dummy_block_texts t o.epoch s.shape (dummy_blocks s) in
+      let bs2 = flat_map (blocks_of t o.epoch s2 rank2) (setup_words s2) ++ dummy_block_texts t o.epoch s2.shape (dummy_blocks s2) in
       let m : length es ≡ length es2 = sym (length-by_bytes label_of es) ∙ ap length sorted_entries ∙ length-by_bytes label_of es2 in
       let a : length bs ≡ length bs2 = sym (length-by_bytes label_of bs) ∙ ap length sorted_blocks ∙ length-by_bytes label_of bs2 in
       (λ i. setup_frames o.frame s.shape (one.0 i) (one.1 i))

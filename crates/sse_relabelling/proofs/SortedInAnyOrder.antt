@@ -1,5 +1,5 @@
 -- Items with different keys are sorted the same, in whatever order they come.
-use Rattle.std.proofs.Common.{◌≡◌, ◌≢◌, ℕ, ◌+◌, Bool, true, false, List, [], ◌∷◌, ◌++◌, length, filter, refl, sym, ap, ◌∙◌, arith}
+use Rattle.std.proofs.Common.{◌≡◌, ◌≢◌, ℕ, ◌+◌, Bool, true, false, List, [], ◌∷◌, ◌++◌, length, filter, refl, sym, ap, ◌∙◌, arith, append_assoc}
 use Rattle.std.specs.Prelude.{flat_map, if◌then◌else◌}
 use Rattle.std.specs.List.{AllByRecursion}
 use Rattle.std.specs.Cmp.Lexicographic.{slice_cmp, nat_list_cmp_total}
@@ -8,7 +8,7 @@ use Rattle.std.specs.Ordering.{nat_cmp, is_lt, ordering_reverse}
 use Rattle.std.specs.declared.cmp.Ordering.{Ordering}
 use Rattle.std.specs.declared.cmp.Ordering.TheVariants.{Less, Equal, Greater}
 use Rattle.std.proofs.lemmas.Bool.{true≢false}
-use Rattle.std.proofs.lemmas.List.{length-append}
+use Rattle.std.proofs.lemmas.List.{append-nil, length-append}
 use Rattle.std.proofs.lemmas.List.Elements.{filter-append}
 use Rattle.sse_frames.proofs.Sorted.{key_below, key_order}
 use Rattle.sse_frames.specs.Order.{is_below, insert_by, by_bytes}
@@ -77,17 +77,28 @@ module _ {X : Type 0} (key : X → List ℕ) where
   sorted-append (x ∷ xs) ys = ap (insert_by key x) (sorted-append xs ys)
 
   module _ (items : List ℕ → List X) where
-    sorted_gathered : (ws : List (List ℕ)) → by_bytes key (flat_map items ws) ≡ gathered (λ w zs. insert_all (items w) zs) [] ws
-    sorted_gathered [] = refl
-    sorted_gathered (w ∷ ws) = sorted-append (items w) (flat_map items ws) ∙ ap (insert_all (items w)) (sorted_gathered ws)
+    sorted_gathered : (last : List X) (ws : List (List ℕ)) → by_bytes key (flat_map items ws ++ last) ≡ gathered (λ w zs. insert_all (items w) zs) (by_bytes key last) ws
+    sorted_gathered last [] = refl
+    sorted_gathered last (w ∷ ws) =
+        ap (by_bytes key) (append_assoc (items w) (flat_map items ws) last)
+        ∙ sorted-append (items w) (flat_map items ws ++ last)
+        ∙ ap (insert_all (items w)) (sorted_gathered last ws)
 
-    -- the items of words, where those of different words have different keys
+    -- the items of words, where those of different words have different keys, and others behind them
+    pub sorted_same-before : (last : List X) (Known : List ℕ → Type 0) → ((v w : List ℕ) → Known v → Known w → (v ≡ w → ⊥) → AllByRecursion (λ x. AllByRecursion (λ y. key x ≢ key y) (items w)) (items v))
+        → (ws vs : List (List ℕ)) → AreSame ws vs → AllByRecursion Known ws → AllByRecursion Known vs → by_bytes key (flat_map items ws ++ last) ≡ by_bytes key (flat_map items vs ++ last)
+    sorted_same-before last Known differ ws vs s known known2 =
+        sorted_gathered last ws
+        ∙ gathered_same (λ w zs. insert_all (items w) zs) (by_bytes key last) Known (λ v w k k2 apart zs. all_commute (items v) (items w) zs (differ v w k k2 apart)) ws vs s known known2
+        ∙ sym (sorted_gathered last vs)
+
+    -- and with none behind them
     pub sorted_same : (Known : List ℕ → Type 0) → ((v w : List ℕ) → Known v → Known w → (v ≡ w → ⊥) → AllByRecursion (λ x. AllByRecursion (λ y. key x ≢ key y) (items w)) (items v))
         → (ws vs : List (List ℕ)) → AreSame ws vs → AllByRecursion Known ws → AllByRecursion Known vs → by_bytes key (flat_map items ws) ≡ by_bytes key (flat_map items vs)
     sorted_same Known differ ws vs s known known2 =
-        sorted_gathered ws
-        ∙ gathered_same (λ w zs. insert_all (items w) zs) [] Known (λ v w k k2 apart zs. all_commute (items v) (items w) zs (differ v w k k2 apart)) ws vs s known known2
-        ∙ sym (sorted_gathered vs)
+        ap (by_bytes key) (sym (append-nil (flat_map items ws)))
+        ∙ sorted_same-before [] Known differ ws vs s known known2
+        ∙ ap (by_bytes key) (append-nil (flat_map items vs))
 
     -- and as many of them pass
     count_gathered : (p : X → Bool) (ws : List (List ℕ)) → length (filter p (flat_map items ws)) ≡ gathered (λ w n. length (filter p (items w)) + n) 0 ws

@@ -18,5 +18,6 @@ IsSameCommand _ _ = ⊥
 
 pub record IsReordered (run other : Run) : Type 0 where
   pub shape : run.setup.shape ≡ other.setup.shape
+  pub pad : run.setup.pad ≡ other.setup.pad
   pub documents : Paired HasSameWords run.setup.documents other.setup.documents
   pub later : Paired IsSameCommand run.later other.later

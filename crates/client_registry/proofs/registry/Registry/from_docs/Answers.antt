@@ -16,7 +16,7 @@ invariant_of-result c = sound_setup c.docs.inside c.docs.invariant (made c) refl
 
 pub returns-clause-setup : goal.returns-clause-setup
 returns-clause-setup c =
-    λ shape. subst (λ docs. Represents (registered_of (made c)) (record { documents = docs; shape = shape }) []) (ap (λ v. v.documents) c.docs.view_is) (Represents-setup c.docs.inside c.docs.invariant (made c) refl c.clear_counts.ensures.words c.clear_counts.ensures.counts shape)
+    λ shape pad. subst (λ docs. Represents (registered_of (made c)) (record { documents = docs; shape = shape; pad = pad }) []) (ap (λ v. v.documents) c.docs.view_is) (Represents-setup c.docs.inside c.docs.invariant (made c) refl c.clear_counts.ensures.words c.clear_counts.ensures.counts shape pad)
 
 pub returns-clause-words : goal.returns-clause-words
 returns-clause-words c = known_setup c.docs.inside c.docs.invariant (made c) refl c.clear_counts.ensures.words c.clear_counts.ensures.counts ∙ ap (λ v. words_of v.documents) c.docs.view_is
