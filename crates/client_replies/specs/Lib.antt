@@ -1,3 +1,4 @@
 pub mod Faults
+pub mod Gathered
 pub mod Pages
 pub mod Texts

@@ -5,7 +5,7 @@ use Rattle.sse_frames.specs.FrameViews.{numbers_in}
 use Rattle.sse_frames.specs.Sizes.{AreIds}
 use Rattle.sse_frames.specs.Reading.{IsReply}
 use Rattle.client_replies.specs.Faults.{IsFaultOf}
-use Rattle.client_replies.specs.declared.found.Found.{Found}
+use Rattle.client_replies.specs.Gathered.{Gathered}
 use Rattle.client_replies.specs.declared.found.Progress.{Progress}
 use Rattle.client_replies.specs.declared.found.Progress.TheVariants as progress
 use Rattle.client_replies.specs.declared.reply_fault.ReplyFault.{ReplyFault}
@@ -43,7 +43,7 @@ IsRefused pages bytes faults.OutOfMemory = (last : Bool) × (ids : List ℕ) × 
 IsRefused pages bytes fault = IsNoPage pages bytes fault
 
 -- what the bytes of a reply make of the pages that came: the next page is appended, and after an error all is as before
-abbrev pub AfterPage : Found → List ℕ → Found → Result Progress ReplyFault → Type 0
+abbrev pub AfterPage : Gathered → List ℕ → Gathered → Result Progress ReplyFault → Type 0
 AfterPage old bytes new (Ok told) =
-    (ids : List ℕ) × IsNextPage old.pages bytes (is_done told) ids × (new.ids.items ≡ old.ids.items ++ ids) × (new.pages ≡ old.pages + 1)
-AfterPage old bytes new (Err fault) = IsRefused old.pages bytes fault × (new.ids.items ≡ old.ids.items) × (new.pages ≡ old.pages)
+    (ids : List ℕ) × IsNextPage old.pages bytes (is_done told) ids × (new.ids ≡ old.ids ++ ids) × (new.pages ≡ old.pages + 1)
+AfterPage old bytes new (Err fault) = IsRefused old.pages bytes fault × (new.ids ≡ old.ids) × (new.pages ≡ old.pages)

@@ -1,10 +1,12 @@
-ghost use Rattle.std.specs.Prelude.{◌≡◌, ◌≢◌, ◌≤◌, ◌+◌, ◌/◌, ◌^◌, ◌++◌, Bool, Err, IsOk, List, ℕ, length, vec_capacity, vec_len, OnErr, OnOk};
+ghost use Rattle.std.specs.Prelude.{◌≡◌, ◌≢◌, ◌≤◌, ◌+◌, ◌/◌, ◌++◌, Bool, Err, IsOk, List, ℕ, length, vec_capacity, vec_len, OnErr, OnOk};
 ghost use Rattle.std.specs.Int.{w64, from_be_bytes};
 ghost use Rattle.sse_frames.specs.FrameViews.{numbers_in};
+ghost use Rattle.client_replies.specs.Pages.{is_done};
 
 use crate::page_in::page_in;
 use crate::reply_fault::{ReplyFault, fault_of};
 use std::alloc::{AllocError, Global};
+use std::marker::Model;
 
 /// How many pages an answer has at most.
 pub const MAX_PAGES: u32 = 1 << 20;
@@ -14,7 +16,17 @@ pub const MAX_PAGES: u32 = 1 << 20;
 pub struct Found {
     ids: Vec<u64>,
     pages: u32,
-    pub ghost most: { pages ≤ 2 ^ 20 },
+}
+
+impl Model for Found {
+    ghost use Rattle.std.specs.Prelude.{◌-◌, ◌≤◌, ◌^◌, vec_capacity, vec_len};
+    ghost use Rattle.client_replies.specs.Gathered.{Gathered};
+
+    ghost Value = { Gathered };
+
+    ghost view = { λ f. record { ids = f.ids.items; pages = f.pages; room = vec_capacity f.ids - vec_len f.ids } };
+
+    ghost invariant = { λ f. f.pages ≤ 2 ^ 20 };
 }
 
 /// Whether a search has more pages to come.
@@ -34,7 +46,7 @@ impl Found {
     /// No page has come.
     pub fn new(alloc: Global) -> Found
         ensures pages { result.pages ≡ 0 }
-        ensures ids { result.ids.items ≡ [] }
+        ensures ids { result.ids ≡ [] }
     {
         Found {
             ids: Vec::new(alloc),
@@ -50,10 +62,10 @@ impl Found {
         ensures after { AfterPage self.old reply.now self.new result }
         ensures counted { OnOk result (self.new.pages ≡ self.old.pages + 1) }
         ensures more { result ≡ Ok Progress.More → (ids : _) × (reply.now ≡ reply_bytes (Page false ids)) }
-        ensures kept { OnErr result (self.new.ids.items ≡ self.old.ids.items) }
+        ensures kept { OnErr result (self.new.ids ≡ self.old.ids) }
         ensures kept_pages { OnErr result (self.new.pages ≡ self.old.pages) }
         ensures store { IsErrOf result ReplyFault.StoreFault → reply.now ≡ reply_bytes StoreFault }
-        ensures taken { (last : Bool) (ids : List ℕ) → IsReply (Page last ids) reply.now → vec_len self.old.ids + length ids ≤ vec_capacity self.old.ids → result ≢ Err ReplyFault.OutOfMemory }
+        ensures taken { (last : Bool) (ids : List ℕ) → IsReply (Page last ids) reply.now → length ids ≤ self.old.room → result ≢ Err ReplyFault.OutOfMemory }
     {
         let Some((last, ids)) = page_in(reply) else {
             return Err(fault_of(reply));
@@ -63,21 +75,24 @@ impl Found {
         }
         append_ids(&mut self.ids, ids)?;
         self.pages += 1;
-        if last {
-            Ok(Progress::Done)
-        } else {
-            Ok(Progress::More)
-        }
+        Ok(progress_of(last))
     }
 
     /// The identifiers that came, rising, repeats included.
     pub fn finish(self) -> Vec<u64>
-        ensures { result.items ≡ in_order self.ids.items }
+        ensures { result.items ≡ in_order self.ids }
     {
         let Found { mut ids, pages: _ } = self;
         ids.sort_unstable();
         ids
     }
+}
+
+/// Whether pages are to come behind one that is the last, or isn't.
+fn progress_of(last: bool) -> Progress
+    ensures { is_done result ≡ last }
+{
+    if last { Progress::Done } else { Progress::More }
 }
 
 /// Appends the identifiers, 8 bytes each, high byte first; all of them or none.

@@ -1,4 +1,4 @@
-use Rattle.std.proofs.Common.{◌≡◌, ◌+◌, ◌≤◌, ◌<◌, ◌*◌, ◌/◌, ◌^◌, Bool, true, false, ℕ, List, [], length, vec_capacity, vec_len, refl, sym, ap, subst, ◌∙◌, arith}
+use Rattle.std.proofs.Common.{◌≡◌, ◌/◌, Bool, true, ℕ, List, [], length, refl, sym, ap, subst, ◌∙◌, arith}
 use Rattle.std.specs.Prelude.{is_ok}
 use Rattle.std.proofs.lemmas.Bool.{eqb-false, true≢false}
 use Rattle.std.proofs.lemmas.List.{length-map}
@@ -8,7 +8,7 @@ use Rattle.sse_frames.specs.Replies.{ReplyText, Page}
 use Rattle.sse_frames.specs.FrameViews.{items_in, numbers_in}
 use Rattle.sse_frames.specs.Sizes.{AreIds}
 use Rattle.sse_frames.proofs.Chunks.{length-items_in}
-use Rattle.client_replies.specs.Pages.{IsPageIn, IsNextPage}
+use Rattle.client_replies.specs.Pages.{IsPageIn}
 use Rattle.client_replies.proofs.Replied.{same_reply}
 use Rattle.client_replies.proofs.found.Found.page.Goals as goal
 use Rattle.client_replies.proofs.found.Found.page.Goals.{then-self-gt0, else-self-gt0}
@@ -33,18 +33,19 @@ pub returns-in_err-append_ids-clause-taken : goal.returns-in_err-append_ids-clau
 returns-in_err-append_ids-clause-taken c =
     λ last ids is room e.
     let size = eighth c.args.reply.now c.in-Some.ids.now ids c.in-Some.last last c.in-Some.ensures.found is in
-    let ok : is_ok c.append_ids.result ≡ true = c.append_ids.ensures.succeeds (omega (arith, size, room)) in
+    let ok : is_ok c.append_ids.result ≡ true = c.append_ids.ensures.succeeds (omega (arith, size, room, ap (λ found. found.room) c.self.view_is)) in
     absurd (true≢false (sym ok ∙ ap is_ok c.in_err-append_ids.was))
 
-pub returns-then-last-clause-after : goal.returns-then-last-clause-after
-returns-then-last-clause-after c =
+pub returns-clause-after : goal.returns-clause-after
+returns-clause-after c =
     let bytes = c.in-Some.ids.now in
     let found = c.in-Some.ensures.found in
-    let count = counted c.in-Some.last bytes found.sizes in (
+    let count = counted c.in-Some.last bytes found.sizes in
+    rw (← c.self.view_is) (
       numbers_in bytes,
       record {
-        reply = subst (λ last. IsReply (Page last (numbers_in bytes)) c.args.reply.now) c.if-last.true found.reply;
-        within = omega (arith, c.if-self-eq-MAX_PAGES.false, c.args.self.now.most);
+        reply = subst (λ last. IsReply (Page last (numbers_in bytes)) c.args.reply.now) (sym c.progress_of.ensures) found.reply;
+        within = omega (arith, c.if-self-eq-MAX_PAGES.false, c.self.invariant);
         some = λ more.
             elim c.if-self-gt0.branch [
               | then-self-gt0 w ↦
