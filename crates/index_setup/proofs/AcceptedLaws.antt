@@ -4,7 +4,7 @@ use Rattle.std.specs.Prelude.{IsSome, IfSome, Result, is_none}
 use Rattle.std.proofs.lemmas.List.{get_or-map, length-map}
 use Rattle.std.proofs.lemmas.List.Elements.{All-from_recursion}
 use Rattle.two_level.specs.Plan.{plan}
-use Rattle.client_registry.specs.Acceptance.{setup_refusal}
+use Rattle.client_registry.specs.Acceptance.{size_refusal}
 use Rattle.client_registry.specs.Documents.{ids_with, words_of}
 use Rattle.client_registry.specs.Setup.{Setup}
 use Rattle.sse_model.proofs.Texts.{HasPlan, lists_have_plans}
@@ -18,7 +18,7 @@ some_of None is = absurd (cc)
 some_of (Some x) is = refl
 
 -- none is too long
-pub ArePlanned-accepted : (s : Setup) → setup_refusal s.documents s.shape.b s.shape.big ≡ None → ArePlanned s.shape s.documents
+pub ArePlanned-accepted : (s : Setup) → size_refusal s ≡ None → ArePlanned s.shape s.documents
 ArePlanned-accepted s h = λ k d within.
     let words = words_of s.documents in
     let size = λ (word : List ℕ). length (ids_with s.documents word) in

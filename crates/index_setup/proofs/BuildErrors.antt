@@ -1,14 +1,14 @@
 -- Which fault a setup is refused with, from those of its labels and of its places.
-use Rattle.std.proofs.Common.{◌≡◌, ◌≢◌, ℕ, List, Option, None, Some, Err, refl, sym, ap, subst, ◌∙◌}
+use Rattle.std.proofs.Common.{◌≡◌, ℕ, List, Option, None, Some, Err, refl, sym}
 use Rattle.std.specs.Prelude.{Result, option_map}
 use Rattle.std.specs.Option.{option_or}
-use Rattle.client_registry.specs.Acceptance.{setup_refusal}
-use Rattle.client_registry.specs.Setup.{Setup}
+use Rattle.client_registry.specs.Acceptance.{size_refusal}
+use Rattle.client_registry.specs.Setup.{Setup, setup_of}
 use Rattle.keyed_fn.specs.KeyedFn.{KeyedFn}
 use Rattle.index_setup.specs.Entries.{label_clash, place_clash}
 use Rattle.index_setup.specs.Refused.{build_refusal, clash_refusal, refused_by_size}
 use Rattle.index_setup.specs.declared.fault.BuildFault.{BuildFault}
-use Rattle.index_setup.specs.declared.fault.BuildFault.TheVariants.{LabelClash, PlaceClash, NoMemory}
+use Rattle.index_setup.specs.declared.fault.BuildFault.TheVariants.{LabelClash, PlaceClash}
 
 -- the first clash, of labels or else of places
 abbrev pub first_of : Option (ℕ × ℕ) → Option (ℕ × ℕ) → Option BuildFault
@@ -45,16 +45,20 @@ unmapped f None clear = refl
 unmapped f (Some x) clear = absurd (cc)
 
 module _ (f : KeyedFn) (key : List ℕ) (s : Setup) (clear : build_refusal f key s.documents s.shape.b s.shape.big ≡ None) where
+  -- the setup of these documents and this shape, without dummies
+  abbrev alone : Setup
+  alone = setup_of s.documents s.shape.b s.shape.big
+
   -- an index that isn't refused has an accepted size
-  pub size_accepted : setup_refusal s.documents s.shape.b s.shape.big ≡ None
+  pub size_accepted : size_refusal alone ≡ None
   size_accepted =
-      let size = setup_refusal s.documents s.shape.b s.shape.big in
-      unmapped refused_by_size size (first_none (option_map refused_by_size size) (clash_refusal f key s) clear)
+      let size = size_refusal alone in
+      unmapped refused_by_size size (first_none (option_map refused_by_size size) (clash_refusal f key alone) clear)
 
   -- and no equal labels
-  pub labels_differ : label_clash f key s ≡ None
+  pub labels_differ : label_clash f key alone ≡ None
   labels_differ =
-      let labels = label_clash f key s in
-      let rest = second_none (option_map refused_by_size (setup_refusal s.documents s.shape.b s.shape.big)) (clash_refusal f key s) clear in
+      let labels = label_clash f key alone in
+      let rest = second_none (option_map refused_by_size (size_refusal alone)) (clash_refusal f key alone) clear in
       unmapped (λ words. LabelClash words.0 words.1) labels
-      (first_none (option_map (λ words. LabelClash words.0 words.1) labels) (option_map (λ blocks. PlaceClash blocks.0 blocks.1) (place_clash f key s)) rest)
+      (first_none (option_map (λ words. LabelClash words.0 words.1) labels) (option_map (λ blocks. PlaceClash blocks.0 blocks.1) (place_clash f key alone)) rest)

@@ -143,13 +143,6 @@ filled_lists-full (l ∷ ls) =
     ∙ ap (λ xs. xs ++ filled_lists (map length ls) ls) (append-nil l)
     ∙ ap (λ xs. l ++ xs) (filled_lists-full ls)
 
-pub length-filled_lists : (ns : List ℕ) (lists : List (List ℕ)) → Fit ns lists → length (filled_lists ns lists) ≡ sum ns
-length-filled_lists [] [] fit = refl
-length-filled_lists [] (l ∷ ls) fit = absurd fit
-length-filled_lists (n ∷ ns) [] fit = absurd fit
-length-filled_lists (n ∷ ns) (l ∷ ls) fit =
-    omega (arith, length-append (filled n l) (filled_lists ns ls), length-filled n l fit.0, length-filled_lists ns ls fit.1, sum_by-cons (λ x. x) n ns)
-
 -- lists made of the same words fit where each does
 pub Fit-map : (F : List ℕ → ℕ) (G : List ℕ → List ℕ) (words : List (List ℕ)) → ((word : List ℕ) → length (G word) ≤ F word) → Fit (map F words) (map G words)
 Fit-map F G [] each = tt

@@ -15,16 +15,17 @@ use Rattle.keyed_fn.specs.KeyFormulas.{part_key, list_label, block_pad}
 use Rattle.keyed_fn.specs.Xored.{xored}
 use Rattle.two_level.specs.Laid.{Laid, laid, cell_bytes}
 use Rattle.two_level.specs.Plan.{plan, block_count}
-use Rattle.client_registry.specs.Acceptance.{blocks_of}
+use Rattle.client_registry.specs.Acceptance.{blocks_of, padded_blocks}
 use Rattle.client_registry.specs.Document.{Document}
 use Rattle.client_registry.specs.Documents.{ids_with, list_lengths, words_of}
 use Rattle.client_registry.specs.Setup.{Setup, setup_words}
 use Rattle.sse_frames.specs.Frames.{entry_bytes}
 use Rattle.sse_frames.specs.Order.{by_bytes}
 use Rattle.sse_model.proofs.Counts.{length-block_positions}
+use Rattle.sse_model.proofs.NoDummies.{entry_positions-alone, block_positions-alone}
 use Rattle.sse_model.specs.Positions.{Position, block_position, entry_position, entries_from, blocks_from, ranks_of, block_positions, block_text, cell_text, sealed, word_blocks}
 use Rattle.word_keys.specs.PadName.{PadName, cell_name, name_after, named_pad}
-use Rattle.index_setup.specs.Entries.{index_tags, key_table, setup_ranks}
+use Rattle.index_setup.specs.Entries.{index_tags, key_table, setup_blocks, setup_entries, setup_ranks}
 use Rattle.index_setup.specs.Placed.{block_texts, placed}
 use Rattle.tag_order.specs.Tagged.{tagged_from}
 use Rattle.index_setup.proofs.RankWrites.{length-ranks_of, position_at_rank}
@@ -82,7 +83,7 @@ module _ (f : KeyedFn) (key : List ℕ) (s : Setup) where
     pub entries_are : placed entries (drop w word_ranks) (entry_texts (blocks_before w) (drop w (setup_words s))) ≡ placed first_entries word_ranks (entry_texts 0 (setup_words s))
     pub array_are : placed array ranks (array_texts (blocks_before w) (drop w (setup_words s))) ≡ placed first_array (setup_ranks f key s) (array_texts 0 (setup_words s))
 
-  pub length-setup_ranks : length (setup_ranks f key s) ≡ blocks_of s
+  pub length-setup_ranks : length (setup_ranks f key s) ≡ padded_blocks s
   length-setup_ranks =
       length-ranks_of (index_tags f key s) ∙ length-map (block_positions 0 s) (λ p. key_table f key s p.label) ∙ length-block_positions 0 s
 
@@ -99,14 +100,14 @@ module _ (f : KeyedFn) (key : List ℕ) (s : Setup) where
   blocks_by_word : blocks_of s ≡ sum_by (word_blocks s) (setup_words s)
   blocks_by_word = fold-map (λ a n. a + block_count (plan s.shape n)) (λ w. length (ids_with s.documents w)) 0 (setup_words s)
 
-  -- at the end nothing is left
-  pub all_written : (w : ℕ) (ids ranks : List ℕ) (entries array first_entries first_array : List (List ℕ)) (word_ranks : List ℕ) → length (setup_words s) ≤ w
+  -- at the end nothing is left; at a Q of 1 these are all entries and blocks
+  pub all_written : s.pad ≡ 1 → (w : ℕ) (ids ranks : List ℕ) (entries array first_entries first_array : List (List ℕ)) (word_ranks : List ℕ) → length (setup_words s) ≤ w
       → Remains w ids ranks entries array first_entries first_array word_ranks
-      → (entries ≡ placed first_entries word_ranks (entry_texts 0 (setup_words s))) × (array ≡ placed first_array (setup_ranks f key s) (array_texts 0 (setup_words s)))
-  all_written w ids ranks entries array first_entries first_array word_ranks all left =
+      → (entries ≡ placed first_entries word_ranks (map entry_bytes (setup_entries f key s))) × (array ≡ placed first_array (setup_ranks f key s) (map (λ block. block.text) (setup_blocks f key s)))
+  all_written alone w ids ranks entries array first_entries first_array word_ranks all left =
       let none : drop w (setup_words s) ≡ [] = drop_all w (setup_words s) all in (
-        sym (placed-none entries (drop w word_ranks)) ∙ ap (λ ws. placed entries (drop w word_ranks) (entry_texts (blocks_before w) ws)) (sym none) ∙ left.entries_are,
-        sym (placed-none array ranks) ∙ ap (λ ws. placed array ranks (array_texts (blocks_before w) ws)) (sym none) ∙ left.array_are,
+        sym (placed-none entries (drop w word_ranks)) ∙ ap (λ ws. placed entries (drop w word_ranks) (entry_texts (blocks_before w) ws)) (sym none) ∙ left.entries_are ∙ ap (λ ps. placed first_entries word_ranks (map entry_bytes (map (sealed (key_table f key s) (setup_ranks f key s)) ps))) (sym (entry_positions-alone 0 s alone)),
+        sym (placed-none array ranks) ∙ ap (λ ws. placed array ranks (array_texts (blocks_before w) ws)) (sym none) ∙ left.array_are ∙ ap (λ ps. placed first_array (setup_ranks f key s) (map (λ block. block.text) (map (sealed (key_table f key s) (setup_ranks f key s)) ps))) (sym (block_positions-alone 0 s alone)),
       )
 
   -- the blocks of one word in front of the others
@@ -159,7 +160,7 @@ module _ (f : KeyedFn) (key : List ℕ) (s : Setup) where
       pub ranks_enough : (count : ℕ) → count ≡ word_blocks s word_at → count ≤ length ranks
       ranks_enough count is = omega (arith, is, ranks_long)
 
-      pub ranks_few : (count : ℕ) → count ≡ word_blocks s word_at → count ≤ blocks_of s
+      pub ranks_few : (count : ℕ) → count ≡ word_blocks s word_at → count ≤ padded_blocks s
       ranks_few count is = omega (arith, is, before_within, length-setup_ranks)
 
       -- each place of its blocks is one of the array
@@ -187,12 +188,6 @@ module _ (f : KeyedFn) (key : List ℕ) (s : Setup) where
 
         own_pads : pads ≡ cell_name (part_key f key 2 word_at)
         own_pads = pads_are ∙ ap (λ bs. cell_name (part_key f key 2 bs)) bytes_are
-
-        pub list_long : length list ≡ n
-        list_long = ap length own_list ∙ sym n_is
-
-        pub places_few : length places ≡ count
-        places_few = as_many ∙ sym count_is
 
         -- the entry is the word's
         entry_is : (label text : List ℕ) → label ≡ list_label f (part_key f key 1 word_at)

@@ -29,9 +29,6 @@ length-put_mid a k xs ys within size =
 suc_le : (a b : ℕ) → a < b → a + 1 ≤ b
 suc_le a b less = omega arith
 
-slot_of : (size r n : ℕ) → r < div_ceil n size → 0 < size → r * size < n
-slot_of size r n within some = omega (arith, (div_ceil_times n size some).1, mul-le-mul_right size (suc_le r (div_ceil n size) within))
-
 -- bytes written over one slot of their parts
 pub parts-put_mid : (size r : ℕ) (bytes new : List ℕ) → 0 < size → (r + 1) * size ≤ length bytes → length new ≡ size
     → parts size (put_mid (r * size) (r * size + size - r * size) bytes new) ≡ set (parts size bytes) r new
@@ -101,10 +98,6 @@ placed-more slots (r ∷ rs) (t ∷ ts) (suc i) d ranked written =
 pub block_text-laid : (i : ℕ) (o : Option Laid) (bytes : List ℕ) → option_map (block_bytes i) o ≡ Some bytes → block_text i o ≡ bytes
 block_text-laid i None bytes is = absurd (cc)
 block_text-laid i (Some l) bytes is = cc
-
-pub cell_text-laid : (o : Option Laid) (bytes : List ℕ) → option_map cell_bytes o ≡ Some bytes → cell_text o ≡ bytes
-cell_text-laid None bytes is = absurd (cc)
-cell_text-laid (Some l) bytes is = cc
 
 -- the label and the encrypted cell after it
 pub entry_written : (o : Option Laid) (label copied out cell encrypted : List ℕ) (size : ℕ) (pad : ℕ → List ℕ) → copied ≡ label → length label ≡ 16

@@ -8,8 +8,8 @@ use Rattle.std.proofs.lemmas.List.{length-map}
 use Rattle.keyed_fn.specs.KeyedFn.{KeyedFn}
 use Rattle.list_packing.specs.Parts.{parts}
 use Rattle.list_packing.proofs.PartsLemmas.{length-parts, div_ceil-le}
-use Rattle.client_registry.specs.Acceptance.{blocks_of}
-use Rattle.client_registry.specs.Setup.{Setup, setup_words}
+use Rattle.client_registry.specs.Acceptance.{padded_words, padded_blocks}
+use Rattle.client_registry.specs.Setup.{Setup}
 use Rattle.sse_frames.specs.Frames.{Entry, entry_bytes}
 use Rattle.sse_frames.specs.Order.{by_bytes}
 use Rattle.sse_model.proofs.Counts.{length-block_positions, length-entry_positions}
@@ -46,31 +46,31 @@ module _ (f : KeyedFn) (key : List ℕ) (s : Setup) where
   pub index_tags-blocks : index_tags f key s ≡ map (λ block. block.label) (setup_blocks f key s)
   index_tags-blocks = labels-sealed (setup_ranks f key s) (block_positions 0 s)
 
-  pub length-setup_entries : length (setup_entries f key s) ≡ length (setup_words s)
+  pub length-setup_entries : length (setup_entries f key s) ≡ padded_words s
   length-setup_entries = length-map (entry_positions 0 s) (sealed (key_table f key s) (setup_ranks f key s)) ∙ length-entry_positions 0 s
 
-  pub length-setup_blocks : length (setup_blocks f key s) ≡ blocks_of s
+  pub length-setup_blocks : length (setup_blocks f key s) ≡ padded_blocks s
   length-setup_blocks = length-map (block_positions 0 s) (sealed (key_table f key s) (setup_ranks f key s)) ∙ length-block_positions 0 s
 
-  pub dictionary-placed : (first bytes ranks : List ℕ) → length first ≡ length (setup_words s) * (17 + 8 * s.shape.b) → ranks ≡ ranks_of (index_labels f key s)
+  pub dictionary-placed : (first bytes ranks : List ℕ) → length first ≡ padded_words s * (17 + 8 * s.shape.b) → ranks ≡ ranks_of (index_labels f key s)
       → parts (17 + 8 * s.shape.b) bytes ≡ placed (parts (17 + 8 * s.shape.b) first) ranks (map entry_bytes (setup_entries f key s))
       → bytes ≡ dictionary_bytes f key s
   dictionary-placed first bytes ranks whole are written =
       let size : ℕ = 17 + 8 * s.shape.b in
       let es = setup_entries f key s in
-      let slots : length (parts size first) ≡ length es = whole_parts size (length (setup_words s)) first (omega arith) whole ∙ sym length-setup_entries in
+      let slots : length (parts size first) ≡ length es = whole_parts size (padded_words s) first (omega arith) whole ∙ sym length-setup_entries in
       joined-placed size bytes entry_bytes (by_bytes (λ entry. entry.label) es) (omega arith)
       (written
       ∙ ap (λ rs. placed (parts size first) rs (map entry_bytes es)) (are ∙ ap ranks_of index_labels-entries)
       ∙ placed-by_bytes none (λ entry. entry.label) entry_bytes (parts size first) es slots)
 
-  pub array-placed : (first bytes ranks : List ℕ) → 1 ≤ s.shape.big → length first ≡ blocks_of s * (8 * s.shape.big) → ranks ≡ setup_ranks f key s
+  pub array-placed : (first bytes ranks : List ℕ) → 1 ≤ s.shape.big → length first ≡ padded_blocks s * (8 * s.shape.big) → ranks ≡ setup_ranks f key s
       → parts (8 * s.shape.big) bytes ≡ placed (parts (8 * s.shape.big) first) ranks (map (λ block. block.text) (setup_blocks f key s))
       → bytes ≡ array_bytes f key s
   array-placed first bytes ranks some whole are written =
       let size : ℕ = 8 * s.shape.big in
       let bs = setup_blocks f key s in
-      let slots : length (parts size first) ≡ length bs = whole_parts size (blocks_of s) first (omega (arith, some)) whole ∙ sym length-setup_blocks in
+      let slots : length (parts size first) ≡ length bs = whole_parts size (padded_blocks s) first (omega (arith, some)) whole ∙ sym length-setup_blocks in
       joined-placed size bytes (λ block. block.text) (by_bytes (λ block. block.label) bs) (omega (arith, some))
       (written
       ∙ ap (λ rs. placed (parts size first) rs (map (λ block. block.text) bs)) (are ∙ ap ranks_of index_tags-blocks)

@@ -1,4 +1,6 @@
+pub mod Built
 pub mod Entries
+pub mod IndexView
 pub mod Lists
 pub mod Placed
 pub mod Refused

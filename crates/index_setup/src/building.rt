@@ -44,8 +44,8 @@ pub fn build<K: Keyed>(
     ensures accepted { IfOk result (λ _. build_refusal (keyed_fn K.prf K.pad) key.now docs.now.documents b big ≡ None) }
 
     // The index is the one of the definitions.
-    ensures entries { IfOk result (λ index. index.entries.items ≡ dictionary_bytes (keyed_fn K.prf K.pad) key.now (setup_of docs.now.documents b big)) }
-    ensures array { IfOk result (λ index. index.array.items ≡ array_bytes (keyed_fn K.prf K.pad) key.now (setup_of docs.now.documents b big)) }
+    ensures entries { IfOk result (λ index. index.entries ≡ dictionary_bytes (keyed_fn K.prf K.pad) key.now (setup_of docs.now.documents b big)) }
+    ensures array { IfOk result (λ index. index.array ≡ array_bytes (keyed_fn K.prf K.pad) key.now (setup_of docs.now.documents b big)) }
     ensures words { IfOk result (λ index. index.words ≡ length (words_of docs.now.documents)) }
     ensures blocks { IfOk result (λ index. index.blocks ≡ blocks_of (setup_of docs.now.documents b big)) }
     ensures b { IfOk result (λ index. index.b ≡ b) }
@@ -130,8 +130,8 @@ fn write_index<K: Keyed>(
     requires accepted { setup_refusal docs.now.documents shape.b shape.big ≡ None }
     requires labels { IsOrderOf (index_labels (keyed_fn K.prf K.pad) master.now (setup_of docs.now.documents shape.b shape.big)) labels.now }
     requires block_ranks { block_ranks.now ≡ setup_ranks (keyed_fn K.prf K.pad) master.now (setup_of docs.now.documents shape.b shape.big) }
-    ensures entries { IfOk result (λ index. index.entries.items ≡ dictionary_bytes (keyed_fn K.prf K.pad) master.now (setup_of docs.now.documents shape.b shape.big)) }
-    ensures array { IfOk result (λ index. index.array.items ≡ array_bytes (keyed_fn K.prf K.pad) master.now (setup_of docs.now.documents shape.b shape.big)) }
+    ensures entries { IfOk result (λ index. index.entries ≡ dictionary_bytes (keyed_fn K.prf K.pad) master.now (setup_of docs.now.documents shape.b shape.big)) }
+    ensures array { IfOk result (λ index. index.array ≡ array_bytes (keyed_fn K.prf K.pad) master.now (setup_of docs.now.documents shape.b shape.big)) }
     ensures words { IfOk result (λ index. index.words ≡ length (words_of docs.now.documents)) }
     ensures blocks { IfOk result (λ index. index.blocks ≡ blocks_of (setup_of docs.now.documents shape.b shape.big)) }
     ensures b { IfOk result (λ index. index.b ≡ shape.b) }

@@ -1,7 +1,9 @@
 ghost use Rattle.std.specs.Prelude.{◌≡◌, ◌+◌, ◌*◌, ◌<◌, ◌≤◌, ◌^◌, ◌++◌, [], length, slice_index_or, vec_len};
 ghost use Rattle.list_packing.specs.Parts.{parts};
+ghost use Rattle.index_setup.specs.Built.{IsIndex};
 
 use list_packing::part;
+use std::marker::Model;
 
 /// The index of a setup: for each word its label and encrypted cell, by rising label, and the encrypted blocks of the
 /// longer lists by rising place tag. What it hands out takes no memory.
@@ -13,14 +15,18 @@ pub struct Index {
     blocks: u32,
     entries: Vec<u8>,
     array: Vec<u8>,
-    pub ghost some: { 1 ≤ b },
-    pub ghost cell: { b ≤ 64 },
-    pub ghost block_some: { 1 ≤ big },
-    pub ghost block: { big ≤ 256 },
-    pub ghost most: { words ≤ 2 ^ 20 },
-    pub ghost few_blocks: { blocks ≤ 2 ^ 20 },
-    pub ghost whole: { vec_len entries ≡ words * (17 + 8 * b) },
-    pub ghost array_whole: { vec_len array ≡ blocks * (8 * big) },
+}
+
+impl Model for Index {
+    ghost use Rattle.index_setup.specs.Built.{Built, IsIndex};
+
+    ghost Value = { Built };
+
+    ghost use Rattle.index_setup.specs.IndexView.{index_of};
+
+    ghost view = { index_of };
+
+    ghost invariant = { λ i. IsIndex (index_of i) };
 }
 
 impl Index {
@@ -45,8 +51,8 @@ impl Index {
         ensures big { result.big ≡ big }
         ensures words { result.words ≡ words }
         ensures blocks { result.blocks ≡ blocks }
-        ensures entries { result.entries ≡ entries }
-        ensures array { result.array ≡ array }
+        ensures entries { result.entries ≡ entries.items }
+        ensures array { result.array ≡ array.items }
     {
         Index {
             b,
@@ -74,14 +80,16 @@ impl Index {
 
     /// How many words, and so entries, it has; at most 2^20.
     pub fn words(&self) -> u32
-        ensures { result ≡ self.now.words }
+        ensures count { result ≡ self.now.words }
+        ensures limits { IsIndex self.now }
     {
         self.words
     }
 
     /// How many blocks it has.
     pub fn blocks(&self) -> u32
-        ensures { result ≡ self.now.blocks }
+        ensures count { result ≡ self.now.blocks }
+        ensures limits { IsIndex self.now }
     {
         self.blocks
     }
@@ -103,7 +111,7 @@ impl Index {
     /// The label of 16 bytes and the encrypted cell of entry `i`, from 0, by rising label.
     pub fn entry(&self, i: u32) -> (&[u8], &[u8])
         requires { i < self.now.words }
-        ensures entry { result.0.now ++ result.1.now ≡ slice_index_or (parts (17 + 8 * self.now.b) self.now.entries.items) i [] }
+        ensures entry { result.0.now ++ result.1.now ≡ slice_index_or (parts (17 + 8 * self.now.b) self.now.entries) i [] }
         ensures label { length result.0.now ≡ 16 }
     {
         part(&self.entries, 17 + 8 * self.b as usize, i as usize).split_at(16)
@@ -112,21 +120,23 @@ impl Index {
     /// The encrypted block at place `i`, from 0, by rising place tag.
     pub fn block(&self, i: u32) -> &[u8]
         requires { i < self.now.blocks }
-        ensures { result.now ≡ slice_index_or (parts (8 * self.now.big) self.now.array.items) i [] }
+        ensures { result.now ≡ slice_index_or (parts (8 * self.now.big) self.now.array) i [] }
     {
         part(&self.array, 8 * self.big as usize, i as usize)
     }
 
     /// The entries by rising label, joined: for each word its label of 16 bytes, then its encrypted cell.
     pub fn entries(&self) -> &[u8]
-        ensures { result.now ≡ self.now.entries.items }
+        ensures bytes { result.now ≡ self.now.entries }
+        ensures limits { IsIndex self.now }
     {
         &self.entries
     }
 
     /// The encrypted blocks by rising place tag, joined.
     pub fn array(&self) -> &[u8]
-        ensures { result.now ≡ self.now.array.items }
+        ensures bytes { result.now ≡ self.now.array }
+        ensures limits { IsIndex self.now }
     {
         &self.array
     }

@@ -1,4 +1,4 @@
-use Rattle.std.proofs.Common.{◌≡◌, ℕ, List, None, Some, Ok, Err, sym, ap, subst, ◌∙◌, arith}
+use Rattle.std.proofs.Common.{◌≡◌, ℕ, List, None, Some, Ok, Err, refl, sym, ap, subst, ◌∙◌, arith}
 use Rattle.std.specs.Prelude.{IfSome, Result, option_map}
 use Rattle.std.specs.Option.{option_or}
 use Rattle.std.proofs.lemmas.Result.{err_from_is_err_and}
@@ -25,8 +25,8 @@ use Rattle.index_setup.proofs.RankWrites.{length-sorted, positions_within}
 use Rattle.index_setup.proofs.building.build.Goals as goal
 
 -- the clash of the words' labels is the setup's
-labels_is : (f : KeyedFn) (key master : List ℕ) (s : Setup) → master ≡ key → first_clash (word_labels f master (words_of s.documents)) ≡ label_clash f key s
-labels_is f key master s same = ap (λ k. first_clash (word_labels f k (words_of s.documents))) same ∙ ap first_clash (sym (index_labels-are f key s))
+labels_is : (f : KeyedFn) (key master : List ℕ) (s : Setup) → s.pad ≡ 1 → master ≡ key → first_clash (word_labels f master (words_of s.documents)) ≡ label_clash f key s
+labels_is f key master s alone same = ap (λ k. first_clash (word_labels f k (words_of s.documents))) same ∙ ap first_clash (sym (index_labels-are f key s alone))
 
 -- and that of the places
 places_is : (f : KeyedFn) (key master : List ℕ) (docs : List Document) (shape shape' : Shape) → master ≡ key → shape' ≡ shape
@@ -34,13 +34,13 @@ places_is : (f : KeyedFn) (key master : List ℕ) (docs : List Document) (shape 
 places_is f key master docs shape shape' same is = λ i. place_clash f (same i) (setup_of docs (is i).b (is i).big)
 
 -- no labels are equal that a test of them found none of
-label_none : (f : KeyedFn) (key master : List ℕ) (s : Setup) → master ≡ key → (labels seen : List Tagged) → seen ≡ labels
+label_none : (f : KeyedFn) (key master : List ℕ) (s : Setup) → s.pad ≡ 1 → master ≡ key → (labels seen : List Tagged) → seen ≡ labels
     → IsOrderOf (word_labels f master (words_of s.documents)) labels
     → ((tags : List (List ℕ)) → IsOrderOf tags seen → None ≡ option_map (λ (words : ℕ × ℕ). LabelClash words.0 words.1) (first_clash tags))
     → label_clash f key s ≡ None
-label_none f key master s same labels seen is order none =
+label_none f key master s alone same labels seen is order none =
     let own = word_labels f master (words_of s.documents) in
-    sym (labels_is f key master s same) ∙ unmapped (λ words. LabelClash words.0 words.1) (first_clash own) (sym (none own (subst (IsOrderOf own) (sym is) order)))
+    sym (labels_is f key master s alone same) ∙ unmapped (λ words. LabelClash words.0 words.1) (first_clash own) (sym (none own (subst (IsOrderOf own) (sym is) order)))
 
 -- a setup whose size is told is accepted
 accepted_as : (docs : List Document) (b big : ℕ) (size : Size) → size.shape ≡ record { b = b; big = big }
@@ -71,7 +71,7 @@ returns-in_err-labels_differ-clause-clash g c = λ _ differ.
     let x = c.in_err-labels_differ.field-0.0 in
     let own = word_labels f c.prepare-master.result (words_of c.args.docs.now.documents) in
     let is = c.in_err-labels_differ.ensures own (subst (IsOrderOf own) (sym c.deref.ensures.value) c.in_ok-labels.ensures) in
-    let named = labels_named x (label_clash f c.args.key.now s) (place_clash f c.args.key.now s) (is ∙ ap (option_map (λ words. LabelClash words.0 words.1)) (labels_is f c.args.key.now c.prepare-master.result s c.prepare-master.ensures)) in
+    let named = labels_named x (label_clash f c.args.key.now s) (place_clash f c.args.key.now s) (is ∙ ap (option_map (λ words. LabelClash words.0 words.1)) (labels_is f c.args.key.now c.prepare-master.result s refl c.prepare-master.ensures)) in
     subst (λ o. IfSome o (λ fault. c.from_residual-in_err-labels_differ.result ≡ Err fault)) (sym named) (told.1 ∙ ap (λ e. Err e) told.2)
 
 pub returns-in_err-labels_differ-clause-built : goal.returns-in_err-labels_differ-clause-built
@@ -82,7 +82,7 @@ returns-in_err-labels_differ-clause-built g c = λ clear.
     let x = c.in_err-labels_differ.field-0.0 in
     let own = word_labels f c.prepare-master.result (words_of docs) in
     let is = c.in_err-labels_differ.ensures own (subst (IsOrderOf own) (sym c.deref.ensures.value) c.in_ok-labels.ensures) in
-    let named = labels_named x (label_clash f c.args.key.now s) (place_clash f c.args.key.now s) (is ∙ ap (option_map (λ words. LabelClash words.0 words.1)) (labels_is f c.args.key.now c.prepare-master.result s c.prepare-master.ensures)) in
+    let named = labels_named x (label_clash f c.args.key.now s) (place_clash f c.args.key.now s) (is ∙ ap (option_map (λ words. LabelClash words.0 words.1)) (labels_is f c.args.key.now c.prepare-master.result s refl c.prepare-master.ensures)) in
     let rest = second_none (option_map refused_by_size (setup_refusal docs c.args.b c.args.big)) (clash_refusal f c.args.key.now s) clear in
     absurd (cc (named, rest))
 
@@ -96,7 +96,7 @@ returns-in_err-places_differ-clause-clash g c = λ _ differ.
     let shape = c.in_ok-size.size.shape in
     let own = index_tags f c.prepare-master.result (setup_of docs shape.b shape.big) in
     let is = c.in_err-places_differ.ensures own (subst (IsOrderOf own) (sym c.deref-2.ensures.value) c.in_ok-tags.ensures) in
-    let none = label_none f c.args.key.now c.prepare-master.result s c.prepare-master.ensures c.in_ok-labels.labels.items c.deref.result.now c.deref.ensures.value c.in_ok-labels.ensures c.in_ok-labels_differ.ensures in
+    let none = label_none f c.args.key.now c.prepare-master.result s refl c.prepare-master.ensures c.in_ok-labels.labels.items c.deref.result.now c.deref.ensures.value c.in_ok-labels.ensures c.in_ok-labels_differ.ensures in
     let named = places_named x (label_clash f c.args.key.now s) (place_clash f c.args.key.now s) none (is ∙ ap (option_map (λ blocks. PlaceClash blocks.0 blocks.1)) (places_is f c.args.key.now c.prepare-master.result docs (record { b = c.args.b; big = c.args.big }) shape c.prepare-master.ensures c.in_ok-size.ensures.shape)) in
     subst (λ o. IfSome o (λ fault. c.from_residual-in_err-places_differ.result ≡ Err fault)) (sym named) (told.1 ∙ ap (λ e. Err e) told.2)
 
@@ -109,7 +109,7 @@ returns-in_err-places_differ-clause-built g c = λ clear.
     let shape = c.in_ok-size.size.shape in
     let own = index_tags f c.prepare-master.result (setup_of docs shape.b shape.big) in
     let is = c.in_err-places_differ.ensures own (subst (IsOrderOf own) (sym c.deref-2.ensures.value) c.in_ok-tags.ensures) in
-    let none = label_none f c.args.key.now c.prepare-master.result s c.prepare-master.ensures c.in_ok-labels.labels.items c.deref.result.now c.deref.ensures.value c.in_ok-labels.ensures c.in_ok-labels_differ.ensures in
+    let none = label_none f c.args.key.now c.prepare-master.result s refl c.prepare-master.ensures c.in_ok-labels.labels.items c.deref.result.now c.deref.ensures.value c.in_ok-labels.ensures c.in_ok-labels_differ.ensures in
     let named = places_named x (label_clash f c.args.key.now s) (place_clash f c.args.key.now s) none (is ∙ ap (option_map (λ blocks. PlaceClash blocks.0 blocks.1)) (places_is f c.args.key.now c.prepare-master.result docs (record { b = c.args.b; big = c.args.big }) shape c.prepare-master.ensures c.in_ok-size.ensures.shape)) in
     let rest = second_none (option_map refused_by_size (setup_refusal docs c.args.b c.args.big)) (clash_refusal f c.args.key.now s) clear in
     absurd (cc (named, rest))
@@ -122,7 +122,7 @@ write_index-requires-clause-labels g c =
     let f = keyed_fn g.K.Keyed.prf g.K.Keyed.pad in
     let s = setup_of c.args.docs.now.documents c.in_ok-size.size.shape.b c.in_ok-size.size.shape.big in
     subst (IsOrderOf (index_labels f c.prepare-master.result s)) (sym c.deref-4.ensures.value)
-    (subst (λ labels. IsOrderOf labels c.in_ok-labels.labels.items) (sym (index_labels-are f c.prepare-master.result s)) c.in_ok-labels.ensures)
+    (subst (λ labels. IsOrderOf labels c.in_ok-labels.labels.items) (sym (index_labels-are f c.prepare-master.result s refl)) c.in_ok-labels.ensures)
 
 pub write_index-requires-clause-block_ranks : goal.write_index-requires-clause-block_ranks
 write_index-requires-clause-block_ranks g c =
@@ -138,7 +138,7 @@ returns-clause-accepted g c =
     let docs = c.args.docs.now.documents in
     let s = setup_of docs c.args.b c.args.big in
     let shape = c.in_ok-size.size.shape in
-    let none = label_none f c.args.key.now c.prepare-master.result s c.prepare-master.ensures c.in_ok-labels.labels.items c.deref.result.now c.deref.ensures.value c.in_ok-labels.ensures c.in_ok-labels_differ.ensures in
+    let none = label_none f c.args.key.now c.prepare-master.result s refl c.prepare-master.ensures c.in_ok-labels.labels.items c.deref.result.now c.deref.ensures.value c.in_ok-labels.ensures c.in_ok-labels_differ.ensures in
     let own = index_tags f c.prepare-master.result (setup_of docs shape.b shape.big) in
     let no_places : place_clash f c.args.key.now s ≡ None =
     sym (places_is f c.args.key.now c.prepare-master.result docs (record { b = c.args.b; big = c.args.big }) shape c.prepare-master.ensures c.in_ok-size.ensures.shape)

@@ -1,4 +1,3 @@
-use Rattle.std.proofs.Common.{List, ℕ}
 use Rattle.keyed_fn.specs.KeyedFn.{keyed_fn}
 use Rattle.client_registry.specs.Documents.{words_of}
 use Rattle.index_setup.specs.Entries.{word_labels}

@@ -1,4 +1,4 @@
-use Rattle.std.proofs.Common.{◌≡◌, ◌≤◌, ◌^◌, ℕ, List, length, None, sym, ap, ◌∙◌, arith}
+use Rattle.std.proofs.Common.{◌≡◌, ◌≤◌, ◌^◌, ℕ, List, length, None, refl, sym, ap, ◌∙◌, arith}
 use Rattle.std.proofs.lemmas.List.{length-map}
 use Rattle.keyed_fn.specs.KeyedFn.{KeyedFn, keyed_fn}
 use Rattle.client_registry.specs.Acceptance.{setup_refusal}
@@ -19,10 +19,10 @@ pub tags_of-requires-clause-most : goal.tags_of-requires-clause-most
 tags_of-requires-clause-most g c =
     let f = keyed_fn g.K.Keyed.prf g.K.Keyed.pad in
     let s = setup_of c.args.docs.now.documents c.args.size.shape.b c.args.size.shape.big in
-    omega (arith, tags_within f c.args.master.now s c.requires, ap length (index_tags-are f c.args.master.now s))
+    omega (arith, tags_within f c.args.master.now s c.requires, ap length (index_tags-are f c.args.master.now s refl))
 
 pub returns : goal.returns
 returns g c =
     let f = keyed_fn g.K.Keyed.prf g.K.Keyed.pad in
     let s = setup_of c.args.docs.now.documents c.args.size.shape.b c.args.size.shape.big in
-    c.by_tag.ensures.order (index_tags f c.args.master.now s) (c.in_ok-tags_of.ensures ∙ ap (tagged_from 0) (sym (index_tags-are f c.args.master.now s)))
+    c.by_tag.ensures.order (index_tags f c.args.master.now s) (c.in_ok-tags_of.ensures ∙ ap (tagged_from 0) (sym (index_tags-are f c.args.master.now s refl)))

@@ -1,7 +1,7 @@
 use borrow.Rule.Slice.PartMut.{put_mid}
 use Rattle.std.proofs.Common.{set, ◌≡◌, ◌+◌, ◌-◌, ◌*◌, ◌<◌, ◌≤◌, ℕ, List, [], length, take, drop, get_or, map, refl, sym, ap, subst, ◌∙◌, arith}
 use Rattle.std.specs.Prelude.{IsSome, None, Some, slice_get}
-use Rattle.client_registry.specs.Acceptance.{setup_refusal}
+use Rattle.client_registry.specs.Acceptance.{size_refusal}
 use Rattle.index_setup.proofs.AcceptedLaws.{ArePlanned-accepted}
 use Rattle.sse_model.proofs.BlocksWithin.{blocks_within}
 use Rattle.std.proofs.Math.Nat.{mul-le-mul_right}
@@ -42,7 +42,7 @@ split_at-requires g c =
     c.list_len-n.result (list_at docs c.loop-w.w c.list_len-n.result within c.list_len-n.ensures.length)
 
 -- the list of the word at w isn't too long
-planned_at : (s : Setup) (w n : ℕ) → setup_refusal s.documents s.shape.b s.shape.big ≡ None → w < length (setup_words s) → slice_get (list_lengths s.documents) w ≡ Some n → IsSome (plan s.shape n)
+planned_at : (s : Setup) (w n : ℕ) → size_refusal s ≡ None → w < length (setup_words s) → slice_get (list_lengths s.documents) w ≡ Some n → IsSome (plan s.shape n)
 planned_at s w n accepted within at =
     let inside : w < length (list_lengths s.documents) = omega (arith, length-map (setup_words s) (λ word. length (ids_with s.documents word)), within) in
     subst (λ k. IsSome (plan s.shape k)) (get_or_from_slice_get (list_lengths s.documents) w n 0 at) (ArePlanned-accepted s accepted w 0 inside)
@@ -62,24 +62,24 @@ split_at-requires-in-loop-w g c =
     c.blocks_in.result (c.blocks_in.ensures ∙ ap (λ n. block_count (plan s.shape n)) (list_at docs c.loop-w.w c.list_len-n.result within c.list_len-n.ensures.length))
 
 -- there is a rank for each word
-ranked : (f : KeyedFn) (key : List ℕ) (s : Setup) (ranks : List ℕ) → ranks ≡ ranks_of (index_labels f key s) → length ranks ≡ length (setup_words s)
-ranked f key s ranks are =
-    ap length are ∙ length-ranks_of (index_labels f key s) ∙ ap length (index_labels-are f key s) ∙ length-map (setup_words s) (λ word. list_label f (part_key f key 1 word))
+ranked : (f : KeyedFn) (key : List ℕ) (s : Setup) → s.pad ≡ 1 → (ranks : List ℕ) → ranks ≡ ranks_of (index_labels f key s) → length ranks ≡ length (setup_words s)
+ranked f key s alone ranks are =
+    ap length are ∙ length-ranks_of (index_labels f key s) ∙ ap length (index_labels-are f key s alone) ∙ length-map (setup_words s) (λ word. list_label f (part_key f key 1 word))
 
 -- and at it among the sorted the word's label
-labelled : (f : KeyedFn) (key : List ℕ) (s : Setup) (sorted : List Tagged) (ranks : List ℕ) (w : ℕ) → IsOrderOf (index_labels f key s) sorted
+labelled : (f : KeyedFn) (key : List ℕ) (s : Setup) → s.pad ≡ 1 → (sorted : List Tagged) (ranks : List ℕ) (w : ℕ) → IsOrderOf (index_labels f key s) sorted
     → ranks ≡ ranks_of (index_labels f key s) → w < length (setup_words s)
     → (get_or ranks w 0 < length (setup_words s)) × (get_or ranks w 0 < length sorted) × ((at sorted (get_or ranks w 0)).tag ≡ list_label f (part_key f key 1 (get_or (setup_words s) w [])))
-labelled f key s sorted ranks w order are within =
+labelled f key s alone sorted ranks w order are within =
     let labels = index_labels f key s in
-    let count : length labels ≡ length (setup_words s) = ap length (index_labels-are f key s) ∙ length-map (setup_words s) (λ word. list_label f (part_key f key 1 word)) in
+    let count : length labels ≡ length (setup_words s) = ap length (index_labels-are f key s alone) ∙ length-map (setup_words s) (λ word. list_label f (part_key f key 1 word)) in
     let place = position_at_rank labels sorted order w (omega (arith, count, within)) in
     let rank : get_or ranks w 0 ≡ get_or (ranks_of labels) w 0 = ap (λ rs. get_or rs w 0) are in (
       omega (arith, rank, place.0, count),
       omega (arith, rank, place.0, length-sorted labels sorted order),
       ap (λ r. (at sorted r).tag) rank
           ∙ ap (λ e. e.tag) place.1
-          ∙ ap (λ ls. get_or ls w []) (index_labels-are f key s)
+          ∙ ap (λ ls. get_or ls w []) (index_labels-are f key s alone)
           ∙ get_or-map (λ word. list_label f (part_key f key 1 word)) (setup_words s) w [] [] within,
     )
 
@@ -87,7 +87,7 @@ pub bounds-from-w : goal.bounds-from-w
 bounds-from-w g c =
     let f = keyed_fn g.K.Keyed.prf g.K.Keyed.pad in
     let s = setup_of c.args.docs.now.documents c.args.shape.b c.args.shape.big in
-    omega (arith, ranked f c.args.master.now s c.args.from.word_ranks.now c.requires.word_ranks, c.words-w-end.ensures.words, c.loop-w-test.true)
+    omega (arith, ranked f c.args.master.now s refl c.args.from.word_ranks.now c.requires.word_ranks, c.words-w-end.ensures.words, c.loop-w-test.true)
 
 -- an entry written over its slot
 entry_put : (r size z y : ℕ) (bytes new : List ℕ) → z ≡ size → y ≡ size → (r + 1) * size ≤ length bytes → length new ≡ length (take (r * z + y - r * z) (drop (r * z) bytes))
@@ -110,7 +110,7 @@ slice_bounds-entry-end g c =
     let s = setup_of docs c.args.shape.b c.args.shape.big in
     let size = 17 + 8 * c.args.shape.b in
     let within : c.loop-w.w < length (words_of docs) = omega (arith, c.words-w-end.ensures.words, c.loop-w-test.true) in
-    let place = labelled f c.args.master.now s c.args.from.labels.now c.args.from.word_ranks.now c.loop-w.w c.requires.labels c.requires.word_ranks within in
+    let place = labelled f c.args.master.now s refl c.args.from.labels.now c.args.from.word_ranks.now c.loop-w.w c.requires.labels c.requires.word_ranks within in
     let r : ℕ = get_or c.args.from.word_ranks.now c.loop-w.w 0 in
     let room : (r + 1) * size ≤ length c.loop-w.entries = slot_within r (length (words_of docs)) size (length c.loop-w.entries) place.0 (c.loop-w.auto.entries ∙ c.requires.entries_size) in
     let one : r * c.entry_size.result ≡ r * size = ap (λ n. r * n) c.entry_size.ensures.size in
@@ -122,7 +122,7 @@ bounds-from-place g c =
     let docs = c.args.docs.now.documents in
     let s = setup_of docs c.args.shape.b c.args.shape.big in
     let within : c.loop-w.w < length (words_of docs) = omega (arith, c.words-w-end.ensures.words, c.loop-w-test.true) in
-    (labelled f c.args.master.now s c.args.from.labels.now c.args.from.word_ranks.now c.loop-w.w c.requires.labels c.requires.word_ranks within).1
+    (labelled f c.args.master.now s refl c.args.from.labels.now c.args.from.word_ranks.now c.loop-w.w c.requires.labels c.requires.word_ranks within).1
 
 pub write_entry-requires-clause-planned : goal.write_entry-requires-clause-planned
 write_entry-requires-clause-planned g c =
@@ -169,7 +169,7 @@ loop-w-preserved g c =
     let word_is : word ≡ get_or (words_of docs) w [] = sym (get_or_from_slice_get (words_of docs) w word [] c.word.ensures) in
     let n_is = list_at docs w c.list_len-n.result within c.list_len-n.ensures.length in
     let count_is = c.blocks_in.ensures ∙ ap (λ n. block_count (plan s.shape n)) n_is in
-    let place = labelled f c.args.master.now s c.args.from.labels.now c.args.from.word_ranks.now w c.requires.labels c.requires.word_ranks within in
+    let place = labelled f c.args.master.now s refl c.args.from.labels.now c.args.from.word_ranks.now w c.requires.labels c.requires.word_ranks within in
     let r : ℕ = get_or c.args.from.word_ranks.now w 0 in
     let room : (r + 1) * size ≤ length c.loop-w.entries = slot_within r (length (words_of docs)) size (length c.loop-w.entries) place.0 (c.loop-w.auto.entries ∙ c.requires.entries_size) in
     let written : parts size (put_mid (r * c.entry_size.result) (r * c.entry_size.result + c.entry_size-in-loop-w.result - r * c.entry_size.result) c.loop-w.entries c.write_entry.new.out)
@@ -179,7 +179,7 @@ loop-w-preserved g c =
     c.list_len-n.result c.blocks_in.result n_is count_is
     word c.split_at.result.0.now c.split_at-in-loop-w.result.0.now word_is c.split_at.ensures.front c.split_at-in-loop-w.ensures.front
     c.list_pads-pads.result c.next.result c.next.new.self c.list_pads-pads.ensures c.next.ensures.slot c.next.ensures.after
-    r (at c.args.from.labels.now r).tag c.write_entry.new.out c.split_at.result.1.now c.split_at-in-loop-w.result.1.now _ _ c.split_at.ensures.back c.split_at-in-loop-w.ensures.back (omega (arith, ranked f c.args.master.now s c.args.from.word_ranks.now c.requires.word_ranks, within)) refl
+    r (at c.args.from.labels.now r).tag c.write_entry.new.out c.split_at.result.1.now c.split_at-in-loop-w.result.1.now _ _ c.split_at.ensures.back c.split_at-in-loop-w.ensures.back (omega (arith, ranked f c.args.master.now s refl c.args.from.word_ranks.now c.requires.word_ranks, within)) refl
     place.2 c.write_entry.ensures written c.write_blocks.ensures
 
 pub returns-clause-entries : goal.returns-clause-entries
@@ -187,7 +187,7 @@ returns-clause-entries g c =
     let f = keyed_fn g.K.Keyed.prf g.K.Keyed.pad in
     let docs = c.args.docs.now.documents in
     let s = setup_of docs c.args.shape.b c.args.shape.big in
-    (all_written f c.args.master.now s c.loop-w.w c.loop-w.ids.now c.loop-w.ranks.now _ _ _ _ c.args.from.word_ranks.now
+    (all_written f c.args.master.now s refl c.loop-w.w c.loop-w.ids.now c.loop-w.ranks.now _ _ _ _ c.args.from.word_ranks.now
     (omega (arith, c.words-w-end.ensures.words, c.loop-w-test.false)) c.loop-w.invariant).0
 
 pub returns-clause-array : goal.returns-clause-array
@@ -195,6 +195,6 @@ returns-clause-array g c =
     let f = keyed_fn g.K.Keyed.prf g.K.Keyed.pad in
     let docs = c.args.docs.now.documents in
     let s = setup_of docs c.args.shape.b c.args.shape.big in
-    (all_written f c.args.master.now s c.loop-w.w c.loop-w.ids.now c.loop-w.ranks.now _ _ _ _ c.args.from.word_ranks.now
+    (all_written f c.args.master.now s refl c.loop-w.w c.loop-w.ids.now c.loop-w.ranks.now _ _ _ _ c.args.from.word_ranks.now
     (omega (arith, c.words-w-end.ensures.words, c.loop-w-test.false)) c.loop-w.invariant).1
     ∙ ap (λ rs. placed (parts (8 * c.args.shape.big) c.args.array.now) rs (map (λ block. block.text) (setup_blocks f c.args.master.now s))) (sym c.requires.block_ranks)

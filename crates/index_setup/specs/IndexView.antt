@@ -1,0 +1,6 @@
+-- What the fields of an index stand for.
+use Rattle.index_setup.specs.Built.{Built}
+use Rattle.index_setup.specs.declared.index.Index.TheInside.{Inside}
+
+abbrev pub index_of : Inside → Built
+index_of i = record { b = i.b; big = i.big; words = i.words; blocks = i.blocks; entries = i.entries.items; array = i.array.items }
