@@ -1,5 +1,5 @@
 -- The frames of an index are in the grammar.
-use Rattle.std.proofs.Common.{◌≡◌, ℕ, zero, suc, ◌+◌, ◌-◌, ◌*◌, ◌<◌, inl, inr, List, [], ◌∷◌, map, length, get_or, refl, sym, subst, ◌∙◌, arith}
+use Rattle.std.proofs.Common.{◌≡◌, ℕ, zero, suc, ◌+◌, ◌-◌, ◌*◌, ◌<◌, inl, inr, List, [], ◌∷◌, map, length, get_or, refl, sym, subst, arith}
 use Rattle.std.specs.Int.{div_ceil}
 use Rattle.std.specs.List.{AllByRecursion}
 use Rattle.std.proofs.lemmas.Bool.{cases_lt}
@@ -9,6 +9,7 @@ use Rattle.sse_frames.specs.Frames.{FrameText, SetupEnd, InGrammar, IsFrame, IsN
 use Rattle.sse_frames.specs.FrameViews.{entries_in, items_in}
 use Rattle.sse_frames.specs.Sending.{numbered}
 use Rattle.sse_frames.proofs.Cut.{AreBytes, AreBytes-drop, AreBytes-take}
+use Rattle.index_setup.specs.Built.{IsIndex}
 use Rattle.index_setup.specs.declared.index.Index.{Index}
 use Rattle.client_core.proofs.FramesAt.{begin_at, dict_at, array_at, end_at}
 use Rattle.client_core.proofs.IndexCounts.{blocks_held, frames_within, length-index_frames, words_held}
@@ -29,41 +30,41 @@ each_numbered q (f ∷ fs) e each =
 AreBytes-part : (size i : ℕ) (bytes : List ℕ) → i < div_ceil (length bytes) size → AreBytes bytes → AreBytes (get_or (parts size bytes) i [])
 AreBytes-part size i bytes within are = subst AreBytes (sym (parts-at size bytes i within)) (AreBytes-take size _ (AreBytes-drop (i * size) bytes are))
 
-module _ (index : Index) (entries_are : AreBytes index.entries.items) (array_are : AreBytes index.array.items) (rises : Rises (labels_of (entries_in (1 + 8 * index.b) index.entries.items))) where
+module _ (index : Index) (is : IsIndex index) (entries_are : AreBytes index.entries) (array_are : AreBytes index.array) (rises : Rises (labels_of (entries_in (1 + 8 * index.b) index.entries))) where
   abbrev ending : ℕ → FrameText
   ending n = SetupEnd n
 
-  whole : length index.entries.items ≡ index.words * (16 + (1 + 8 * index.b))
-  whole = entries_whole _ index.words index.b index.entries.items index.whole index.entries.ok.0
+  whole : length index.entries ≡ index.words * (16 + (1 + 8 * index.b))
+  whole = entries_whole _ index.words index.b index.entries is.whole refl
 
-  array_whole : length index.array.items ≡ index.blocks * (8 * index.big)
-  array_whole = sym index.array.ok.0 ∙ index.array_whole
+  array_whole : length index.array ≡ index.blocks * (8 * index.big)
+  array_whole = is.array_whole
 
-  dict_is : (i q : ℕ) → i < div_ceil index.words 1024 → IsNumber q → IsSetupDict q (1 + 8 * index.b) (get_or (parts 1024 (entries_in (1 + 8 * index.b) index.entries.items)) i [])
+  dict_is : (i q : ℕ) → i < div_ceil index.words 1024 → IsNumber q → IsSetupDict q (1 + 8 * index.b) (get_or (parts 1024 (entries_in (1 + 8 * index.b) index.entries)) i [])
   dict_is i q within number =
-      subst (λ es. IsSetupDict q (1 + 8 * index.b) es) (part_entries (1 + 8 * index.b) 1024 index.words i index.entries.items (omega arith) whole within)
-      (IsSetupDict-part index.b index.words i q index.entries.items _ index.some index.cell whole within refl
-      (AreBytes-part _ i index.entries.items (there (16 + (1 + 8 * index.b)) 1024 index.words i index.entries.items (omega arith) (omega arith) whole within) entries_are) number rises)
+      subst (λ es. IsSetupDict q (1 + 8 * index.b) es) (part_entries (1 + 8 * index.b) 1024 index.words i index.entries (omega arith) whole within)
+      (IsSetupDict-part index.b index.words i q index.entries _ is.some is.cell whole within refl
+      (AreBytes-part _ i index.entries (there (16 + (1 + 8 * index.b)) 1024 index.words i index.entries (omega arith) (omega arith) whole within) entries_are) number rises)
 
-  array_is : (i q : ℕ) → i < div_ceil index.blocks 256 → IsNumber q → IsSetupArray q (8 * index.big) (get_or (parts 256 (items_in (8 * index.big) index.array.items)) i [])
+  array_is : (i q : ℕ) → i < div_ceil index.blocks 256 → IsNumber q → IsSetupArray q (8 * index.big) (get_or (parts 256 (items_in (8 * index.big) index.array)) i [])
   array_is i q within number =
-      let some : 0 < 8 * index.big = omega (arith, index.block_some) in
-      subst (λ bs. IsSetupArray q (8 * index.big) bs) (part_items (8 * index.big) 256 index.blocks i index.array.items some (omega arith) array_whole within)
-      (IsSetupArray-part index.big index.blocks i q index.array.items _ index.block_some index.block array_whole within refl
-      (AreBytes-part _ i index.array.items (there (8 * index.big) 256 index.blocks i index.array.items some (omega arith) array_whole within) array_are) number)
+      let some : 0 < 8 * index.big = omega (arith, is.block_some) in
+      subst (λ bs. IsSetupArray q (8 * index.big) bs) (part_items (8 * index.big) 256 index.blocks i index.array some (omega arith) array_whole within)
+      (IsSetupArray-part index.big index.blocks i q index.array _ is.block_some is.block array_whole within refl
+      (AreBytes-part _ i index.array (there (8 * index.big) 256 index.blocks i index.array some (omega arith) array_whole within) array_are) number)
 
   frame_is : (k q : ℕ) → k < frames_in index → IsNumber q → InGrammar (get_or (index_frames index) k ending q)
   frame_is zero q within number =
       subst InGrammar
-      (sym (begin_at index.b index.big index.words index.blocks (entries_in (1 + 8 * index.b) index.entries.items) (items_in (8 * index.big) index.array.items) (words_held index) (blocks_held index) ending q))
-      (record { number = number; cell = (index.some, index.cell); block = (index.block_some, index.block); words = index.most; blocks = index.few_blocks })
+      (sym (begin_at index.b index.big index.words index.blocks (entries_in (1 + 8 * index.b) index.entries) (items_in (8 * index.big) index.array) (words_held index is) (blocks_held index is) ending q))
+      (record { number = number; cell = (is.some, is.cell); block = (is.block_some, is.block); words = is.most; blocks = is.few_blocks })
   frame_is (suc k) q within number =
       let d : ℕ = div_ceil index.words 1024 in
       let a : ℕ = div_ceil index.blocks 256 in
       elim (cases_lt k d) [
         | inl lt ↦
             subst InGrammar
-            (sym (dict_at index.b index.big index.words index.blocks (entries_in (1 + 8 * index.b) index.entries.items) (items_in (8 * index.big) index.array.items) (words_held index) (blocks_held index) ending q k lt))
+            (sym (dict_at index.b index.big index.words index.blocks (entries_in (1 + 8 * index.b) index.entries) (items_in (8 * index.big) index.array) (words_held index is) (blocks_held index is) ending q k lt))
             (dict_is k q lt number)
         | inr ge ↦
             let at : d + (k - d) ≡ k = omega (arith, ge) in
@@ -71,13 +72,13 @@ module _ (index : Index) (entries_are : AreBytes index.entries.items) (array_are
             (elim (cases_lt (k - d) a) [
               | inl lt ↦
                   subst InGrammar
-                  (sym (array_at index.b index.big index.words index.blocks (entries_in (1 + 8 * index.b) index.entries.items) (items_in (8 * index.big) index.array.items) (words_held index) (blocks_held index) ending q (k - d) lt))
+                  (sym (array_at index.b index.big index.words index.blocks (entries_in (1 + 8 * index.b) index.entries) (items_in (8 * index.big) index.array) (words_held index is) (blocks_held index is) ending q (k - d) lt))
                   (array_is (k - d) q lt number)
               | inr last ↦
                   let all : a ≡ k - d = omega (arith, last, within, ge) in
                   subst (λ n. InGrammar (get_or (index_frames index) (suc (d + n)) ending q)) all
                   (subst InGrammar
-                  (sym (end_at index.b index.big index.words index.blocks (entries_in (1 + 8 * index.b) index.entries.items) (items_in (8 * index.big) index.array.items) (words_held index) (blocks_held index) ending q))
+                  (sym (end_at index.b index.big index.words index.blocks (entries_in (1 + 8 * index.b) index.entries) (items_in (8 * index.big) index.array) (words_held index is) (blocks_held index is) ending q))
                   number)
             ])
       ]
@@ -85,4 +86,4 @@ module _ (index : Index) (entries_are : AreBytes index.entries.items) (array_are
   pub frames_are : AllByRecursion IsFrame (map frame_bytes (numbered 0 (index_frames index)))
   frames_are =
       each_numbered 0 (index_frames index) ending
-      (λ k within. let here : k < frames_in index = subst (λ (n : ℕ). k < n) (length-index_frames index) within in frame_is k (0 + k) here (omega (arith, here, frames_within index)))
+      (λ k within. let here : k < frames_in index = subst (λ (n : ℕ). k < n) (length-index_frames index is) within in frame_is k (0 + k) here (omega (arith, here, frames_within index is)))

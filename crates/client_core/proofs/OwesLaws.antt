@@ -1,5 +1,5 @@
 -- A client owes the frames of its history's last command: after a commit all of them, and after each acknowledgement one less.
-use Rattle.std.proofs.Common.{◌≡◌, ◌<◌, ◌+◌, ◌-◌, ℕ, suc, List, [], ◌∷◌, ◌++◌, drop, length, map, refl, sym, ap, ◌∙◌, subst, arith}
+use Rattle.std.proofs.Common.{◌≡◌, ◌≤◌, ◌+◌, ◌-◌, ℕ, suc, List, [], ◌∷◌, ◌++◌, drop, length, map, refl, sym, ap, ◌∙◌, subst, arith}
 use Rattle.std.specs.Prelude.{slice_index_or}
 use Rattle.std.proofs.Math.Seq.{get_or-append_seam}
 use Rattle.std.proofs.lemmas.List.{drop-drop, length-append, length-drop, length-map}
@@ -16,19 +16,17 @@ use Rattle.sse_model.proofs.Counts.{length-frames_of_setup}
 use Rattle.sse_model.specs.Names.{table}
 use Rattle.sse_model.specs.Wire.{frames_of, frames_of_setup, next_number, wire}
 use Rattle.client_core.proofs.FramesAt.{length-numbered}
-use Rattle.client_core.proofs.IndexCounts.{length-index_frames}
 use Rattle.client_core.proofs.SetupOf.{frames_of_setup-numbered}
 use Rattle.client_core.proofs.StandsForLaws.{one_update}
+use Rattle.client_core.specs.Plans.{UpdatePlan}
 use Rattle.client_core.specs.Owes.{AreNumbered, Owes, last_frames}
-use Rattle.client_core.specs.Sending.{first_number, left_of, owed_frames, to_send}
-use Rattle.client_core.specs.Setup.{index_frames}
+use Rattle.client_core.specs.Owed.{setup_left}
+use Rattle.client_core.specs.Sending.{first_number, to_send}
+use Rattle.client_core.specs.States.{BehindState, ReadyState}
+use Rattle.client_core.specs.declared.owed_setup.OwedSetup.{OwedSetup}
+use Rattle.client_core.specs.Setup.{frames_in, index_frames}
 use Rattle.client_core.specs.StandsFor.{CanCommit, StandsFor, frames_next, with_command}
 use Rattle.client_core.specs.Updates.{command_of_update}
-use Rattle.client_core.specs.declared.behind.Behind.{Behind}
-use Rattle.client_core.specs.declared.behind.Owed.{Owed}
-use Rattle.client_core.specs.declared.behind.Owed.TheVariants as owes
-use Rattle.client_core.specs.declared.planned_update.PlannedUpdate.{PlannedUpdate}
-use Rattle.client_core.specs.declared.ready.Ready.{Ready}
 use Rattle.client_core.specs.declared.update.Update.{Update}
 use Rattle.client_core.specs.declared.update.Update.TheVariants as updates
 
@@ -55,7 +53,7 @@ numbered_next : (f : KeyedFn) (keys : ℕ → List ℕ) (o : Offsets) (run : Run
 numbered_next f keys o run (updates.Add d) = (refl, tt)
 numbered_next f keys o run (updates.Delete id) = (refl, tt)
 
-pub Owes-update : (f : KeyedFn) (keys : ℕ → List ℕ) (o : Offsets) (run : Run) (u : Update) (behind : Behind) → StandsFor f keys o (with_command run (command_of_update u)) behind.ready
+pub Owes-update : (f : KeyedFn) (keys : ℕ → List ℕ) (o : Offsets) (run : Run) (u : Update) (behind : BehindState) → StandsFor f keys o (with_command run (command_of_update u)) behind.ready
     → to_send behind ≡ map frame_bytes (frames_next f keys o run (command_of_update u)) → first_number behind ≡ next_number o run.setup run.later
     → Owes f keys o (with_command run (command_of_update u)) 0 behind
 Owes-update f keys o run u behind stands sent first =
@@ -67,7 +65,7 @@ Owes-update f keys o run u behind stands sent first =
       number = subst (AreNumbered (first_number behind)) (sym last) (subst (λ n. AreNumbered n (frames_next f keys o run (command_of_update u))) (sym first) (numbered_next f keys o run u));
     }
 
-pub Owes-setup : (f : KeyedFn) (keys : ℕ → List ℕ) (s : Setup) (behind : Behind) → StandsFor f keys at_first (record { setup = s; later = [] }) behind.ready
+pub Owes-setup : (f : KeyedFn) (keys : ℕ → List ℕ) (s : Setup) (behind : BehindState) → StandsFor f keys at_first (record { setup = s; later = [] }) behind.ready
     → to_send behind ≡ map frame_bytes (frames_of_setup (table f s.shape keys) at_first s) → first_number behind ≡ 0
     → Owes f keys at_first (record { setup = s; later = [] }) 0 behind
 Owes-setup f keys s behind stands sent first = record {
@@ -82,34 +80,33 @@ Owes-setup f keys s behind stands sent first = record {
 -- After a reply.
 
 -- as many frames are sent as are left
-length-owed : (owed : Owed) → length (owed_frames owed) ≡ left_of owed
-length-owed (owes.Setup setup) =
-    let left = drop setup.place (index_frames setup.planned.index) in
+length-setup_left : (setup : OwedSetup) → length (setup_left setup) ≡ frames_in setup.index - setup.place
+length-setup_left setup =
+    let left = drop setup.place (index_frames setup.index) in
     length-map (numbered setup.next left) frame_bytes
     ∙ length-numbered setup.next left
-    ∙ length-drop setup.place (index_frames setup.planned.index)
-    ∙ ap (λ n. n - setup.place) (length-index_frames setup.planned.index)
-length-owed (owes.Update update) = refl
+    ∙ length-drop setup.place (index_frames setup.index)
+    ∙ ap (λ n. n - setup.place) setup.counted
+
+-- at least one
+pub some_left : (setup : OwedSetup) → 1 ≤ length (setup_left setup)
+some_left setup = omega (arith, setup.left, length-setup_left setup)
 
 numbered_behind : (q : ℕ) (frames : List FrameText) → AreNumbered q frames → AreNumbered (q + 1) (drop 1 frames)
 numbered_behind q [] all = tt
 numbered_behind q (frame ∷ frames) all = all.1
 
-some_left : (owed : Owed) → 0 < left_of owed
-some_left (owes.Setup setup) = omega (arith, setup.left)
-some_left (owes.Update update) = omega arith
-
-module _ (f : KeyedFn) (keys : ℕ → List ℕ) (o : Offsets) (run : Run) (k : ℕ) (old : Behind) (had : Owes f keys o run k old) where
+module _ (f : KeyedFn) (keys : ℕ → List ℕ) (o : Offsets) (run : Run) (k : ℕ) (old : BehindState) (had : Owes f keys o run k old) where
   abbrev frames : List FrameText
   frames = last_frames f keys o run
 
   -- one frame was acknowledged, and more are left
-  pub Owes-one_less : (new : Behind) → new.ready ≡ old.ready → to_send new ≡ drop 1 (to_send old) → first_number new ≡ first_number old + 1 → Owes f keys o run (k + 1) new
-  Owes-one_less new ready sent first =
+  pub Owes-one_less : (new : BehindState) → 1 ≤ length (to_send new) → new.ready ≡ old.ready → to_send new ≡ drop 1 (to_send old) → first_number new ≡ first_number old + 1 → Owes f keys o run (k + 1) new
+  Owes-one_less new some ready sent first =
       let owed : to_send new ≡ drop (k + 1) (map frame_bytes frames) = sent ∙ ap (drop 1) had.owed ∙ drop-drop 1 k (map frame_bytes frames) in
       record {
         stands = subst (StandsFor f keys o run) (sym ready) had.stands;
-        some = omega (arith, some_left new.owed, length-owed new.owed, ap length owed, length-drop (k + 1) (map frame_bytes frames), length-map frames frame_bytes);
+        some = omega (arith, some, ap length owed, length-drop (k + 1) (map frame_bytes frames), length-map frames frame_bytes);
         owed = owed;
         number =
             subst (λ n. AreNumbered n (drop (k + 1) frames)) (sym first)
@@ -124,7 +121,7 @@ module _ (f : KeyedFn) (keys : ℕ → List ℕ) (o : Offsets) (run : Run) (k : 
 -- A stale plan.
 
 -- a plan that the client could commit can't be committed once it has taken an update as done: the number is another's
-pub stale_plan : (f : KeyedFn) (keys : ℕ → List ℕ) (o : Offsets) (run : Run) (u : Update) (old new : Ready) (planned : PlannedUpdate)
+pub stale_plan : (f : KeyedFn) (keys : ℕ → List ℕ) (o : Offsets) (run : Run) (u : Update) (old new : ReadyState) (planned : UpdatePlan)
     → StandsFor f keys o run old → StandsFor f keys o (with_command run (command_of_update u)) new → CanCommit old planned → CanCommit new planned → ⊥
 stale_plan f keys o run u old new planned before behind can still =
     absurd (omega (arith, can.next, still.next, before.number, behind.number, update_frames-push run (command_of_update u), one_update u))

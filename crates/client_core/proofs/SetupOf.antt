@@ -13,7 +13,7 @@ use Rattle.two_level.specs.Shape.{Shape}
 use Rattle.list_packing.specs.Parts.{parts}
 use Rattle.client_registry.proofs.DistinctLaws.{IsDistinct-first_clash}
 use Rattle.client_registry.proofs.SizedLaws.{accepted_shape}
-use Rattle.client_registry.specs.Acceptance.{setup_refusal}
+use Rattle.client_registry.specs.Acceptance.{size_refusal}
 use Rattle.client_registry.specs.FirstClash.{first_clash}
 use Rattle.client_registry.specs.Run.{Offsets, at_first}
 use Rattle.client_registry.specs.Setup.{Setup}
@@ -77,7 +77,7 @@ module _ (f : KeyedFn) (laws : IsKeyedFn f) (key : List ℕ) (s : Setup) where
       let pad : IsBytes size (values p.pad) = subst (λ (n : ℕ). IsBytes n (values p.pad)) sizes.0.1 (IsValue-table f laws s.shape (λ epoch. key) p.pad) in
       (record { label = label; text = IsBytes-xored size (p.clear ranks) (values p.pad) texts.0 pad }, are_entries size ranks ps texts.1 sizes.1)
 
-  module _ (accepted : setup_refusal s.documents s.shape.b s.shape.big ≡ None) where
+  module _ (accepted : size_refusal s ≡ None) where
     abbrev ranks : List ℕ
     ranks = setup_ranks f key s
 

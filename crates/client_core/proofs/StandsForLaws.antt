@@ -31,22 +31,21 @@ use Rattle.sse_model.specs.Positions.{fresh_words, sealed}
 use Rattle.sse_model.specs.Wire.{next_number, words_live}
 use Rattle.word_keys.specs.KeyPair.{plus_keys}
 use Rattle.sse_model.proofs.LiveWords.{words_live-apart}
-use Rattle.client_core.specs.Keys.{Keeps}
+use Rattle.client_core.specs.Keys.{Keeps, WordKeys}
 use Rattle.client_core.specs.StandsFor.{Fits, StandsFor, add_fault, add_refusal, collision_next, comes_of_add, comes_of_delete, delete_fault, delete_refusal, frames_next, full_refusal, refusal_to_add, refusal_to_delete, with_command}
+use Rattle.client_core.specs.States.{ReadyState}
 use Rattle.client_core.specs.UpdateFaults.{clash_fault}
 use Rattle.client_core.specs.Updates.{command_of_update}
 use Rattle.client_core.specs.UpdateTexts.{add_collision, add_text, delete_collision, delete_text, numbers_added}
-use Rattle.client_core.specs.declared.ready.Ready.{Ready}
 use Rattle.client_core.specs.declared.command_fault.CommandFault.{CommandFault}
 use Rattle.client_core.specs.declared.command_fault.CommandFault.TheVariants as faults
-use Rattle.client_core.specs.declared.kept_keys.KeptKeys.{KeptKeys}
 use Rattle.client_core.specs.declared.update.Update.{Update}
 use Rattle.client_core.specs.declared.update.Update.TheVariants as updates
 
 -- Keys.
 
 -- words that had a number keep it, so the keys that are kept are still theirs
-pub Keeps-more : (f : KeyedFn) (master : List ℕ) (old new : List (List ℕ)) (keys : KeptKeys) → take (length old) new ≡ old → Keeps f master old keys → Keeps f master new keys
+pub Keeps-more : (f : KeyedFn) (master : List ℕ) (old new : List (List ℕ)) (keys : WordKeys) → take (length old) new ≡ old → Keeps f master old keys → Keeps f master new keys
 Keeps-more f master old new keys same had = record {
   plus = λ n pair is.
       let here = had.plus n pair is in
@@ -95,13 +94,6 @@ IsFree-accepted x n d none = by (x.live d.id) refl none
         → (if is_some o then Some (faults.AlreadyLive d.id) else option_or (option_map (λ p. faults.CounterFull p) (position (λ word. not (has_counter x d.id word)) d.words)) (full_refusal n)) ≡ None → IsFree x n d
     by (Some words) is h = absurd (cc)
     by None is h = rest (position (λ word. not (has_counter x d.id word)) d.words) refl is h
-
-pub live_accepted : (x : Facts) (n id : ℕ) → refusal_to_delete x n id ≡ None → IsSome (x.live id) × (n + 1 < 2 ^ 32)
-live_accepted x n id none = by (x.live id) none
-  where
-    by : (o : Option (List (List ℕ))) → (if is_some o then full_refusal n else Some (faults.UnknownDocument id)) ≡ None → IsSome o × (n + 1 < 2 ^ 32)
-    by (Some words) h = (refl, not_full n h)
-    by None h = absurd (cc)
 
 -- Which faults can come.
 
@@ -158,19 +150,7 @@ only_delete f keys o run id r is = only_by comes_of_delete r (delete_fault f key
 
 -- A plan.
 
--- what a client stands for after a plan under the key of the epoch, whose registry tells the same facts and whose keys are
--- still those of its words
-pub StandsFor-planned : (f : KeyedFn) (keys : ℕ → List ℕ) (o : Offsets) (run : Run) (key : List ℕ) (old new : Ready) → keys o.epoch ≡ key
-    → facts new.registry ≡ facts old.registry → new.frames ≡ old.frames
-    → (Keeps f key (known_words old.registry) old.keys → Keeps f key (known_words new.registry) new.keys) → StandsFor f keys o run old → StandsFor f keys o run new
-StandsFor-planned f keys o run key old new under facts_same frames_same more s = record {
-  kept = s.kept;
-  registry = facts_same ∙ s.registry;
-  number = frames_same ∙ s.number;
-  word_keys = subst (λ k. Keeps f k (known_words new.registry) new.keys) (sym under) (more (subst (λ k. Keeps f k (known_words old.registry) old.keys) under s.word_keys));
-}
-
-module _ (o : Offsets) (run : Run) (state : Ready) (registry : Represents state.registry run.setup run.later) (number : state.frames ≡ next_number o run.setup run.later) where
+module _ (o : Offsets) (run : Run) (state : ReadyState) (registry : Represents state.registry run.setup run.later) (number : state.frames ≡ next_number o run.setup run.later) where
   pub refusal_is : (d : Document) → refusal_to_add (facts state.registry) state.frames d ≡ add_refusal o run d
   refusal_is d = ap (λ x. refusal_to_add x state.frames d) registry ∙ ap (λ n. refusal_to_add (facts_of run.setup run.later) n d) number
 
@@ -178,7 +158,7 @@ module _ (o : Offsets) (run : Run) (state : Ready) (registry : Represents state.
   refusal_is-delete id = ap (λ x. refusal_to_delete x state.frames id) registry ∙ ap (λ n. refusal_to_delete (facts_of run.setup run.later) n id) number
 
 -- what a client plans that stands for a history, under the key of the epoch
-module _ (f : KeyedFn) (keys : ℕ → List ℕ) (o : Offsets) (run : Run) (key : List ℕ) (under : keys o.epoch ≡ key) (state : Ready) (s : StandsFor f keys o run state) where
+module _ (f : KeyedFn) (keys : ℕ → List ℕ) (o : Offsets) (run : Run) (key : List ℕ) (under : keys o.epoch ≡ key) (state : ReadyState) (s : StandsFor f keys o run state) where
   pub keeps : Keeps f key (known_words state.registry) state.keys
   keeps = subst (λ k. Keeps f k (known_words state.registry) state.keys) under s.word_keys
 
@@ -260,7 +240,7 @@ pub one_update : (u : Update) → length (filter is_update (command_of_update u 
 one_update (updates.Add d) = refl
 one_update (updates.Delete id) = refl
 
-pub StandsFor-committed : (f : KeyedFn) (keys : ℕ → List ℕ) (o : Offsets) (run : Run) (u : Update) (numbers : List ℕ) (old new : Ready) → old.frames + 1 < 2 ^ 32 → IsSizedCommand (command_of_update u) → Fits old.registry u numbers
+pub StandsFor-committed : (f : KeyedFn) (keys : ℕ → List ℕ) (o : Offsets) (run : Run) (u : Update) (numbers : List ℕ) (old new : ReadyState) → old.frames + 1 < 2 ^ 32 → IsSizedCommand (command_of_update u) → Fits old.registry u numbers
     → (Represents old.registry run.setup run.later → Represents new.registry run.setup (run.later ++ command_of_update u ∷ []))
     → take (length (known_words old.registry)) (known_words new.registry) ≡ known_words old.registry
     → new.keys ≡ old.keys → new.frames ≡ old.frames + 1 → StandsFor f keys o run old → StandsFor f keys o (with_command run (command_of_update u)) new

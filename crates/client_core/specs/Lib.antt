@@ -1,6 +1,10 @@
+pub mod Owed
 pub mod Sending
 pub mod Setup
+pub mod Plans
+pub mod PlanView
 pub mod Keys
+pub mod States
 pub mod UpdateTexts
 pub mod UpdateFaults
 pub mod UpdateParts

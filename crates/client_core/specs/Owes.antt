@@ -7,7 +7,7 @@ use Rattle.sse_model.specs.Names.{table}
 use Rattle.sse_model.specs.Wire.{wire}
 use Rattle.client_core.specs.Sending.{first_number, to_send}
 use Rattle.client_core.specs.StandsFor.{StandsFor}
-use Rattle.client_core.specs.declared.behind.Behind.{Behind}
+use Rattle.client_core.specs.States.{BehindState}
 use Rattle.client_core.specs.declared.sending.Taken.{Taken}
 use Rattle.client_core.specs.declared.sending.Taken.TheVariants as taken
 
@@ -22,7 +22,7 @@ last_frames f keys o run = slice_index_or (wire (table f run.setup.shape keys) o
 
 -- the client stands for a history, and of the frames of its last command the server may lack all but the first k, which it
 -- acknowledged: these are sent next, and the number that the client expects to be acknowledged is that of the first
-pub record Owes (f : KeyedFn) (keys : ℕ → List ℕ) (o : Offsets) (run : Run) (k : ℕ) (behind : Behind) : Type 0 where
+pub record Owes (f : KeyedFn) (keys : ℕ → List ℕ) (o : Offsets) (run : Run) (k : ℕ) (behind : BehindState) : Type 0 where
   pub stands : StandsFor f keys o run behind.ready
   pub some : k < length (last_frames f keys o run)
   pub owed : to_send behind ≡ drop k (map frame_bytes (last_frames f keys o run))

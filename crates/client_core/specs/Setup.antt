@@ -22,7 +22,7 @@ frames_of_joined b big entries array = frames_between b big (entries_in (1 + 8 *
 
 -- and those of an index
 abbrev pub index_frames : Index → List (ℕ → FrameText)
-index_frames index = frames_of_joined index.b index.big index.entries.items index.array.items
+index_frames index = frames_of_joined index.b index.big index.entries index.array
 
 -- how many they are
 abbrev pub frames_in : Index → ℕ

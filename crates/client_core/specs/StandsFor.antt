@@ -17,18 +17,18 @@ use Rattle.sse_model.specs.Compared.{Collision, collision_of}
 use Rattle.sse_model.specs.Names.{table}
 use Rattle.sse_model.specs.Wire.{frames_of, next_number}
 use Rattle.client_core.specs.Keys.{Keeps}
+use Rattle.client_core.specs.Plans.{UpdatePlan}
+use Rattle.client_core.specs.States.{ReadyState}
 use Rattle.client_core.specs.UpdateFaults.{clash_fault}
 use Rattle.client_core.specs.Updates.{command_of_update}
-use Rattle.client_core.specs.declared.ready.Ready.{Ready}
 use Rattle.client_core.specs.declared.command_fault.CommandFault.{CommandFault}
 use Rattle.client_core.specs.declared.command_fault.CommandFault.TheVariants as faults
-use Rattle.client_core.specs.declared.planned_update.PlannedUpdate.{PlannedUpdate}
 use Rattle.client_core.specs.declared.update.Update.{Update}
 use Rattle.client_core.specs.declared.update.Update.TheVariants as updates
 
 -- the client stands for a history that keeps all limits: its registry tells the facts of it, its next frame has the next
 -- number, and the keys that it keeps are those of the words under the key of the history's epoch
-pub record StandsFor (f : KeyedFn) (keys : ℕ → List ℕ) (o : Offsets) (run : Run) (state : Ready) : Type 0 where
+pub record StandsFor (f : KeyedFn) (keys : ℕ → List ℕ) (o : Offsets) (run : Run) (state : ReadyState) : Type 0 where
   pub kept : IsKept (Some run)
   pub registry : Represents state.registry run.setup run.later
   pub number : state.frames ≡ next_number o run.setup run.later
@@ -96,8 +96,8 @@ Fits r (updates.Add doc) numbers = ((facts r).live doc.id ≡ None) × (has_coun
 Fits r (updates.Delete id) numbers = IsSome ((facts r).live (id_number id))
 
 -- the client can take the plan as done: it was made with the number that the client's next frame has
-pub record CanCommit (state : Ready) (planned : PlannedUpdate) : Type 0 where
+pub record CanCommit (state : ReadyState) (planned : UpdatePlan) : Type 0 where
   pub next : planned.number ≡ state.frames
   pub number : state.frames + 1 < 2 ^ 32
   pub sized : IsSizedCommand (command_of_update planned.update)
-  pub fits : Fits state.registry planned.update planned.words.items
+  pub fits : Fits state.registry planned.update planned.words

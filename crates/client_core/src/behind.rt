@@ -1,16 +1,30 @@
-ghost use Rattle.std.specs.Prelude.{◌≡◌, ◌+◌, ◌<◌, ◌∷◌, [], drop, take, IfSome, None};
+ghost use Rattle.std.specs.Prelude.{◌≡◌, ◌+◌, ◌≤◌, ◌∷◌, [], drop, length, take, IfSome, None};
 ghost use Rattle.sse_frames.specs.Frames.{IsNumber};
-ghost use Rattle.client_core.specs.Sending.{left_of, number_of_first, owed_frames};
+ghost use Rattle.client_core.specs.Owed.{number_of_first, owed_frames};
 
 use crate::owed_setup::OwedSetup;
 use crate::owed_update::OwedUpdate;
 use crate::ready::Ready;
+use std::marker::Model;
 
 /// The state of a client with frames that the server may lack, and its state once they are acknowledged.
 #[derive(Drop)]
 pub struct Behind {
     pub(crate) ready: Ready,
     pub(crate) owed: Owed,
+}
+
+impl Model for Behind {
+    ghost use Rattle.std.specs.Prelude.{◌≤◌, length};
+    ghost use Rattle.client_core.specs.States.{BehindState};
+
+    ghost Value = { BehindState };
+
+    ghost use Rattle.client_core.specs.Owed.{number_of_first, owed_frames};
+
+    ghost view = { λ b. record { ready = b.ready; frames = owed_frames b.owed; number = number_of_first b.owed } };
+
+    ghost invariant = { λ b. 1 ≤ length (owed_frames b.owed) };
 }
 
 /// The frames that the server may lack, at least one: of a setup or of one update.
@@ -46,7 +60,7 @@ impl Owed {
     pub(crate) fn behind_first(self) -> Option<Owed>
         ensures left { IfSome result (λ owed. owed_frames owed ≡ drop 1 (owed_frames self)) }
         ensures next { IfSome result (λ owed. number_of_first owed ≡ number_of_first self + 1) }
-        ensures less { IfSome result (λ owed. left_of owed < left_of self) }
+        ensures some { IfSome result (λ owed. 1 ≤ length (owed_frames owed)) }
         ensures last { result ≡ None → drop 1 (owed_frames self) ≡ [] }
     {
         match self {

@@ -11,7 +11,7 @@ ghost use Rattle.sse_model.specs.Wire.{frames_of_setup};
 ghost use Rattle.index_setup.specs.Entries.{key_table};
 ghost use Rattle.index_setup.specs.Refused.{build_refusal, clash_refusal, refused_by_size};
 ghost use Rattle.client_core.specs.Owes.{Owes};
-ghost use Rattle.client_core.specs.Sending.{first_number, frames_left, planned_frames, to_send};
+ghost use Rattle.client_core.specs.Sending.{first_number, frames_left, to_send};
 ghost use Rattle.client_core.specs.Setup.{SendsSetup};
 ghost use Rattle.client_core.specs.StandsFor.{StandsFor};
 
@@ -54,13 +54,13 @@ impl Client<Fresh> {
         ensures clash { setup_refusal docs.now.documents b big ≡ None → result ≢ Err BuildFault.NoMemory → IfSome (clash_refusal (keyed_fn K.prf K.pad) self.now.key (setup_of docs.now.documents b big)) (λ fault. result ≡ Err fault) }
         ensures built { build_refusal (keyed_fn K.prf K.pad) self.now.key docs.now.documents b big ≡ None → IsOkUnless result BuildFault.NoMemory }
         ensures accepted { IfOk result (λ _. build_refusal (keyed_fn K.prf K.pad) self.now.key docs.now.documents b big ≡ None) }
-        ensures frames { IfOk result (λ planned. planned_frames planned ≡ map frame_bytes (frames_of_setup (key_table (keyed_fn K.prf K.pad) self.now.key (setup_of docs.now.documents b big)) at_first (setup_of docs.now.documents b big))) }
-        ensures grammar { IfOk result (λ planned. AllByRecursion IsFrame (planned_frames planned)) }
-        ensures documents { IfOk result (λ planned. planned.made_of.value ≡ docs.now) }
-        ensures shape { IfOk result (λ planned. (planned.index.b ≡ b) × (planned.index.big ≡ big)) }
-        ensures words { IfOk result (λ planned. planned.index.words ≡ length (words_of docs.now.documents)) }
-        ensures blocks { IfOk result (λ planned. planned.index.blocks ≡ blocks_of (setup_of docs.now.documents b big)) }
-        ensures sends { IfOk result (λ planned. SendsSetup b big (length (words_of docs.now.documents)) (blocks_of (setup_of docs.now.documents b big)) (planned_frames planned)) }
+        ensures frames { IfOk result (λ planned. planned.frames ≡ map frame_bytes (frames_of_setup (key_table (keyed_fn K.prf K.pad) self.now.key (setup_of docs.now.documents b big)) at_first (setup_of docs.now.documents b big))) }
+        ensures grammar { IfOk result (λ planned. AllByRecursion IsFrame (planned.frames)) }
+        ensures documents { IfOk result (λ planned. planned.made_of ≡ docs.now) }
+        ensures shape { IfOk result (λ planned. (planned.b ≡ b) × (planned.big ≡ big)) }
+        ensures words { IfOk result (λ planned. planned.words ≡ length (words_of docs.now.documents)) }
+        ensures blocks { IfOk result (λ planned. planned.blocks ≡ blocks_of (setup_of docs.now.documents b big)) }
+        ensures sends { IfOk result (λ planned. SendsSetup b big (length (words_of docs.now.documents)) (blocks_of (setup_of docs.now.documents b big)) (planned.frames)) }
     {
         let index = build(alloc, keyed, &self.key, docs, b, big)?;
         Ok(Planned::new(alloc, index, docs)?)
@@ -69,18 +69,23 @@ impl Client<Fresh> {
     /// Takes the plan as done, with the documents that it was made of: from here on its frames are owed to the server. It
     /// takes no memory.
     pub fn commit(self, alloc: Global, planned: Planned, docs: Docs) -> Client<Behind>
-        requires documents { planned.made_of.value ≡ docs }
+        requires documents { planned.made_of ≡ docs }
         ensures key { result.key ≡ self.key }
         ensures hash_keys { result.state.ready.registry.keys ≡ docs.keys }
-        ensures stands { (f : KeyedFn) (keys : ℕ → List ℕ) → StandsFor f keys at_first (record { setup = setup_of docs.documents planned.index.b planned.index.big; later = [] }) result.state.ready }
-        ensures frames { frames_left result.state ≡ length (planned_frames planned) }
-        ensures owed { to_send result.state ≡ planned_frames planned }
+        ensures stands { (f : KeyedFn) (keys : ℕ → List ℕ) → StandsFor f keys at_first (record { setup = setup_of docs.documents planned.b planned.big; later = [] }) result.state.ready }
+        ensures frames { frames_left result.state ≡ length (planned.frames) }
+        ensures owed { to_send result.state ≡ planned.frames }
         ensures first { first_number result.state ≡ 0 }
-        ensures owes { (f : KeyedFn) (keys : ℕ → List ℕ) → planned_frames planned ≡ map frame_bytes (frames_of_setup (table f (setup_of docs.documents planned.index.b planned.index.big).shape keys) at_first (setup_of docs.documents planned.index.b planned.index.big)) → Owes f keys at_first (record { setup = setup_of docs.documents planned.index.b planned.index.big; later = [] }) 0 result.state }
+        ensures owes { (f : KeyedFn) (keys : ℕ → List ℕ) → planned.frames ≡ map frame_bytes (frames_of_setup (table f (setup_of docs.documents planned.b planned.big).shape keys) at_first (setup_of docs.documents planned.b planned.big)) → Owes f keys at_first (record { setup = setup_of docs.documents planned.b planned.big; later = [] }) 0 result.state }
     {
         let Client { key, state: _ } = self;
-        let ready = Ready::begun(alloc, docs, frame_count(&planned.index));
-        let owed = Owed::Setup(OwedSetup::at(planned, 0, 0));
+        let Planned {
+            index,
+            room,
+            made_of: _,
+        } = planned;
+        let ready = Ready::begun(alloc, docs, frame_count(&index));
+        let owed = Owed::Setup(OwedSetup::at(index, room, 0, 0));
         Client {
             key,
             state: Behind { ready, owed },

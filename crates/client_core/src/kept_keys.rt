@@ -12,6 +12,7 @@ use keyed_fn::Keyed;
 use revocation_ids::Numbers;
 use std::alloc::{AllocError, Global};
 use std::collections::HashMap;
+use std::marker::Model;
 use word_keys::{PlusKeys, PreparedMaster, RevocationKey};
 
 /// The keys of words that were derived so far, by the word's number: each key is derived and prepared when it is first
@@ -20,6 +21,14 @@ use word_keys::{PlusKeys, PreparedMaster, RevocationKey};
 pub(crate) struct KeptKeys {
     pub(crate) plus: HashMap<u32, PlusKeys>,
     pub(crate) revocations: HashMap<u32, RevocationKey>,
+}
+
+impl Model for KeptKeys {
+    ghost use Rattle.client_core.specs.Keys.{WordKeys};
+
+    ghost Value = { WordKeys };
+
+    ghost view = { λ k. record { plus = k.plus.entries; revocations = k.revocations.entries } };
 }
 
 impl KeptKeys {

@@ -19,7 +19,6 @@ use crate::owed_update::OwedUpdate;
 use crate::planned_update::PlannedUpdate;
 use crate::ready::Ready;
 use crate::update::Update;
-use crate::updating::delete_update;
 use client_registry::{Doc, DocId, Registry};
 use keyed_fn::Keyed;
 use std::alloc::Global;
@@ -45,8 +44,8 @@ impl Client<Ready> {
         ensures refused { (keys : ℕ → List ℕ) (o : Offsets) (run : Run) → keys o.epoch ≡ master.now → StandsFor (keyed_fn K.prf K.pad) keys o run self.old.state → IfSome (add_refusal o run doc) (λ fault. result ≡ Err fault) }
         ensures fault { (keys : ℕ → List ℕ) (o : Offsets) (run : Run) → keys o.epoch ≡ master.now → StandsFor (keyed_fn K.prf K.pad) keys o run self.old.state → result ≢ Err CommandFault.NoMemory → result_err result ≡ add_fault (keyed_fn K.prf K.pad) keys o run doc }
         ensures only { (keys : ℕ → List ℕ) (o : Offsets) (run : Run) → keys o.epoch ≡ master.now → StandsFor (keyed_fn K.prf K.pad) keys o run self.old.state → IfErr result (λ fault. comes_of_add fault ≡ true) }
-        ensures frame { (keys : ℕ → List ℕ) (o : Offsets) (run : Run) → keys o.epoch ≡ master.now → StandsFor (keyed_fn K.prf K.pad) keys o run self.old.state → IfOk result (λ planned. planned.frame.items ∷ [] ≡ map frame_bytes (frames_next (keyed_fn K.prf K.pad) keys o run (adds doc))) }
-        ensures grammar { IfOk result (λ planned. IsFrame planned.frame.items) }
+        ensures frame { (keys : ℕ → List ℕ) (o : Offsets) (run : Run) → keys o.epoch ≡ master.now → StandsFor (keyed_fn K.prf K.pad) keys o run self.old.state → IfOk result (λ planned. planned.frame ∷ [] ≡ map frame_bytes (frames_next (keyed_fn K.prf K.pad) keys o run (adds doc))) }
+        ensures grammar { IfOk result (λ planned. IsFrame planned.frame) }
         ensures command { IfOk result (λ planned. command_of_update planned.update ≡ adds doc) }
         ensures commits { IfOk result (λ planned. CanCommit self.new.state planned) }
     {
@@ -58,7 +57,7 @@ impl Client<Ready> {
             update: Update::Add(doc),
             words,
             frame,
-            number: self.state.frames,
+            number: self.state.number(),
         })
     }
 
@@ -81,24 +80,16 @@ impl Client<Ready> {
         ensures refused { (keys : ℕ → List ℕ) (o : Offsets) (run : Run) → keys o.epoch ≡ master.now → StandsFor (keyed_fn K.prf K.pad) keys o run self.old.state → IfSome (delete_refusal o run (id_number id)) (λ fault. result ≡ Err fault) }
         ensures fault { (keys : ℕ → List ℕ) (o : Offsets) (run : Run) → keys o.epoch ≡ master.now → StandsFor (keyed_fn K.prf K.pad) keys o run self.old.state → result ≢ Err CommandFault.NoMemory → result_err result ≡ delete_fault (keyed_fn K.prf K.pad) keys o run (id_number id) }
         ensures only { (keys : ℕ → List ℕ) (o : Offsets) (run : Run) → keys o.epoch ≡ master.now → StandsFor (keyed_fn K.prf K.pad) keys o run self.old.state → IfErr result (λ fault. comes_of_delete fault ≡ true) }
-        ensures frame { (keys : ℕ → List ℕ) (o : Offsets) (run : Run) → keys o.epoch ≡ master.now → StandsFor (keyed_fn K.prf K.pad) keys o run self.old.state → IfOk result (λ planned. planned.frame.items ∷ [] ≡ map frame_bytes (frames_next (keyed_fn K.prf K.pad) keys o run (deletes (id_number id)))) }
-        ensures grammar { IfOk result (λ planned. IsFrame planned.frame.items) }
+        ensures frame { (keys : ℕ → List ℕ) (o : Offsets) (run : Run) → keys o.epoch ≡ master.now → StandsFor (keyed_fn K.prf K.pad) keys o run self.old.state → IfOk result (λ planned. planned.frame ∷ [] ≡ map frame_bytes (frames_next (keyed_fn K.prf K.pad) keys o run (deletes (id_number id)))) }
+        ensures grammar { IfOk result (λ planned. IsFrame planned.frame) }
         ensures command { IfOk result (λ planned. command_of_update planned.update ≡ deletes (id_number id)) }
         ensures commits { IfOk result (λ planned. CanCommit self.new.state planned) }
     {
         if let Some(fault) = self.state.delete_refusal(id) {
             return Err(fault);
         }
-        let number = self.state.frames;
-        let frame = delete_update(
-            alloc,
-            keyed,
-            master,
-            &self.state.registry,
-            &mut self.state.keys,
-            number,
-            id,
-        )?;
+        let number = self.state.number();
+        let frame = self.state.deletion(alloc, keyed, master, id)?;
         Ok(PlannedUpdate {
             update: Update::Delete(id),
             words: Vec::new(alloc),
@@ -114,9 +105,9 @@ impl Client<Ready> {
         ensures key { result.key ≡ self.key }
         ensures hash_keys { result.state.ready.registry.keys ≡ self.state.registry.keys }
         ensures stands { (f : KeyedFn) (keys : ℕ → List ℕ) (o : Offsets) (run : Run) → StandsFor f keys o run self.state → StandsFor f keys o (with_command run (command_of_update planned.update)) result.state.ready }
-        ensures owed { to_send result.state ≡ planned.frame.items ∷ [] }
+        ensures owed { to_send result.state ≡ planned.frame ∷ [] }
         ensures first { first_number result.state ≡ planned.number }
-        ensures owes { (f : KeyedFn) (keys : ℕ → List ℕ) (o : Offsets) (run : Run) → StandsFor f keys o run self.state → planned.frame.items ∷ [] ≡ map frame_bytes (frames_next f keys o run (command_of_update planned.update)) → Owes f keys o (with_command run (command_of_update planned.update)) 0 result.state }
+        ensures owes { (f : KeyedFn) (keys : ℕ → List ℕ) (o : Offsets) (run : Run) → StandsFor f keys o run self.state → planned.frame ∷ [] ≡ map frame_bytes (frames_next f keys o run (command_of_update planned.update)) → Owes f keys o (with_command run (command_of_update planned.update)) 0 result.state }
     {
         let Client { key, state } = self;
         let Ready {

@@ -1,6 +1,6 @@
-ghost use Rattle.std.specs.Prelude.{◌≡◌, ◌≢◌, [], Err, IfOk, List, ℕ, None, option_map, true};
+ghost use Rattle.std.specs.Prelude.{◌≡◌, ◌≢◌, [], Err, IfOk, IsSome, List, ℕ, None, option_map, true, unwrap_or};
 ghost use Rattle.std.specs.Result.{result_err};
-ghost use Rattle.client_registry.specs.Acceptance.{frames_needed, setup_refusal};
+ghost use Rattle.client_registry.specs.Acceptance.{frames_needed, size_refusal};
 ghost use Rattle.client_registry.specs.DocumentRule.{IsDocument};
 ghost use Rattle.client_registry.specs.Facts.{has_counters};
 ghost use Rattle.client_registry.specs.IdNumber.{id_number};
@@ -14,16 +14,17 @@ ghost use Rattle.sse_frames.specs.Frames.{IsFrame, IsNumber, SearchFrame, frame_
 ghost use Rattle.client_core.specs.Keys.{Keeps};
 ghost use Rattle.client_core.specs.StandsFor.{AreNumbersOf, StandsFor, full_refusal, refusal_to_add, refusal_to_delete};
 ghost use Rattle.client_core.specs.UpdateFaults.{clash_fault};
-ghost use Rattle.client_core.specs.UpdateTexts.{add_collision, add_text};
+ghost use Rattle.client_core.specs.UpdateTexts.{add_collision, add_text, delete_collision, delete_text};
 
 use crate::client::Client;
 use crate::command_fault::{CommandFault, HistoryFull, frames_after};
 use crate::kept_keys::KeptKeys;
-use crate::updating::add_update;
+use crate::updating::{add_update, delete_update};
 use client_registry::{Doc, DocId, Docs, MAX_WORDS, Registry, Word};
 use keyed_fn::Keyed;
 use sse_frames::search_frame;
 use std::alloc::Global;
+use std::marker::Model;
 use word_keys::PreparedMaster;
 
 /// The state of a client with nothing that the server may lack: the registry of its documents, the keys of words that it
@@ -33,6 +34,14 @@ pub struct Ready {
     pub(crate) registry: Registry,
     pub(crate) keys: KeptKeys,
     pub(crate) frames: u32,
+}
+
+impl Model for Ready {
+    ghost use Rattle.client_core.specs.States.{ReadyState};
+
+    ghost Value = { ReadyState };
+
+    ghost view = { λ r. record { registry = r.registry; keys = r.keys; frames = r.frames } };
 }
 
 impl Client<Ready> {
@@ -55,7 +64,7 @@ impl Ready {
     /// What a client keeps after an accepted setup of these documents, which took so many update frames. It takes no memory.
     pub(crate) fn begun(alloc: Global, docs: Docs, frames: u32) -> Ready
         ensures hash_keys { result.registry.keys ≡ docs.keys }
-        ensures stands { (f : KeyedFn) (keys : ℕ → List ℕ) (s : Setup) → s.documents ≡ docs.documents → setup_refusal s.documents s.shape.b s.shape.big ≡ None → frames ≡ frames_needed s → StandsFor f keys at_first (record { setup = s; later = [] }) result }
+        ensures stands { (f : KeyedFn) (keys : ℕ → List ℕ) (s : Setup) → s.documents ≡ docs.documents → size_refusal s ≡ None → frames ≡ frames_needed s → StandsFor f keys at_first (record { setup = s; later = [] }) result }
     {
         Ready {
             registry: Registry::from_docs(docs),
@@ -89,7 +98,7 @@ impl Ready {
         let words = doc.words();
         prove!(words.len() <= MAX_WORDS);
         let numbers = self.registry.reserve_numbered(doc)?;
-        match add_update(
+        let frame = add_update(
             alloc,
             keyed,
             master,
@@ -98,10 +107,43 @@ impl Ready {
             self.frames,
             doc,
             numbers.as_slice(),
-        ) {
-            Ok(frame) => Ok((frame, numbers)),
-            Err(fault) => Err(fault),
-        }
+        )?;
+        Ok((frame, numbers))
+    }
+
+    /// The frame of the deletion of a live document, its memory taken. Errors: as `delete_update`.
+    pub(crate) fn deletion<K: Keyed>(
+        &mut self,
+        alloc: Global,
+        keyed: &K,
+        master: &PreparedMaster<K>,
+        id: DocId,
+    ) -> Result<Vec<u8>, CommandFault>
+        requires live { IsSome ((facts self.old.registry).live (id_number id)) }
+        requires number { IsNumber self.old.frames }
+        ensures registry { self.new.registry ≡ self.old.registry }
+        ensures frames { self.new.frames ≡ self.old.frames }
+        ensures keeps { Keeps (keyed_fn K.prf K.pad) master.now (known_words self.old.registry) self.old.keys → Keeps (keyed_fn K.prf K.pad) master.now (known_words self.new.registry) self.new.keys }
+        ensures fault { Keeps (keyed_fn K.prf K.pad) master.now (known_words self.old.registry) self.old.keys → result ≢ Err CommandFault.NoMemory → result_err result ≡ option_map clash_fault (delete_collision (keyed_fn K.prf K.pad) master.now (id_number id) (unwrap_or ((facts self.old.registry).live (id_number id)) [])) }
+        ensures bytes { Keeps (keyed_fn K.prf K.pad) master.now (known_words self.old.registry) self.old.keys → IfOk result (λ bytes. bytes.items ≡ frame_bytes (delete_text (keyed_fn K.prf K.pad) master.now self.old.frames (id_number id) (unwrap_or ((facts self.old.registry).live (id_number id)) []))) }
+        ensures frame { IfOk result (λ bytes. IsFrame bytes.items) }
+    {
+        delete_update(
+            alloc,
+            keyed,
+            master,
+            &self.registry,
+            &mut self.keys,
+            self.frames,
+            id,
+        )
+    }
+
+    /// The number of the next update frame.
+    pub(crate) fn number(&self) -> u32
+        ensures { result ≡ self.now.frames }
+    {
+        self.frames
     }
 
     /// Why the document isn't added, but for two equal values.

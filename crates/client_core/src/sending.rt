@@ -29,7 +29,8 @@ impl Client<Behind> {
     pub fn frame(&self) -> &[u8]
         ensures { take 1 (to_send self.now.state) ≡ result.now ∷ [] }
     {
-        self.state.owed.frame()
+        let state = &self.state;
+        state.owed.frame()
     }
 
     /// Takes the reply to the next frame, with its four length bytes. It takes no memory.
@@ -39,10 +40,8 @@ impl Client<Behind> {
         ensures less { left_behind result < frames_left self.state }
         ensures store { stopped_by result ≡ Some ReplyFault.StoreFault → reply.now ≡ reply_bytes StoreFault }
     {
-        let Client {
-            key,
-            state: Behind { ready, owed },
-        } = self;
+        let Client { key, state } = self;
+        let Behind { ready, owed } = state;
         if !acknowledges(reply, owed.number()) {
             return Taken::Stopped(Client { key, state: Spent }, fault_of(reply));
         }

@@ -5,6 +5,7 @@ ghost use Rattle.sse_frames.specs.Frames.{SetupArray, SetupDict, SetupEnd, InGra
 ghost use Rattle.sse_frames.specs.FrameViews.{frame_view, entries_in, items_in};
 ghost use Rattle.sse_frames.specs.Sizes.{AreItems, HasSizes};
 ghost use Rattle.sse_frames.proofs.Cut.{AreBytes};
+ghost use Rattle.index_setup.specs.Built.{IsIndex};
 ghost use Rattle.client_core.specs.Setup.{frames_in, index_frames};
 
 use index_setup::Index;
@@ -15,6 +16,7 @@ use sse_frames::{BLOCKS_PER_FRAME, ENTRIES_PER_FRAME, Frame, LABEL_LEN};
 pub(crate) fn frame_count(index: &Index) -> u32
     ensures count { result ≡ frames_in index.now }
     ensures within { result ≤ 2 + 2 ^ 10 + 2 ^ 12 }
+    ensures limits { IsIndex index.now }
 {
     2 + dictionary_frames(index) + array_frames(index)
 }
@@ -23,6 +25,7 @@ pub(crate) fn frame_count(index: &Index) -> u32
 fn dictionary_frames(index: &Index) -> u32
     ensures count { result ≡ div_ceil index.now.words 1024 }
     ensures within { result ≤ 2 ^ 10 }
+    ensures limits { IsIndex index.now }
 {
     index.words().div_ceil(ENTRIES_PER_FRAME as u32)
 }
@@ -40,10 +43,11 @@ fn array_frames(index: &Index) -> u32
 pub(crate) fn frame_at(index: &Index, place: u32, q: u32) -> Frame<'_>
     requires place { place < frames_in index.now }
     requires number { IsNumber q }
-    requires rises { Rises (labels_of (entries_in (1 + 8 * index.now.b) index.now.entries.items)) }
+    requires rises { Rises (labels_of (entries_in (1 + 8 * index.now.b) index.now.entries)) }
     ensures seen { frame_view result ≡ slice_index_or (index_frames index.now) place (λ n. SetupEnd n) q }
     ensures grammar { InGrammar (frame_view result) }
     ensures sizes { HasSizes result }
+    ensures limits { IsIndex index.now }
 {
     let dictionary = dictionary_frames(index);
     if place == 0 {
@@ -68,8 +72,8 @@ pub(crate) fn frame_at(index: &Index, place: u32, q: u32) -> Frame<'_>
 fn entries_at(index: &Index, i: u32, q: u32) -> Frame<'_>
     requires part { i < div_ceil index.now.words 1024 }
     requires number { IsNumber q }
-    requires rises { Rises (labels_of (entries_in (1 + 8 * index.now.b) index.now.entries.items)) }
-    ensures seen { frame_view result ≡ SetupDict q (1 + 8 * index.now.b) (slice_index_or (parts 1024 (entries_in (1 + 8 * index.now.b) index.now.entries.items)) i []) }
+    requires rises { Rises (labels_of (entries_in (1 + 8 * index.now.b) index.now.entries)) }
+    ensures seen { frame_view result ≡ SetupDict q (1 + 8 * index.now.b) (slice_index_or (parts 1024 (entries_in (1 + 8 * index.now.b) index.now.entries)) i []) }
     ensures grammar { InGrammar (frame_view result) }
     ensures sizes { HasSizes result }
 {
@@ -87,7 +91,7 @@ fn entries_at(index: &Index, i: u32, q: u32) -> Frame<'_>
 fn blocks_at(index: &Index, i: u32, q: u32) -> Frame<'_>
     requires part { i < div_ceil index.now.blocks 256 }
     requires number { IsNumber q }
-    ensures seen { frame_view result ≡ SetupArray q (8 * index.now.big) (slice_index_or (parts 256 (items_in (8 * index.now.big) index.now.array.items)) i []) }
+    ensures seen { frame_view result ≡ SetupArray q (8 * index.now.big) (slice_index_or (parts 256 (items_in (8 * index.now.big) index.now.array)) i []) }
     ensures grammar { InGrammar (frame_view result) }
     ensures sizes { HasSizes result }
 {

@@ -11,27 +11,34 @@ use Rattle.client_core.proofs.planning.Client+Ready.plan_delete.Goals as goal
 
 pub returns-in-Some-clause-refused : goal.returns-in-Some-clause-refused
 returns-in-Some-clause-refused g c =
+    rw (← c.self.view_is) (
     λ keys o run under s.
     is_refused _ _ c.in-Some.fault
-    (sym (refusal_is-delete o run c.args.self.now.state s.registry s.number (id_number c.args.id)) ∙ sym c.delete_refusal.ensures ∙ c.in-Some.is) refl
+    (sym (refusal_is-delete o run c.self.inside.state s.registry s.number (id_number c.args.id)) ∙ sym c.delete_refusal.ensures ∙ c.in-Some.is) refl
+    )
 
 pub returns-in-Some-clause-fault : goal.returns-in-Some-clause-fault
 returns-in-Some-clause-fault g c =
+    rw (← c.self.view_is) (
     λ keys o run under s some.
-    fault_refused-delete (keyed_fn g.K.Keyed.prf g.K.Keyed.pad) keys o run c.args.master.now under c.args.self.now.state s (id_number c.args.id) c.in-Some.fault
+    fault_refused-delete (keyed_fn g.K.Keyed.prf g.K.Keyed.pad) keys o run c.args.master.now under c.self.inside.state s (id_number c.args.id) c.in-Some.fault
     (sym c.delete_refusal.ensures ∙ c.in-Some.is)
+    )
 
 pub returns-in_err-frame-clause-refused : goal.returns-in_err-frame-clause-refused
 returns-in_err-frame-clause-refused g c =
+    rw (← c.self.view_is) (
     λ keys o run under s.
     not_refused _ _
-    (sym (refusal_is-delete o run c.args.self.now.state s.registry s.number (id_number c.args.id)) ∙ sym c.delete_refusal.ensures ∙ c.in_default.is)
+    (sym (refusal_is-delete o run c.self.inside.state s.registry s.number (id_number c.args.id)) ∙ sym c.delete_refusal.ensures ∙ c.in_default.is)
+    )
 
 pub returns-in_err-frame-clause-fault : goal.returns-in_err-frame-clause-fault
 returns-in_err-frame-clause-fault g c =
+    rw (← c.self.view_is) (
     λ keys o run under s some.
     let f = keyed_fn g.K.Keyed.prf g.K.Keyed.pad in
-    let state = c.args.self.now.state in
+    let state = c.self.inside.state in
     let id = id_number c.args.id in
     let words = unwrap_or ((facts state.registry).live id) [] in
     let x = c.in_err-frame.field-0.0 in
@@ -41,32 +48,39 @@ returns-in_err-frame-clause-fault g c =
     ap result_err is
     ∙ c.in_err-frame.ensures.fault (keeps f keys o run c.args.master.now under state s) (not_wanting _ c.from_residual.result x refl is some)
     )
+    )
 
 pub returns-clause-refused : goal.returns-clause-refused
 returns-clause-refused g c =
+    rw (← c.self.view_is) (
     λ keys o run under s.
     not_refused _ _
-    (sym (refusal_is-delete o run c.args.self.now.state s.registry s.number (id_number c.args.id)) ∙ sym c.delete_refusal.ensures ∙ c.in_default.is)
+    (sym (refusal_is-delete o run c.self.inside.state s.registry s.number (id_number c.args.id)) ∙ sym c.delete_refusal.ensures ∙ c.in_default.is)
+    )
 
 pub returns-clause-fault : goal.returns-clause-fault
 returns-clause-fault g c =
+    rw (← c.self.view_is) (
     λ keys o run under s some.
     let f = keyed_fn g.K.Keyed.prf g.K.Keyed.pad in
-    let state = c.args.self.now.state in
+    let state = c.self.inside.state in
     let id = id_number c.args.id in
     let words = unwrap_or ((facts state.registry).live id) [] in
     fault_is-delete f keys o run c.args.master.now under state s id None (sym c.delete_refusal.ensures ∙ c.in_default.is)
     (c.in_ok-frame.ensures.fault (keeps f keys o run c.args.master.now under state s) (ok_not_wanting _ _ refl))
+    )
 
 pub returns-clause-frame : goal.returns-clause-frame
 returns-clause-frame g c =
+    rw (← c.self.view_is) (
     λ keys o run under s.
     let f = keyed_fn g.K.Keyed.prf g.K.Keyed.pad in
-    let state = c.args.self.now.state in
+    let state = c.self.inside.state in
     let id = id_number c.args.id in
     let words = unwrap_or ((facts state.registry).live id) [] in
     ap (λ bytes. bytes ∷ []) (c.in_ok-frame.ensures.bytes (keeps f keys o run c.args.master.now under state s))
     ∙ ap (map frame_bytes) (frames_are-delete f keys o run c.args.master.now under state s id)
+    )
 
 pub returns-in-Some-clause-only : goal.returns-in-Some-clause-only
 returns-in-Some-clause-only g c =

@@ -9,7 +9,7 @@ returns-clause-stands c =
     λ f keys s same accepted frames.
     record {
       kept = IsKept-begun s (subst IsCollected (sym same) c.from_docs.ensures.valid) accepted;
-      registry = subst (λ docs. Represents c.from_docs.result (record { documents = docs; shape = s.shape }) []) (sym same) (c.from_docs.ensures.setup s.shape);
+      registry = subst (λ docs. Represents c.from_docs.result (record { documents = docs; shape = s.shape; pad = s.pad }) []) (sym same) (c.from_docs.ensures.setup s.shape s.pad);
       number = omega (arith, frames);
       word_keys = c.new.ensures f (keys 0) (known_words c.from_docs.result);
     }

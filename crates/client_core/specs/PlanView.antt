@@ -1,0 +1,38 @@
+-- What the fields of a plan of a setup stand for.
+use Rattle.std.specs.Prelude.{◌≡◌, ◌+◌, ◌*◌, None, map, vec_len}
+use Rattle.client_registry.specs.Acceptance.{frames_needed, setup_refusal}
+use Rattle.client_registry.specs.Collected.{Collected}
+use Rattle.client_registry.specs.Setup.{setup_of}
+use Rattle.index_setup.specs.declared.index.Index.{Index}
+use Rattle.sse_frames.specs.Frames.{Rises, frame_bytes, labels_of}
+use Rattle.sse_frames.specs.FrameViews.{entries_in}
+use Rattle.sse_frames.specs.Sending.{numbered}
+use Rattle.client_core.specs.Plans.{SetupPlan}
+use Rattle.client_core.specs.Setup.{frames_in, index_frames}
+use Rattle.client_core.specs.declared.planned.Planned.TheInside.{Inside}
+
+-- the plan that sends an index of these documents
+abbrev pub plan_of : Index → Collected → SetupPlan
+plan_of index docs = record {
+  made_of = docs;
+  b = index.b;
+  big = index.big;
+  words = index.words;
+  blocks = index.blocks;
+  frames = map frame_bytes (numbered 0 (index_frames index));
+}
+
+-- an index of these documents can be sent: they are accepted, its frames are as many as they need, and its entries rise
+pub record IsSendable (index : Index) (docs : Collected) : Type 0 where
+  pub accepted : setup_refusal docs.documents index.b index.big ≡ None
+  pub frames : frames_in index ≡ frames_needed (setup_of docs.documents index.b index.big)
+  pub rises : Rises (labels_of (entries_in (1 + 8 * index.b) index.entries))
+
+-- what contracts see of the fields
+abbrev pub setup_plan_of : Inside → SetupPlan
+setup_plan_of p = plan_of p.index p.made_of.value
+
+-- and what is so of them: the index can be sent, and the room is that of the longest frame
+pub record IsPlanned (p : Inside) : Type 0 where
+  pub sendable : IsSendable p.index p.made_of.value
+  pub fits : vec_len p.room ≡ 541709
