@@ -100,15 +100,10 @@ pub LinkCause-printed : (before now : ℕ) (fault : DeviceFault) → now ≡ bef
 LinkCause-printed before now devices.Failed same = same
 LinkCause-printed before now devices.NoMemory same = same
 
--- a count of the source that stays shows no fault of it
-pub SourceCause-same : (before now : ℕ) (stop : StopCause) → stop ≢ stops.Input inputs.Source → now ≡ before → SourceCause before now stop
-SourceCause-same before now stops.Words other same = same
-SourceCause-same before now (stops.Input (inputs.Line number)) other same = same
-SourceCause-same before now (stops.Input inputs.Source) other same = absurd (other refl)
-SourceCause-same before now (stops.Input inputs.Memory) other same = same
-SourceCause-same before now stops.Sink other same = same
-SourceCause-same before now stops.Memory other same = same
-SourceCause-same before now (stops.Command stop) other same = same
+-- and the source's
+pub SourceCause-printed : (before now : ℕ) (fault : DeviceFault) → now ≡ before → SourceCause before now (stop_of_sink fault)
+SourceCause-printed before now devices.Failed same = same
+SourceCause-printed before now devices.NoMemory same = same
 
 -- The status and the last line of a stop are those that the script's meaning has for it.
 

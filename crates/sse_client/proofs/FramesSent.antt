@@ -1,6 +1,8 @@
 -- How far the sending of update frames is.
-use Rattle.std.proofs.Common.{◌≡◌, ℕ, ◌+◌, List, [], ◌∷◌, ◌++◌, map, length, take, drop, Some, refl, sym, ap, subst, ◌∙◌, append_assoc}
+use Rattle.std.proofs.Common.{◌≡◌, ℕ, ◌+◌, List, [], ◌∷◌, ◌++◌, map, length, take, drop, Some, refl, sym, ap, subst, ◌∙◌, append_assoc, Result, Ok, Err}
+use Rattle.std.specs.Prelude.{IsErrAnd}
 use Rattle.std.proofs.lemmas.List.{take_at, drop_at}
+use Rattle.std.proofs.Math.Seq.{take-append-add, drop-append-add}
 use Rattle.client_core.specs.Sending.{first_number, to_send}
 use Rattle.client_core.specs.declared.behind.Behind.{Behind}
 use Rattle.client_replies.specs.Faults.{IsFaultOf}
@@ -14,9 +16,13 @@ use Rattle.script_meaning.specs.Exchange.{Told, AreExchanged, IsCut}
 use Rattle.sse_client.specs.Exchanges.{HasExchanged, HasCut}
 use Rattle.client_core.specs.Owes.{AreNumbered}
 use Rattle.sse_client.specs.Progress.{IsAnswered, IsUnanswered}
+use Rattle.sse_client.specs.Steps.{AreOwed, IsSending, StepsOver}
 use Rattle.sse_client.specs.Stops.{cause_of_fault}
+use Rattle.sse_client.specs.declared.sending.Step.{Step}
+use Rattle.run_texts.specs.Stops.{peer_cause}
+use Rattle.run_texts.specs.declared.peer_stop.PeerStop.{PeerStop}
 use Rattle.sse_client.proofs.PartOfExchange.{IsBegun, IsBegun-unanswered, IsBegun-answered, HasExchanged-answered, asked-update_number, update-behind_greeting, shows_to_update}
-use Rattle.sse_client.proofs.FramesUnderWay.{AreOwed, IsNext, next_of, none_mapped}
+use Rattle.sse_client.proofs.FramesUnderWay.{IsNext, next_of, none_mapped}
 
 -- frames that were exchanged, and then others, where none is a search that was answered
 pub HasExchanged-joined : (old between new : Told) (xs ys : List FrameText) → HasExchanged old between [] xs → HasExchanged between new [] ys → HasExchanged old new [] (xs ++ ys)
@@ -25,15 +31,6 @@ HasExchanged-joined old between new xs ys first second = record {
   adds = Adds-joined old between new first.events second.events first.adds second.adds;
   exchanged = AreExchanged-both [] [] xs ys first.events second.events first.exchanged second.exchanged;
 }
-
--- of these frames some were exchanged, and the others are left
-pub record IsSending (old now : Told) (state : Behind) (frames : List FrameText) : Type 0 where
-  pub done : List FrameText
-  pub left : List FrameText
-  pub parts : frames ≡ done ++ left
-  pub exchanged : HasExchanged old now [] done
-  pub to_come : to_send state ≡ map frame_bytes left
-  pub numbered : AreNumbered (first_number state) left
 
 -- nothing was exchanged yet
 pub IsSending-begun : (told : Told) (state : Behind) (frames : List FrameText) → AreOwed state frames → IsSending told told state frames
@@ -104,3 +101,41 @@ HasCut-answered old now new state frames frame reply fault way one answered wron
     let n = next_of state frame way.left way.to_come way.numbered one in
     HasCut-next old now new state frames frame (cause_of_fault fault reply) way n
     (IsBegun-answered now new frame reply n.first (cause_of_fault fault reply) n.spelled answered (shows_to_update n.first (first_number state) reply fault n.number wrong is))
+
+-- What was exchanged, and then a step over what is left.
+
+pub IsSending-joined : (old now new : Told) (state later : Behind) (frames : List FrameText) (way : IsSending old now state frames) → IsSending now new later way.left → IsSending old new later frames
+IsSending-joined old now new state later frames way more = record {
+  done = way.done ++ more.done;
+  left = more.left;
+  parts = way.parts ∙ ap (λ x. way.done ++ x) more.parts ∙ sym (append_assoc way.done more.done more.left);
+  exchanged = HasExchanged-joined old now new way.done more.done way.exchanged more.exchanged;
+  to_come = more.to_come;
+  numbered = more.numbered;
+}
+
+pub HasExchanged-behind : (old now new : Told) (state : Behind) (frames : List FrameText) (way : IsSending old now state frames) → HasExchanged now new [] way.left → HasExchanged old new [] frames
+HasExchanged-behind old now new state frames way more =
+    subst (HasExchanged old new []) (sym way.parts) (HasExchanged-joined old now new way.done way.left way.exchanged more)
+
+pub HasCut-behind : (old now new : Told) (state : Behind) (frames : List FrameText) (c : Cause) (way : IsSending old now state frames) → HasCut now new way.left c → HasCut old new frames c
+HasCut-behind old now new state frames c way more = record {
+  events = way.exchanged.events ++ more.events;
+  adds = Adds-joined old now new way.exchanged.events more.events way.exchanged.adds more.adds;
+  cut = record {
+    n = length way.done + more.cut.n;
+    answers = more.cut.answers;
+    before = way.exchanged.events ++ more.cut.before;
+    cut = more.cut.cut;
+    parts = ap (λ es. way.exchanged.events ++ es) more.cut.parts ∙ sym (append_assoc way.exchanged.events more.cut.before more.cut.cut);
+    exchanged =
+        subst (λ fs. AreExchanged more.cut.answers fs (way.exchanged.events ++ more.cut.before)) (sym (ap (take (length way.done + more.cut.n)) way.parts ∙ take-append-add way.done way.left more.cut.n))
+        (AreExchanged-both [] more.cut.answers way.done (take more.cut.n way.left) way.exchanged.events more.cut.before way.exchanged.exchanged more.cut.exchanged);
+    one_more = subst (λ fs. IsCut fs more.cut.cut c) (sym (ap (drop (length way.done + more.cut.n)) way.parts ∙ drop-append-add way.done way.left more.cut.n)) more.cut.one_more;
+  };
+}
+
+-- a step that stops is cut
+pub StepsOver-err : (old new : Told) (frames : List FrameText) (r : Result Step PeerStop) (stop : PeerStop) → IsErrAnd r (λ e. e ≡ stop) → HasCut old new frames (peer_cause stop) → StepsOver old new frames r
+StepsOver-err old new frames (Ok step) stop is cut = absurd is
+StepsOver-err old new frames (Err e) stop is cut = subst (λ s. HasCut old new frames (peer_cause s)) (sym is) cut

@@ -1,14 +1,10 @@
--- How far the sending of update frames is.
+-- The next of the frames that an update is to send.
 use Rattle.std.proofs.Common.{◌≡◌, ℕ, ◌+◌, List, [], ◌∷◌, map, take, drop, Some, refl, sym, ap, subst}
 use Rattle.std.specs.List.{AllByRecursion}
 use Rattle.client_core.specs.Sending.{first_number, to_send}
 use Rattle.client_core.specs.declared.behind.Behind.{Behind}
 use Rattle.sse_frames.specs.Frames.{FrameText, IsFrame, frame_bytes, update_number}
 use Rattle.client_core.specs.Owes.{AreNumbered}
-
--- frames that an update is to send
-abbrev pub AreOwed : Behind → List FrameText → Type 0
-AreOwed state frames = (to_send state ≡ map frame_bytes frames) × AreNumbered (first_number state) frames
 
 -- the next of the frames that are left
 pub record IsNext (state : Behind) (frame : List ℕ) (left : List FrameText) : Type 0 where

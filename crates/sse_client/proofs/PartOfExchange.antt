@@ -79,9 +79,6 @@ AreCut-memory frames = record { n = 0; answers = []; before = []; cut = []; part
     by [] = (refl, refl)
     by (frame ∷ fs) = inr refl
 
-pub HasCut-memory : (told : Told) (frames : List FrameText) → HasCut told told frames cause.NoMemory
-HasCut-memory told frames = record { events = []; adds = Adds-nothing told; cut = AreCut-memory frames }
-
 -- One reply came.
 
 -- an update frame is sent after the greeting, and asks for its acknowledgement

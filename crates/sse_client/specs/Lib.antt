@@ -6,6 +6,7 @@ pub mod Stages
 pub mod Progress
 pub mod Exchanges
 pub mod Calls
+pub mod Steps
 pub mod Stands
 pub mod Turns
 pub mod OverServer

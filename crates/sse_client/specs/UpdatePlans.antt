@@ -22,7 +22,7 @@ clash_of f place c = option_map collision_cause (collision_of_next f (keys_at pl
 -- a plan is of this command, without equal values, and has its frame
 pub record IsPlanOf (f : KeyedFn) (place : Place) (c : Command) (planned : PlannedUpdate) : Type 0 where
   pub command : command_of_update planned.update ≡ c
-  pub frame : planned.frame.items ∷ [] ≡ map frame_bytes (frames_of_next f (keys_at place) place.history (c ∷ []))
+  pub frame : planned.frame ∷ [] ≡ map frame_bytes (frames_of_next f (keys_at place) place.history (c ∷ []))
   pub no_clash : clash_of f place c ≡ None
 
 -- of a command that is refused for this reason, or for none, and has two equal values with this printed cause, or none: a fault

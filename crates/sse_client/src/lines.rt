@@ -1,18 +1,14 @@
-ghost use Rattle.std.specs.Prelude.{◌≡◌, ◌≢◌, ◌≤◌, ◌<◌, ◌+◌, ◌^◌, ◌||◌, Err, IfErr, IfOk};
+ghost use Rattle.std.specs.Prelude.{◌≡◌, ◌≤◌, ◌<◌, ◌+◌, ◌^◌, ◌||◌, IfOk};
 ghost use Rattle.std.specs.Io.KnownBytes.{IsAtEnd};
 ghost use Rattle.keyed_fn.specs.KeyedFn.{keyed_fn};
 ghost use Rattle.run_texts.specs.Causes.{KeepsSink, KeepsSource, LinkCause, SourceCause};
-ghost use Rattle.run_texts.specs.LineWords.{words_in};
-ghost use Rattle.script_meaning.specs.Lines as requests;
-ghost use Rattle.script_meaning.specs.Lines.{Request, line_read};
 ghost use Rattle.script_meaning.specs.Outcome.{Place};
 ghost use Rattle.script_meaning.specs.Runs.{moment};
 ghost use Rattle.sse_client.specs.Calls.{shows, KeepsLink};
 ghost use Rattle.sse_client.specs.Stages.{key_of};
-ghost use Rattle.sse_client.specs.Stands.{IsAt, outside_of, stop_view, has_refused, CarriesOut, StopsRun, EndsFrom};
+ghost use Rattle.sse_client.specs.Stands.{IsAt, outside_of, has_refused, EndsFrom};
 ghost use Rattle.sse_client.specs.Turns.{ending, IfNext, OnEnd, Turns};
 ghost use Rattle.sse_script.specs.TextLines.{bytes_to_come, lines_left};
-ghost use Rattle.sse_script.specs.Views.{line_view};
 
 use crate::reply_buffer::ReplyBuffer;
 use crate::session::{Stage, take_line};
@@ -121,8 +117,9 @@ fn take_turn<K: Keyed, L: Link, S: Source, W: Sink>(
         })),
         Line::Key(_) => Err(StopCause::Input(InputStop::Line(input.number()))),
         line => {
-            let (next, refused) = run_command(tools, link, &mut buffer, sink, stage, line)?;
-            let refusals = refusals.or(refused);
+            let (next, outcome) = take_line(tools, link, &mut buffer, stage, line)?;
+            outcome.print(tools.alloc, sink)?;
+            let refusals = refusals.or(outcome.is_refusal());
             Ok(Turn::Next(Session {
                 stage: next,
                 refusals,
@@ -130,29 +127,4 @@ fn take_turn<K: Keyed, L: Link, S: Source, W: Sink>(
             }))
         }
     }
-}
-
-/// Carries out a command, and prints what it comes to; answers where the session stands then, and whether it was refused.
-fn run_command<K: Keyed, L: Link, W: Sink>(
-    tools: &Tools<'_, K>,
-    link: &mut L,
-    buffer: &mut ReplyBuffer,
-    sink: &mut W,
-    stage: Stage,
-    line: Line<'_>,
-) -> Result<(Stage, bool), StopCause>
-    requires prepared { tools.now.master ≡ key_of stage }
-    requires words { words_in (line_view line) ≤ 2 ^ 19 }
-    ensures carries { IfOk result (λ done. (request : Request) → line_read (line_view line.entry) ≡ requests.Command request →
-        CarriesOut (keyed_fn K.prf K.pad) stage request (outside_of (L.transcript link.old) (W.written sink.old)) (outside_of (L.transcript link.new) (W.written sink.new)) done.0 done.1) }
-    ensures stops { IfErr result (λ stop. (request : Request) → line_read (line_view line.entry) ≡ requests.Command request →
-        StopsRun (keyed_fn K.prf K.pad) stage request (outside_of (L.transcript link.old) (W.written sink.old)) (outside_of (L.transcript link.new) (W.written sink.new)) (stop_view stop)) }
-    ensures same_key { IfOk result (λ done. key_of done.0 ≡ key_of stage) }
-    ensures no_source { result ≢ Err (StopCause.Input InputStop.Source) }
-    ensures sink { KeepsSink (W.faults sink.old) (W.faults sink.new) (W.shortages sink.old) (W.shortages sink.new) result }
-    ensures link { KeepsLink LinkCause (shows (L.transcript link.old) (L.faults link.old) (L.began link.old)) (shows (L.transcript link.new) (L.faults link.new) (L.began link.new)) result }
-{
-    let (next, outcome) = take_line(tools, link, buffer, stage, line)?;
-    outcome.print(tools.alloc, sink)?;
-    Ok((next, outcome.is_refusal()))
 }

@@ -1,9 +1,10 @@
 ghost use Rattle.std.specs.Prelude.{◌≡◌, ℕ, List, map, IfOk};
 ghost use Rattle.std.specs.List.{AllByRecursion};
+ghost use Rattle.client_core.specs.Owes.{AreNumbered};
 ghost use Rattle.client_core.specs.Sending.{first_number, to_send};
 ghost use Rattle.run_texts.specs.Causes.{PeerCause};
 ghost use Rattle.sse_client.specs.Calls.{shows, KeepsLink, Sends};
-ghost use Rattle.client_core.specs.Owes.{AreNumbered};
+ghost use Rattle.sse_client.specs.Steps.{AreOwed, LeavesClient, StepsOver};
 ghost use Rattle.sse_frames.specs.Frames.{FrameText, IsFrame, frame_bytes};
 
 use crate::exchange::exchange;
@@ -12,6 +13,15 @@ use crate::reply_buffer::ReplyBuffer;
 use client_core::{Behind, Client, Ready, Taken};
 use run_texts::PeerStop;
 use sse_link::Link;
+
+/// A client whose next frame was acknowledged.
+#[derive(Drop)]
+enum Step {
+    /// More frames are left.
+    Behind(Client<Behind>),
+    /// None is left.
+    Ready(Client<Ready>),
+}
 
 /// Sends each frame that the server may lack, and takes its acknowledgement before the next.
 pub(crate) fn catch_up<L: Link>(
@@ -27,12 +37,29 @@ pub(crate) fn catch_up<L: Link>(
     ensures keeps { KeepsLink PeerCause (shows (L.transcript link.old) (L.faults link.old) (L.began link.old)) (shows (L.transcript link.new) (L.faults link.new) (L.began link.new)) result }
 {
     'frames: loop {
-        exchange(link, client.frame(), buffer)?;
-        let reply = buffer.reply();
-        match client.take_reply(reply) {
-            Taken::Behind(next) => client = next,
-            Taken::Ready(ready) => return Ok(ready),
-            Taken::Stopped(_spent, fault) => return Err(stop_of_reply(fault, reply)),
+        match send_next(client, link, buffer)? {
+            Step::Behind(next) => client = next,
+            Step::Ready(ready) => return Ok(ready),
         }
+    }
+}
+
+/// Sends the next frame, and takes its acknowledgement.
+fn send_next<L: Link>(
+    client: Client<Behind>,
+    link: &mut L,
+    buffer: &mut ReplyBuffer,
+) -> Result<Step, PeerStop>
+    requires frames { AllByRecursion IsFrame (to_send client.state) }
+    ensures steps { (frames : List FrameText) → AreOwed client.state frames → StepsOver (L.transcript link.old) (L.transcript link.new) frames result }
+    ensures client { IfOk result (LeavesClient client) }
+    ensures keeps { KeepsLink PeerCause (shows (L.transcript link.old) (L.faults link.old) (L.began link.old)) (shows (L.transcript link.new) (L.faults link.new) (L.began link.new)) result }
+{
+    exchange(link, client.frame(), buffer)?;
+    let reply = buffer.reply();
+    match client.take_reply(reply) {
+        Taken::Behind(next) => Ok(Step::Behind(next)),
+        Taken::Ready(ready) => Ok(Step::Ready(ready)),
+        Taken::Stopped(_spent, fault) => Err(stop_of_reply(fault, reply)),
     }
 }

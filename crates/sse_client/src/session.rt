@@ -1,6 +1,5 @@
 ghost use Rattle.std.specs.Prelude.{◌≡◌, ◌≤◌, ◌^◌, List, [], ◌∷◌, false, Err, length, map, IfOk, IfErr, OnOk, OnErr, IsErrOf, Ok};
 ghost use Rattle.std.specs.List.{AllByRecursion};
-ghost use Rattle.client_core.specs.Sending.{planned_frames};
 ghost use Rattle.client_registry.specs.Setup.{setup_of};
 ghost use Rattle.keyed_fn.specs.KeyedFn.{KeyedFn, keyed_fn};
 ghost use Rattle.run_texts.specs.Causes.{CommandCause, PeerCause};
@@ -150,13 +149,13 @@ fn send_setup<L: Link>(
     link: &mut L,
     buffer: &mut ReplyBuffer,
 ) -> Result<(Stage, LineResult), PeerStop>
-    requires frames { AllByRecursion IsFrame (planned_frames planned) }
-    requires documents { planned.made_of.value ≡ docs }
-    ensures sends { (frames : List FrameText) → planned_frames planned ≡ map frame_bytes frames → AreNumbered 0 frames →
+    requires frames { AllByRecursion IsFrame (planned.frames) }
+    requires documents { planned.made_of ≡ docs }
+    ensures sends { (frames : List FrameText) → planned.frames ≡ map frame_bytes frames → AreNumbered 0 frames →
         Sends (shows (L.transcript link.old) (L.faults link.old) (L.began link.old)) (shows (L.transcript link.new) (L.faults link.new) (L.began link.new)) frames result }
-    ensures shown { IfOk result (λ done. line_result_view done.1 ≡ says.SetUp planned.index.words planned.index.blocks ∷ []) }
+    ensures shown { IfOk result (λ done. line_result_view done.1 ≡ says.SetUp planned.words planned.blocks ∷ []) }
     ensures accepted { IfOk result (λ done. refuses done.1 ≡ false) }
-    ensures stands { (f : KeyedFn) → IfOk result (λ done. IsReady f client.key (record { setup = setup_of docs.documents planned.index.b planned.index.big; later = [] }) done.0) }
+    ensures stands { (f : KeyedFn) → IfOk result (λ done. IsReady f client.key (record { setup = setup_of docs.documents planned.b planned.big; later = [] }) done.0) }
     ensures hash_keys { IfOk result (λ done. hash_keys_of done.0 ≡ docs.keys) }
     ensures key { IfOk result (λ done. key_of done.0 ≡ client.key) }
     ensures keeps { KeepsLink PeerCause (shows (L.transcript link.old) (L.faults link.old) (L.began link.old)) (shows (L.transcript link.new) (L.faults link.new) (L.began link.new)) result }

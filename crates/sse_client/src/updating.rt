@@ -46,7 +46,7 @@ pub(crate) fn plan_addition<K: Keyed>(
     ensures stands { (place : Place) → IsAt (keyed_fn K.prf K.pad) (Searching client.old) place → IsAt (keyed_fn K.prf K.pad) (Searching client.new) place }
     ensures plan { (place : Place) → IsAt (keyed_fn K.prf K.pad) (Searching client.old) place → IsUpdatePlan (keyed_fn K.prf K.pad) place (add_refusal place.history (document id fields.entry)) (Add (document id fields.entry)) result }
     ensures zero { id ≡ 0 → result ≡ Err (UpdateFault.Refused Refusal.Zero) }
-    ensures frame { IfOk result (λ planned. IsFrame planned.frame.items) }
+    ensures frame { IfOk result (λ planned. IsFrame planned.frame) }
     ensures commits { IfOk result (λ planned. CanCommit client.new.state planned) }
 {
     let doc = document_of(tools.alloc, id, fields)?;
@@ -64,7 +64,7 @@ pub(crate) fn plan_deletion<K: Keyed>(
     ensures stands { (place : Place) → IsAt (keyed_fn K.prf K.pad) (Searching client.old) place → IsAt (keyed_fn K.prf K.pad) (Searching client.new) place }
     ensures plan { (place : Place) → IsAt (keyed_fn K.prf K.pad) (Searching client.old) place → IsUpdatePlan (keyed_fn K.prf K.pad) place (delete_refusal place.history id) (Delete id) result }
     ensures refused { (place : Place) → IsAt (keyed_fn K.prf K.pad) (Searching client.old) place → IfSome (delete_refusal place.history id) (λ refusal. result ≡ Err (UpdateFault.Refused refusal)) }
-    ensures frame { IfOk result (λ planned. IsFrame planned.frame.items) }
+    ensures frame { IfOk result (λ planned. IsFrame planned.frame) }
     ensures commits { IfOk result (λ planned. CanCommit client.new.state planned) }
 {
     let id = DocId::new(id)?;
@@ -81,7 +81,7 @@ pub(crate) fn send_update<L: Link>(
     buffer: &mut ReplyBuffer,
 ) -> Result<(Stage, LineResult), CommandStop>
     requires commits { IfOk planned (CanCommit client.state) }
-    requires frame { IfOk planned (λ planned. IsFrame planned.frame.items) }
+    requires frame { IfOk planned (λ planned. IsFrame planned.frame) }
     requires accepts { refuses done ≡ false }
     ensures goes_on { IfOk result (λ went. (f : KeyedFn) (place : Place) (refusal : Option Reason) (c : Command) (shown : Shown) → IsAt f (Searching client) place → IsUpdatePlan f place refusal c planned → line_result_view done ≡ with_answers [] (shown ∷ []) →
         GoesOn f (L.transcript link.old) (L.transcript link.new) went.0 went.1 place (unless refusal (Does (c ∷ []) shown))) }

@@ -59,7 +59,7 @@ pages-preserved g c =
       steady = c.in_ok-receive.ensures.steady (λ e. page_no_store c.pages.found.pages reply false after.0 page (c.reply-reply.ensures ∙ e)) ∙ c.pages.invariant.steady;
       few = omega (arith, page.within, after.3);
       reading =
-          IsReading-next old now new token c.pages.found.ids.items c.page.new.self.ids.items c.pages.found.pages c.page.new.self.pages reply after.0 c.pages.invariant.reading one page after.2 after.3;
+          IsReading-next old now new token c.pages.found.ids c.page.new.self.ids c.pages.found.pages c.page.new.self.pages reply after.0 c.pages.invariant.reading one page after.2 after.3;
     }
 
 pub returns-in_err-send-clause-stopped : goal.returns-in_err-send-clause-stopped
@@ -79,7 +79,7 @@ returns-in_err-receive-clause-stopped g c =
     let token = token_of (keyed_fn g.K.Keyed.prf g.K.Keyed.pad) c.args.client.now.key (word_bytes c.args.word.now) in
     let stop = c.in_err-receive.field-0.0 in
     IfErr-from c.from_residual-in_err-receive.result stop (λ e. HasCut old new (SearchFrame token ∷ []) (peer_cause e)) c.from_residual-in_err-receive.ensures.1
-    (HasCut-reading old now new token c.pages.found.ids.items c.pages.found.pages (peer_cause stop) c.pages.invariant.reading c.pages.invariant.few c.in_err-receive.ensures.untold c.in_err-receive.ensures.outside)
+    (HasCut-reading old now new token c.pages.found.ids c.pages.found.pages (peer_cause stop) c.pages.invariant.reading c.pages.invariant.few c.in_err-receive.ensures.untold c.in_err-receive.ensures.outside)
 
 pub returns-in-Ok-Done-clause-found : goal.returns-in-Ok-Done-clause-found
 returns-in-Ok-Done-clause-found g c =
@@ -91,7 +91,7 @@ returns-in-Ok-Done-clause-found g c =
     let one : Adds now new (Received reply ∷ []) = Adds-same now new c.receive.new.self reply c.reply-reply.ensures c.in_ok-receive.ensures.told in
     let after = c.in-Ok-Done.ensures.after in
     let page : IsNextPage c.pages.found.pages reply true after.0 = subst (λ last. IsNextPage c.pages.found.pages reply last after.0) (ap is_done c.in-Ok-Done.field-0-is) after.1 in
-    HasSearched-last old now new token c.pages.found.ids.items c.page.new.self.ids.items c.finish.result.items c.pages.found.pages reply after.0 c.pages.invariant.reading
+    HasSearched-last old now new token c.pages.found.ids c.page.new.self.ids c.finish.result.items c.pages.found.pages reply after.0 c.pages.invariant.reading
     one page after.2 c.finish.ensures
 
 pub returns-in-Err-clause-stopped : goal.returns-in-Err-clause-stopped
@@ -103,7 +103,7 @@ returns-in-Err-clause-stopped g c =
     let reply = c.reply-reply.result.now in
     let one : Adds now new (Received reply ∷ []) = Adds-same now new c.receive.new.self reply c.reply-reply.ensures c.in_ok-receive.ensures.told in
     subst (HasCut old new (SearchFrame token ∷ [])) (sym c.stop_of_reply.ensures.cause)
-    (HasCut-refused old now new token c.pages.found.ids.items c.pages.found.pages reply c.in-Err.fault c.pages.invariant.reading c.pages.invariant.few one c.in-Err.ensures.after.0)
+    (HasCut-refused old now new token c.pages.found.ids c.pages.found.pages reply c.in-Err.fault c.pages.invariant.reading c.pages.invariant.few one c.in-Err.ensures.after.0)
 
 pub returns-in-Ok-Done-clause-keeps : goal.returns-in-Ok-Done-clause-keeps
 returns-in-Ok-Done-clause-keeps g c =

@@ -12,7 +12,7 @@ invariant-pages g l = record {
   steady : g.L.Link.faults l.link ≡ g.L.Link.faults l.fn.link;
   few : l.found.pages ≤ 2 ^ 20;
   reading : IsReading (g.L.Link.transcript l.fn.link) (g.L.Link.transcript l.link)
-      (token_of (keyed_fn g.K.Keyed.prf g.K.Keyed.pad) l.fn.client.key (word_bytes l.fn.word)) l.found.ids.items l.found.pages;
+      (token_of (keyed_fn g.K.Keyed.prf g.K.Keyed.pad) l.fn.client.key (word_bytes l.fn.word)) l.found.ids l.found.pages;
 }
 
 abbrev pub decreases-pages : goal.decreases-pages

@@ -2,8 +2,7 @@ use Rattle.std.proofs.Common.{◌≡◌, List}
 use Rattle.std.specs.List.{AllByRecursion}
 use Rattle.client_core.specs.Sending.{frames_left, to_send}
 use Rattle.sse_frames.specs.Frames.{FrameText, IsFrame}
-use Rattle.sse_client.proofs.FramesSent.{IsSending}
-use Rattle.sse_client.proofs.FramesUnderWay.{AreOwed}
+use Rattle.sse_client.specs.Steps.{AreOwed, IsSending}
 use Rattle.sse_client.proofs.sending.catch_up.Given as goal
 
 abbrev pub invariant-frames : goal.invariant-frames

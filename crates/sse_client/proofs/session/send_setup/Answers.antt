@@ -16,7 +16,7 @@ returns-clause-sends g c = λ frames planned numbered.
 
 pub returns-clause-stands : goal.returns-clause-stands
 returns-clause-stands g c = λ f.
-    let run : Run = record { setup = setup_of c.args.docs.documents c.args.planned.index.b c.args.planned.index.big; later = [] } in
+    let run : Run = record { setup = setup_of c.args.docs.documents c.args.planned.b c.args.planned.big; later = [] } in
     let keys = keys_under c.args.client.key (Some run) in
     subst (StandsFor f keys at_first run) (sym c.in_ok-ready.ensures.ready) (c.commit.ensures.stands f keys)
 

@@ -37,7 +37,7 @@ returns-in_ok-send_setup-in-Ok-clause-takes g c =
     let here : IsAt f (Collecting c.in-Collecting.client c.in-Collecting.docs) place = subst (λ (s : Stage). IsAt f s place) c.in-Collecting.is a in
     (here.key, here.stands.0, here.stands.1, here.hashed) in
     let ready : IsReady f key (record { setup = s; later = [] }) done.0 = subst (λ (p : ℕ × ℕ). IsReady f key (record { setup = setup_of docs p.0 p.1; later = [] }) done.0) (λ i. (shape.0 i, shape.1 i)) (c.in_ok-send_setup-in-Ok.ensures.stands f) in
-    takes_if_sent f key old new c.args.stage docs c.in-Collecting.docs.keys c.args.b c.args.big at c.in-Ok.ensures.accepted c.in-Ok.planned.index.words c.in-Ok.planned.index.blocks c.in-Ok.ensures.words c.in-Ok.ensures.blocks
+    takes_if_sent f key old new c.args.stage docs c.in-Collecting.docs.keys c.args.b c.args.big at c.in-Ok.ensures.accepted c.in-Ok.planned.words c.in-Ok.planned.blocks c.in-Ok.ensures.words c.in-Ok.ensures.blocks
     done.0 done.1 (c.in_ok-send_setup-in-Ok.ensures.sends frames c.in-Ok.ensures.frames (frames_of_setup-are_numbered (key_table f key s) at_first s)) c.in_ok-send_setup-in-Ok.ensures.shown c.in_ok-send_setup-in-Ok.ensures.accepted ready
     c.in_ok-send_setup-in-Ok.ensures.key c.in_ok-send_setup-in-Ok.ensures.hash_keys
 

@@ -38,7 +38,7 @@ returns-clause-plan g c = λ place at.
         plan.planned.0,
         record {
           command = c.in_ok-plan_add.ensures.command;
-          frame = frame_at f place client at (Add doc) planned.frame.items (c.in_ok-plan_add.ensures.frame (keys_at place) at_first at.stands.0 same at.stands.2);
+          frame = frame_at f place client at (Add doc) planned.frame (c.in_ok-plan_add.ensures.frame (keys_at place) at_first at.stands.0 same at.stands.2);
           no_clash = plan.planned.1;
         },
       );

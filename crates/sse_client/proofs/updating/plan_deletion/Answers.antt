@@ -48,7 +48,7 @@ returns-clause-plan g c = λ place at.
         plan.planned.0,
         record {
           command = c.in_ok-plan_delete.ensures.command;
-          frame = frame_at f place client at (Delete id) planned.frame.items (c.in_ok-plan_delete.ensures.frame (keys_at place) at_first at.stands.0 same at.stands.2);
+          frame = frame_at f place client at (Delete id) planned.frame (c.in_ok-plan_delete.ensures.frame (keys_at place) at_first at.stands.0 same at.stands.2);
           no_clash = plan.planned.1;
         },
       );
