@@ -12,7 +12,7 @@ use Rattle.indexmap.specs.IndexMap.{IndexMap, hasher_of}
 use Rattle.client_registry.specs.DocumentRule.{IsDocument}
 use Rattle.client_registry.specs.IdNumber.{id_number}
 use Rattle.client_registry.specs.Numbered.{words_by_number}
-use Rattle.client_registry.specs.Registered.{facts, known_words, Kept, KeepsNumbers}
+use Rattle.client_registry.specs.Registered.{facts, known_words, Kept}
 use Rattle.client_registry.specs.RegistryView.{kept_entry, registered_of, IsKept, IsSound}
 use Rattle.client_registry.specs.Tally.{counts_of}
 use Rattle.client_registry.specs.WordBytes.{word_bytes}
@@ -52,11 +52,6 @@ module _ (r : Inside) (sound : IsSound r) (words : IndexMap Word ℕ HashKeys) (
 
   stays : take (length (table_words r.words.entries)) (table_words words.entries) ≡ table_words r.words.entries
   stays = ap (take (length (table_words r.words.entries))) table_grown ∙ take-append_seam (table_words r.words.entries) given.0
-
-  -- words keep their numbers
-  pub KeepsNumbers-grown : KeepsNumbers (registered_of r) (registered_of grown)
-  KeepsNumbers-grown =
-      ap (λ ws. take (length ws) (known_words (registered_of grown))) (known_table r) ∙ ap (take (length (table_words r.words.entries))) (known_table grown) ∙ stays ∙ sym (known_table r)
 
   -- numbers that are kept stand for the same words
   same_words : (ns : List ℕ) → All (λ n. n < length (table_words r.words.entries)) ns → words_by_number (known_words (registered_of grown)) ns ≡ words_by_number (known_words (registered_of r)) ns

@@ -24,6 +24,7 @@ pub mod FactsLaws
 pub mod OrderLaws
 pub mod ShownLaws
 pub mod PaddedLaws
+pub mod SizeRefusal
 pub mod SizedLaws
 pub mod HistoryLaws
 pub mod WordLaws

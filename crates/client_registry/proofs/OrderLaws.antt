@@ -37,9 +37,6 @@ or_swap true true z = refl
 or_swap true false z = refl
 or_swap false y z = refl
 
-not_among : (x : ℕ) (xs : List ℕ) → among x xs ≡ false → among x xs ≡ true → ⊥
-not_among x xs e f = true≢false (sym f ∙ e)
-
 -- Apart.
 
 -- from the library's word for it

@@ -1,5 +1,5 @@
 -- Padded counts: how many dummies there are, and that there are none at a Q of 1.
-use Rattle.std.proofs.Common.{◌≡◌, ℕ, ◌+◌, ◌*◌, ◌/◌, ◌<◌, ◌≤◌, ◌^◌, Bool, true, false, ◌&&◌, List, [], ◌∷◌, length, nat_le, refl, sym, ap, subst, ◌∙◌, arith}
+use Rattle.std.proofs.Common.{◌≡◌, ℕ, ◌+◌, ◌*◌, ◌/◌, ◌<◌, ◌≤◌, ◌^◌, Bool, true, false, ◌&&◌, List, [], ◌∷◌, length, nat_le, refl, sym, ap, ◌∙◌, arith}
 use Rattle.std.specs.Prelude.{◌==◌, ◌||◌}
 use Rattle.std.specs.List.{list_any, list_all, range_with_len}
 use Rattle.std.specs.Int.{div_ceil}
@@ -7,7 +7,7 @@ use Rattle.std.proofs.Math.Nat.{mul-le-mul_right}
 use Rattle.std.proofs.lemmas.Bool.{and_parts, eqb-true, leb-true}
 use Rattle.std.proofs.lemmas.Grind.{div_ceil_times}
 use Rattle.list_packing.proofs.PartsLemmas.{div_ceil-le}
-use Rattle.client_registry.specs.Acceptance.{blocks_of, padded, padded_words, padded_blocks, dummy_entries, dummy_blocks, is_pad}
+use Rattle.client_registry.specs.Acceptance.{blocks_of, padded, padded_words, padded_blocks, dummy_entries, dummy_blocks, index_bytes, is_pad}
 use Rattle.client_registry.specs.Setup.{Setup, setup_words}
 
 -- a padded count is at least the count, and less than q more
@@ -28,6 +28,11 @@ module _ (s : Setup) (one : 1 ≤ s.pad) where
   pub padded_blocks_are : padded_blocks s ≡ padded s.pad (blocks_of s)
   padded_blocks_are = omega (arith, (padded_bounds s.pad (blocks_of s) one).0)
 
+  -- so the bytes of the index are those of the padded counts
+  pub index_bytes-padded : (words blocks : ℕ) → words ≡ padded s.pad (length (setup_words s)) → blocks ≡ padded s.pad (blocks_of s) → words * (17 + 8 * s.shape.b) + blocks * (8 * s.shape.big) ≡ index_bytes s
+  index_bytes-padded words blocks words_are blocks_are =
+      λ i. (words_are ∙ sym padded_words_are) i * (17 + 8 * s.shape.b) + (blocks_are ∙ sym padded_blocks_are) i * (8 * s.shape.big)
+
 module _ (s : Setup) (alone : s.pad ≡ 1) where
   -- at a Q of 1 there are no dummies
   pub no_dummy_entries : dummy_entries s ≡ 0
@@ -35,12 +40,6 @@ module _ (s : Setup) (alone : s.pad ≡ 1) where
 
   pub no_dummy_blocks : dummy_blocks s ≡ 0
   no_dummy_blocks = omega (arith, ap (λ q. padded q (blocks_of s)) alone ∙ padded_by_one (blocks_of s))
-
-  pub own_words_alone : padded_words s ≡ length (setup_words s)
-  own_words_alone = omega (arith, no_dummy_entries)
-
-  pub own_blocks_alone : padded_blocks s ≡ blocks_of s
-  own_blocks_alone = omega (arith, no_dummy_blocks)
 
 -- a number that is one of these powers passes a test that they all pass
 among : (test : ℕ → Bool) (q : ℕ) (ks : List ℕ) → list_any (λ k. q == 2 ^ k) ks ≡ true → list_all (λ k. test (2 ^ k)) ks ≡ true → test q ≡ true

@@ -1,5 +1,5 @@
 -- What one more document does to the words, the identifiers and the limits.
-use Rattle.std.proofs.Common.{◌≡◌, ℕ, ◌+◌, ◌<◌, ◌≤◌, ◌^◌, Bool, true, false, cond, ◌||◌, List, [], ◌∷◌, ◌++◌, length, map, get_or, refl, sym, ap, ◌∙◌, subst, arith}
+use Rattle.std.proofs.Common.{◌≡◌, ℕ, ◌+◌, ◌<◌, ◌≤◌, ◌^◌, Bool, true, false, ◌||◌, List, [], ◌∷◌, ◌++◌, length, map, get_or, refl, sym, ap, ◌∙◌, subst, arith}
 use Rattle.std.specs.Prelude.{All, nat_eq, ◌==◌}
 use Rattle.std.specs.List.{list_any, IsDistinct, AllByRecursion}
 use Rattle.std.proofs.lemmas.Bool.{true≢false}
@@ -7,7 +7,6 @@ use Rattle.std.proofs.lemmas.Cmp.{nat_eq_equiv}
 use Rattle.std.proofs.lemmas.List.{append-nil, length-append, length_push, map-append}
 use Rattle.std.proofs.lemmas.List.Concat.{flat_map-append}
 use Rattle.std.proofs.lemmas.List.Elements.{All-push}
-use Rattle.std.proofs.lemmas.List.Folds.{list_any-append}
 use Rattle.client_registry.proofs.TallyLaws.{tally-below}
 use Rattle.client_registry.specs.Document.{Document}
 use Rattle.client_registry.specs.DocumentRule.{IsDocument}
@@ -16,12 +15,6 @@ use Rattle.client_registry.specs.Tally.{tally}
 
 nat_eq-symm : (a b : ℕ) → nat_eq a b ≡ nat_eq b a
 nat_eq-symm a b = nat_eq_equiv.symm a b
-
-or_last : (a b : Bool) → (a || (b || false)) ≡ cond b true a
-or_last true true = refl
-or_last true false = refl
-or_last false true = refl
-or_last false false = refl
 
 AllByRecursion-push : {K : Type 0} (P : K → Type 0) (ks : List K) (k : K) → AllByRecursion P ks → P k → AllByRecursion P (ks ++ k ∷ [])
 AllByRecursion-push P [] k all p = (p, tt)
@@ -52,11 +45,6 @@ module _ (docs : List Document) (doc : Document) where
 
   pub pairs_of-push : pairs_of (docs ++ doc ∷ []) ≡ pairs_of docs + length doc.words
   pairs_of-push = ap length all_words-push ∙ length-append (all_words docs) doc.words
-
-  -- the identifiers with one more
-  pub is_live-push : (id : ℕ) → cond (nat_eq doc.id id) true (is_live docs id) ≡ is_live (docs ++ doc ∷ []) id
-  is_live-push id =
-      sym (list_any-append (λ d. id == d.id) docs (doc ∷ []) ∙ or_last (is_live docs id) (id == doc.id) ∙ ap (λ b. cond b true (is_live docs id)) (nat_eq-symm id doc.id))
 
   -- within the limits, and with an identifier of its own, it leaves all as a collected list is
   pub IsCollected-push : IsCollected docs → IsDocument doc → is_live docs doc.id ≡ false → length docs + 1 ≤ 2 ^ 18 → pairs_of docs + length doc.words ≤ 2 ^ 20 → IsCollected (docs ++ doc ∷ [])

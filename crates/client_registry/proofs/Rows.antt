@@ -1,12 +1,12 @@
 -- Rows that the definitions compute, with values from a program of its own. Words are given by their bytes.
 use Rattle.std.proofs.Common.{◌≡◌, ℕ, zero, suc, ◌+◌, true, false, List, [], ◌∷◌, None, Some, refl}
-use Rattle.client_registry.specs.Acceptance.{blocks_of, frames_needed, index_bytes, is_pad, padded, padded_words, padded_blocks, setup_refusal, size_refusal}
+use Rattle.client_registry.specs.Acceptance.{blocks_of, frames_needed, index_bytes, is_pad, padded, padded_words, padded_blocks, size_refusal}
 use Rattle.client_registry.specs.Command.{Command, Add, Delete}
 use Rattle.client_registry.specs.Document.{Document}
 use Rattle.client_registry.specs.Documents.{words_of, list_lengths}
 use Rattle.client_registry.specs.FirstClash.{first_clash}
 use Rattle.client_registry.specs.Live.{added_list, counter, matching_ids, shown}
-use Rattle.client_registry.specs.Setup.{Setup, setup_of}
+use Rattle.client_registry.specs.Setup.{Setup, setup_of, setup_with}
 use Rattle.client_registry.specs.Sized.{is_accepted}
 use Rattle.client_registry.specs.declared.faults.SizeFault.TheVariants.{BadParameter, ListTooLong}
 
@@ -50,10 +50,10 @@ blocks_of_5 = refl
 blocks_of_8 : blocks_of (setup_of (of_a 8) 2 2) ≡ 6
 blocks_of_8 = refl
 
-a_list_of_9 : setup_refusal (of_a 9) 2 2 ≡ Some (ListTooLong 0 9)
+a_list_of_9 : size_refusal (setup_of (of_a 9) 2 2) ≡ Some (ListTooLong 0 9)
 a_list_of_9 = refl
 
-a_list_of_8 : setup_refusal (of_a 8) 2 2 ≡ None
+a_list_of_8 : size_refusal (setup_of (of_a 8) 2 2) ≡ None
 a_list_of_8 = refl
 
 a_list_of_8_bytes : index_bytes (setup_of (of_a 8) 2 2) ≡ 129
@@ -62,7 +62,7 @@ a_list_of_8_bytes = refl
 a_list_of_8_frames : frames_needed (setup_of (of_a 8) 2 2) ≡ 4
 a_list_of_8_frames = refl
 
-both_parameters : setup_refusal [] 0 257 ≡ Some (BadParameter 0 0)
+both_parameters : size_refusal (setup_of [] 0 257) ≡ Some (BadParameter 0 0)
 both_parameters = refl
 
 -- counts rounded up to a multiple of Q, of which 0 is one
@@ -73,26 +73,23 @@ powers : is_pad 0 ∷ is_pad 1 ∷ is_pad 2 ∷ is_pad 3 ∷ is_pad 4096 ∷ is_
 powers = refl
 
 -- Q is looked at after b and B
-abbrev with_pad : List Document → ℕ → ℕ → ℕ → Setup
-with_pad docs small big q = record (setup_of docs small big) { pad = q }
-
-q_of_3 : size_refusal (with_pad (of_a 1) 1 1 3) ≡ Some (BadParameter 2 3)
+q_of_3 : size_refusal (setup_with (of_a 1) 1 1 3) ≡ Some (BadParameter 2 3)
 q_of_3 = refl
 
-q_of_0 : size_refusal (with_pad (of_a 1) 1 1 0) ≡ Some (BadParameter 2 0)
+q_of_0 : size_refusal (setup_with (of_a 1) 1 1 0) ≡ Some (BadParameter 2 0)
 q_of_0 = refl
 
-b_before_q : size_refusal (with_pad (of_a 1) 65 1 3) ≡ Some (BadParameter 0 65)
+b_before_q : size_refusal (setup_with (of_a 1) 65 1 3) ≡ Some (BadParameter 0 65)
 b_before_q = refl
 
-big_before_q : size_refusal (with_pad (of_a 1) 1 257 3) ≡ Some (BadParameter 1 257)
+big_before_q : size_refusal (setup_with (of_a 1) 1 257 3) ≡ Some (BadParameter 1 257)
 big_before_q = refl
 
-q_before_lists : size_refusal (with_pad (of_a 9) 2 2 8192) ≡ Some (BadParameter 2 8192)
+q_before_lists : size_refusal (setup_with (of_a 9) 2 2 8192) ≡ Some (BadParameter 2 8192)
 q_before_lists = refl
 
 -- the entry of one word and its 6 blocks among 4 and 8
-padded_size : padded_words (with_pad (of_a 8) 2 2 4) ∷ padded_blocks (with_pad (of_a 8) 2 2 4) ∷ index_bytes (with_pad (of_a 8) 2 2 4) ∷ [] ≡ 4 ∷ 8 ∷ 260 ∷ []
+padded_size : padded_words (setup_with (of_a 8) 2 2 4) ∷ padded_blocks (setup_with (of_a 8) 2 2 4) ∷ index_bytes (setup_with (of_a 8) 2 2 4) ∷ [] ≡ 4 ∷ 8 ∷ 260 ∷ []
 padded_size = refl
 
 -- equal labels of words 0 and 1, then equal tags of blocks 1 and 2, under the weighed sum

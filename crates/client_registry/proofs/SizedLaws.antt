@@ -12,7 +12,7 @@ use Rattle.std.proofs.Math.Nat.{mul-le-mul_left, div-le_self}
 use Rattle.client_registry.proofs.OverLaws.{over-append}
 use Rattle.client_registry.proofs.PaddedLaws.{padded_words_are, pad_bounds, padded_within}
 use Rattle.client_registry.proofs.WordsLaws.{length-first_seen}
-use Rattle.client_registry.specs.Acceptance.{blocks_of, index_bytes, frames_needed, parameter_refusal, refused_shape, list_refusal, bytes_refusal, padded_blocks, padded_words, is_pad, size_refusal}
+use Rattle.client_registry.specs.Acceptance.{index_bytes, frames_needed, parameter_refusal, refused_shape, list_refusal, bytes_refusal, padded_blocks, padded_words, is_pad, size_refusal}
 use Rattle.client_registry.specs.Command.{Command, is_update}
 use Rattle.client_registry.specs.Documents.{all_words, first_seen, IsCollected}
 use Rattle.client_registry.specs.Over.{over}
@@ -79,9 +79,6 @@ module _ (s : Setup) (h : size_refusal s ≡ None) where
       let one : 1 ≤ s.shape.big = accepted_shape.1.0 in
       let more : padded_blocks s * 8 ≤ padded_blocks s * (8 * s.shape.big) = mul-le-mul_left (padded_blocks s) (omega (arith, one)) in
       omega (arith, more, accepted_bytes)
-
-  pub accepted_blocks : blocks_of s ≤ 2 ^ 25
-  accepted_blocks = omega (arith, accepted_padded)
 
   -- and at most 2^20 entries, dummies included
   pub accepted_entries : IsCollected s.documents → padded_words s ≤ 2 ^ 20

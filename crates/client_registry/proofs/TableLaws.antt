@@ -8,7 +8,7 @@ use Rattle.std.specs.Str.{bytes_eq}
 use Rattle.indexmap.specs.IndexMap.{insert_entry, set_value_at}
 use Rattle.std.proofs.lemmas.Bool.{true≢false, eqb-true, eqb-false, eq-eqb}
 use Rattle.std.proofs.lemmas.Cmp.{nat_eq_equiv, nat_list_eq_equiv}
-use Rattle.std.proofs.lemmas.List.{append-nil, get_or-map, length-map, map-append, take_all}
+use Rattle.std.proofs.lemmas.List.{get_or-map, length-map, map-append, take_all}
 use Rattle.std.proofs.lemmas.List.Elements.{All-cons, All-nil}
 use Rattle.std.proofs.lemmas.List.Folds.{list_any-append}
 use Rattle.client_registry.specs.WordTable.{GivesNumbers}
@@ -135,17 +135,11 @@ found_at (w ∷ ws) bs n at = by (bytes_eq bs w) refl (position (bytes_eq bs) ws
 
 -- Words that are given numbers.
 
-pub GivesNumbers-refl : (es : List (List ℕ × ℕ)) → GivesNumbers es es
-GivesNumbers-refl es = ([], sym (append-nil es))
-
 pub GivesNumbers-trans : (es fs gs : List (List ℕ × ℕ)) → GivesNumbers es fs → GivesNumbers fs gs → GivesNumbers es gs
 GivesNumbers-trans es fs gs first second = (
   first.0 ++ second.0,
   second.1 ∙ ap (λ xs. xs ++ map (λ w. (w, 0)) second.0) first.1 ∙ append_assoc es (map (λ w. (w, 0)) first.0) (map (λ w. (w, 0)) second.0) ∙ ap (λ xs. es ++ xs) (sym (map-append (λ w. (w, 0)) first.0 second.0)),
 )
-
-pub GivesNumbers-one : (es : List (List ℕ × ℕ)) (w : List ℕ) → GivesNumbers es (es ++ (w, 0) ∷ [])
-GivesNumbers-one es w = (w ∷ [], refl)
 
 keys-given : (ws : List (List ℕ)) → keys_of {X = ℕ} (map (λ w. (w, 0)) ws) ≡ ws
 keys-given [] = refl

@@ -1,20 +1,14 @@
 -- What counting one word more does to the counts, and what the counts of all words are.
 use Rattle.std.proofs.Common.{◌≡◌, ℕ, suc, ◌+◌, ◌≤◌, Bool, true, false, cond, List, [], ◌∷◌, ◌++◌, length, map, None, Some, refl, sym, ap, subst, arith, add-zero}
-use Rattle.std.specs.Prelude.{All, fold, if◌then◌else◌, Result, Ok, Err, OnOk, IsOk}
-use Rattle.std.specs.Map.{lookup, set_value}
+use Rattle.std.specs.Prelude.{All, fold, if◌then◌else◌}
+use Rattle.std.specs.Map.{lookup}
 use Rattle.std.specs.Str.{bytes_eq}
 use Rattle.indexmap.specs.IndexMap.{insert_entry}
-use Rattle.std.proofs.lemmas.Bool.{true≢false}
 use Rattle.std.proofs.lemmas.List.Elements.{All-head, All-tail, All-cons, All-nil, All-weaker}
 use Rattle.client_registry.specs.Tally.{counted_up, tally}
 
 Counts : Type 0
 Counts = List (List ℕ × ℕ)
-
--- from a clause on an answer that is there
-pub at_Ok : {T E : Type 0} (r : Result T E) {P : Type 0} → OnOk r P → IsOk r → P
-at_Ok (Ok x) p ok = p
-at_Ok (Err e) p ok = absurd (true≢false (sym ok))
 
 module _ {K : Type 0} (bytes : K → List ℕ) where
   abbrev counts : List (K × ℕ) → List (List ℕ × ℕ)
@@ -24,19 +18,6 @@ module _ {K : Type 0} (bytes : K → List ℕ) where
   pub lookup-counts : (bs : List ℕ) (es : List (K × ℕ)) → lookup (λ k. bytes_eq bs (bytes k)) es ≡ lookup (bytes_eq bs) (counts es)
   lookup-counts bs [] = refl
   lookup-counts bs (e ∷ es) = ap (λ o. cond (bytes_eq bs (bytes e.0)) (Some e.1) o) (lookup-counts bs es)
-
-  -- a count that is one more at the word that is there
-  pub set_value-counts : (bs : List ℕ) (es : List (K × ℕ)) (n : ℕ) → lookup (bytes_eq bs) (counts es) ≡ Some n → counts (set_value (λ k. bytes_eq bs (bytes k)) es (n + 1)) ≡ counted_up (counts es) bs
-  set_value-counts bs [] n at = absurd (cc)
-  set_value-counts bs (e ∷ es) n at =
-      by (bytes_eq bs (bytes e.0)) at (λ h. set_value-counts bs es n h)
-    where
-      by : (b : Bool) → cond b (Some e.1) (lookup (bytes_eq bs) (counts es)) ≡ Some n
-          → (lookup (bytes_eq bs) (counts es) ≡ Some n → counts (set_value (λ k. bytes_eq bs (bytes k)) es (n + 1)) ≡ counted_up (counts es) bs)
-          → counts (cond b ((e.0, n + 1) ∷ es) (e ∷ set_value (λ k. bytes_eq bs (bytes k)) es (n + 1)))
-          ≡ cond b ((bytes e.0, e.1 + 1) ∷ counts es) ((bytes e.0, e.1) ∷ counted_up (counts es) bs)
-      by true h rest = let same : e.1 ≡ n = cc in ap (λ m. (bytes e.0, m + 1) ∷ counts es) (sym same)
-      by false h rest = ap (λ r. (bytes e.0, e.1) ∷ r) (rest h)
 
   -- a word that isn't there goes last, with the count 1
   pub insert_entry-counts : (k : K) (es : List (K × ℕ)) → lookup (bytes_eq (bytes k)) (counts es) ≡ None → counts (insert_entry (λ a b. bytes_eq (bytes a) (bytes b)) es k 1) ≡ counted_up (counts es) (bytes k)

@@ -1,5 +1,5 @@
 -- Which setups are accepted, and how large their index is.
-use Rattle.std.specs.Prelude.{ℕ, ◌+◌, ◌-◌, ◌*◌, ◌^◌, ◌==◌, nat_lt, Bool, List, length, sum_by, position, slice_index, Option, None, Some, is_none, option_map, if◌then◌else◌}
+use Rattle.std.specs.Prelude.{ℕ, ◌+◌, ◌-◌, ◌*◌, ◌^◌, ◌==◌, nat_lt, Bool, length, sum_by, position, slice_index, Option, None, Some, is_none, option_map, if◌then◌else◌}
 use Rattle.std.specs.Int.{div_ceil}
 use Rattle.std.specs.List.{list_any, range_with_len}
 use Rattle.std.specs.Option.{option_or}
@@ -7,9 +7,8 @@ use Rattle.two_level.specs.ShapeFault.{shape_fault}
 use Rattle.two_level.specs.declared.shape_fault.ShapeFault.{ShapeFault}
 use Rattle.two_level.specs.declared.shape_fault.ShapeFault.TheVariants.{BadCell, BadBlock}
 use Rattle.two_level.specs.Plan.{plan, block_count}
-use Rattle.client_registry.specs.Document.{Document}
 use Rattle.client_registry.specs.Documents.{list_lengths}
-use Rattle.client_registry.specs.Setup.{Setup, setup_of, setup_words}
+use Rattle.client_registry.specs.Setup.{Setup, setup_words}
 use Rattle.client_registry.specs.declared.faults.SizeFault.{SizeFault}
 use Rattle.client_registry.specs.declared.faults.SizeFault.TheVariants.{BadParameter, ListTooLong, TooManyBytes}
 
@@ -69,7 +68,3 @@ bytes_refusal s = if nat_lt (2 ^ 28) (index_bytes s) then Some (TooManyBytes (in
 -- why a setup makes no index: the first of these causes that stands
 abbrev pub size_refusal : Setup → Option SizeFault
 size_refusal s = option_or (parameter_refusal s) (option_or (list_refusal s) (bytes_refusal s))
-
--- why the documents make no index of these parameters and no dummies
-abbrev pub setup_refusal : List Document → ℕ → ℕ → Option SizeFault
-setup_refusal docs b big = size_refusal (setup_of docs b big)

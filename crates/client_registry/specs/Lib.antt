@@ -20,7 +20,6 @@ pub mod Run
 pub mod Live
 pub mod Facts
 pub mod Registered
-pub mod CommandView
 pub mod RegistryView
 pub mod Sized
 pub mod Histories

@@ -11,10 +11,13 @@ pub record Setup : Type 0 where
   pub shape : Shape
   pub pad : ℕ
 
--- the setup of these documents with b numbers in a cell and big numbers in a block, and no dummies; with them it is
--- `record (setup_of docs b big) { pad = q }`
+-- the setup of these documents with b numbers in a cell and big numbers in a block, filled up to multiples of pad
+abbrev pub setup_with : List Document → (b big pad : ℕ) → Setup
+setup_with docs b big pad = record { documents = docs; shape = record { b = b; big = big }; pad = pad }
+
+-- the same with no dummies
 abbrev pub setup_of : List Document → ℕ → ℕ → Setup
-setup_of docs b big = record { documents = docs; shape = record { b = b; big = big }; pad = 1 }
+setup_of docs b big = setup_with docs b big 1
 
 -- the words of the setup by first appearance; the number of a word is its place here
 abbrev pub setup_words : Setup → List (List ℕ)

@@ -37,7 +37,9 @@ unknown_text id = codes "there is no document " ++ decimal id
 
 abbrev pub size_fault_text : SizeFault → List ℕ
 size_fault_text (BadParameter which value) =
-    if which == 0 then codes "b is 1 to 64, not " ++ decimal value else codes "B is 1 to 256, not " ++ decimal value
+    if which == 0 then codes "b is 1 to 64, not " ++ decimal value
+    else if which == 1 then codes "B is 1 to 256, not " ++ decimal value
+    else codes "Q is a power of two from 1 to 4096, not " ++ decimal value
 size_fault_text (ListTooLong word n) =
     codes "the list of word " ++ (decimal word ++ (codes " has " ++ (decimal n ++ codes " identifiers, over b*B*B")))
 size_fault_text (TooManyBytes n) = codes "at most 268435456 bytes fit, not " ++ decimal n

@@ -61,7 +61,7 @@ pub struct UnknownDocument(pub u64);
 /// Why there is no index of the documents.
 #[derive(Clone, Copy, Debug)]
 pub enum SizeFault {
-    /// A parameter is outside its limits: 0 is b (1 to 64), 1 is B (1 to 256).
+    /// A parameter is outside its limits: 0 is b (1 to 64), 1 is B (1 to 256), 2 is Q (a power of two from 1 to 4,096).
     BadParameter { which: u8, value: u64 },
     /// The word of this number is the first whose list, of n identifiers, is too long for the parameters.
     ListTooLong { word: u32, n: u64 },
@@ -141,7 +141,10 @@ impl fmt::Display for SizeFault {
     fn fmt<W: fmt::Write>(&self, f: &mut fmt::Formatter<W>) -> fmt::Result {
         match self {
             SizeFault::BadParameter { which: 0, value } => write!(f, "b is 1 to 64, not {value}"),
-            SizeFault::BadParameter { value, .. } => write!(f, "B is 1 to 256, not {value}"),
+            SizeFault::BadParameter { which: 1, value } => write!(f, "B is 1 to 256, not {value}"),
+            SizeFault::BadParameter { value, .. } => {
+                write!(f, "Q is a power of two from 1 to 4096, not {value}")
+            }
             SizeFault::ListTooLong { word, n } => {
                 write!(f, "the list of word {word} has {n} identifiers, over b*B*B")
             }

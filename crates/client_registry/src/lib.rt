@@ -4,12 +4,12 @@
 //! a list alone (`two_level`), so that [`size_of`] tells the size of an index, or why there is none, without a key.
 //! Callers see a [`Doc`] as a `Document` of specs/Document.antt and [`Docs`] as the list of them, and a registry by the
 //! history that it represents (`Represents` of specs/Registered.antt); what is refused is exactly what a definition named
-//! `refusal` gives, or a clause of its own, and nothing is changed then. Histories and their laws are here too, as
-//! definitions. It makes no index and searches nothing.
+//! `refusal` gives, or a clause of its own, and nothing is changed then. What is accepted as a word is UTF-8 of 1 to 64
+//! bytes, by the laws `length-word`, `IsUtf8-word` and `bytes_of_words_fit` (proofs/WordLaws.antt). Histories and their
+//! laws are here too, as definitions. It makes no index and searches nothing.
 #![tactic(auto)]
 
 mod collected;
-mod command;
 mod doc_id;
 mod document;
 mod faults;
@@ -25,7 +25,6 @@ mod word;
 mod word_table;
 
 pub use collected::Docs;
-pub use command::Command;
 pub use doc_id::{DocId, Zero};
 pub use document::Doc;
 pub use faults::{AddFault, DocFault, DocsFault, SizeFault, UnknownDocument, WordFault};

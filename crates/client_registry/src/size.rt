@@ -1,7 +1,8 @@
-ghost use Rattle.std.specs.Prelude.{◌≡◌, ◌≤◌, ◌+◌, ◌*◌, ◌^◌, option_map, None, Some, length, IfOk, IfErr, IfSome, IsOk};
+ghost use Rattle.std.specs.Prelude.{◌≡◌, ◌≤◌, ◌<◌, ◌+◌, ◌*◌, ◌^◌, [], option_map, None, Some, true, length, IfOk, IfErr, IfSome, IsOk};
+ghost use Rattle.std.specs.Result.{result_err};
 ghost use Rattle.two_level.specs.Plan as layout;
-ghost use Rattle.client_registry.specs.Acceptance.{blocks_of, list_refusal, setup_refusal};
-ghost use Rattle.client_registry.specs.Setup.{setup_of, setup_words};
+ghost use Rattle.client_registry.specs.Acceptance as counts;
+ghost use Rattle.client_registry.specs.Setup.{setup_of, setup_with, setup_words};
 
 use crate::collected::Docs;
 use crate::faults::SizeFault;
@@ -13,45 +14,100 @@ use two_level::Shape;
 pub struct Size {
     /// Its parameters, within their limits.
     pub shape: Shape,
-    /// How many different words, which are the entries of its dictionary.
+    /// Q, up to multiples of which dummies are added: a power of two from 1 to 4,096.
+    pub pad: u16,
+    /// How many different words.
     pub words: u32,
-    /// How many blocks of its array.
+    /// How many blocks their lists take.
     pub blocks: u32,
+    /// How many entries its dictionary has, which are those of the words and the dummies.
+    pub padded_words: u32,
+    /// How many blocks its array has, which are those of the lists and the dummies.
+    pub padded_blocks: u32,
 }
 
-/// The size of the index of these documents, with `b` numbers in a cell and `big` numbers in a block.
+/// The size of the index of these documents, with `b` numbers in a cell and `big` numbers in a block, filled with
+/// dummies up to multiples of `pad`.
 ///
-/// An index has m·(17 + 8·b) + a·8·big bytes for m words and a blocks, at most 2^28. Errors, the first that
-/// stands: `BadParameter { which: 0, value: b }` where `b` is outside 1 to 64; `BadParameter { which: 1, value:
-/// big }` where `big` is outside 1 to 256; `ListTooLong { word, n }` for the least word number whose list, of n
-/// identifiers, has no plan; `TooManyBytes(count)`. It takes no memory.
-pub fn size_of(docs: &Docs, b: u64, big: u64) -> Result<Size, SizeFault>
+/// With m words and a blocks, and m2 and a2 the next multiples of `pad` (zero stays zero), an index has
+/// m2·(17 + 8·b) + a2·8·big bytes, at most 2^28. Errors, the first that stands: `BadParameter { which: 0, value: b }`
+/// where `b` is outside 1 to 64; `BadParameter { which: 1, value: big }` where `big` is outside 1 to 256;
+/// `BadParameter { which: 2, value: pad }` where `pad` isn't a power of two from 1 to 4,096; `ListTooLong { word, n }`
+/// for the least word number whose list, of n identifiers, has no plan; `TooManyBytes(count)`. It takes no memory.
+pub fn size_of(docs: &Docs, b: u64, big: u64, pad: u64) -> Result<Size, SizeFault>
     ensures shape { IfOk result (λ size. size.shape ≡ record { b = b; big = big }) }
-    ensures words { IfOk result (λ size. size.words ≡ length (setup_words (setup_of docs.now.documents b big))) }
-    ensures blocks { IfOk result (λ size. size.blocks ≡ blocks_of (setup_of docs.now.documents b big)) }
-    ensures refused { IfSome (setup_refusal docs.now.documents b big) (λ fault. result ≡ Err fault) }
-    ensures accepted { setup_refusal docs.now.documents b big ≡ None → IsOk result }
+    ensures pad { IfOk result (λ size. size.pad ≡ pad) }
+    ensures words { IfOk result (λ size. size.words ≡ length (setup_words (setup_with docs.now.documents b big pad))) }
+    ensures blocks { IfOk result (λ size. size.blocks ≡ counts.blocks_of (setup_with docs.now.documents b big pad)) }
+    ensures padded_words { IfOk result (λ size. size.padded_words ≡ counts.padded_words (setup_with docs.now.documents b big pad)) }
+    ensures padded_blocks { IfOk result (λ size. size.padded_blocks ≡ counts.padded_blocks (setup_with docs.now.documents b big pad)) }
+    ensures refused { IfSome (counts.size_refusal (setup_with docs.now.documents b big pad)) (λ fault. result ≡ Err fault) }
+    ensures accepted { counts.size_refusal (setup_with docs.now.documents b big pad) ≡ None → IsOk result }
 {
-    let shape = Shape::new(b, big)?;
-    let words = docs.words();
+    let shape = shape_of(b, big, pad)?;
+    let words = docs.words() as u64;
     let blocks = count_blocks(docs, shape)?;
-    let bytes = words as u64 * (17 + 8 * b) + blocks * (8 * big);
+    let padded_words = padded(pad, words);
+    let padded_blocks = padded(pad, blocks);
+    let bytes = padded_words * (17 + 8 * b) + padded_blocks * (8 * big);
     if bytes > MAX_INDEX_BYTES {
         return Err(SizeFault::TooManyBytes(bytes));
     }
     Ok(Size {
         shape,
+        pad: pad as u16,
         words: words as u32,
         blocks: blocks as u32,
+        padded_words: padded_words as u32,
+        padded_blocks: padded_blocks as u32,
     })
+}
+
+/// The shape of b and `big`, where these and `pad` are within their limits, or the first that isn't.
+fn shape_of(b: u64, big: u64, pad: u64) -> Result<Shape, SizeFault>
+    ensures shape { IfOk result (λ shape. shape ≡ record { b = b; big = big }) }
+    ensures limits { IfOk result (λ _. (b ≤ 64) × (big ≤ 256)) }
+    ensures pad { IfOk result (λ _. counts.is_pad pad ≡ true) }
+    ensures refused { result_err result ≡ counts.parameter_refusal (setup_with [] b big pad) }
+{
+    let shape = Shape::new(b, big)?;
+    if is_pad(pad) {
+        Ok(shape)
+    } else {
+        Err(SizeFault::BadParameter {
+            which: 2,
+            value: pad,
+        })
+    }
+}
+
+/// Whether it is a power of two from 1 to 4,096.
+fn is_pad(pad: u64) -> bool
+    ensures { result ≡ counts.is_pad pad }
+{
+    matches!(
+        pad,
+        1 | 2 | 4 | 8 | 16 | 32 | 64 | 128 | 256 | 512 | 1024 | 2048 | 4096
+    )
+}
+
+/// The next multiple of `pad` that is at least `n`.
+fn padded(pad: u64, n: u64) -> u64
+    requires positive { 0 < pad }
+    requires fits { n + pad < 2 ^ 64 }
+    ensures multiple { result ≡ counts.padded pad n }
+    ensures least { n ≤ result }
+    ensures within { result < n + pad }
+{
+    n.div_ceil(pad) * pad
 }
 
 /// How many blocks the lists of all words take, or the first list that is too long.
 fn count_blocks(docs: &Docs, shape: Shape) -> Result<u64, SizeFault>
-    ensures blocks { IfOk result (λ blocks. blocks ≡ blocks_of (setup_of docs.now.documents shape.b shape.big)) }
+    ensures blocks { IfOk result (λ blocks. blocks ≡ counts.blocks_of (setup_of docs.now.documents shape.b shape.big)) }
     ensures within { IfOk result (λ blocks. blocks ≤ 2 ^ 40) }
-    ensures fit { IfOk result (λ _. list_refusal (setup_of docs.now.documents shape.b shape.big) ≡ None) }
-    ensures too_long { IfErr result (λ fault. list_refusal (setup_of docs.now.documents shape.b shape.big) ≡ Some fault) }
+    ensures fit { IfOk result (λ _. counts.list_refusal (setup_of docs.now.documents shape.b shape.big) ≡ None) }
+    ensures too_long { IfErr result (λ fault. counts.list_refusal (setup_of docs.now.documents shape.b shape.big) ≡ Some fault) }
 {
     let mut blocks = 0;
     for word in 0..docs.words() {

@@ -1,4 +1,4 @@
-use Rattle.std.proofs.Common.{◌≡◌, ◌+◌, ◌≤◌, ◌++◌, take, length, vec_capacity, vec_len}
+use Rattle.std.proofs.Common.{◌≡◌, ◌+◌, ◌++◌, take, vec_capacity, vec_len}
 use Rattle.client_registry.proofs.listed.append.Given as goal
 
 abbrev pub invariant-loop-number : goal.invariant-loop-number
