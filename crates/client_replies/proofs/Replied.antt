@@ -1,6 +1,6 @@
 -- Bytes are one reply at most, and that reply says which fault they are.
 use Rattle.std.proofs.Common.{◌≡◌, ℕ, List, [], ◌++◌, refl, sym, ap, ◌∙◌}
-use Rattle.sse_frames.specs.Replies.{ReplyText, Next, Took, Number, Clash, Page, BadList, NoMemory, StoreFault, BadFrame, OutOfPlace, reply_bytes}
+use Rattle.sse_frames.specs.Replies.{ReplyText, Next, Took, Number, Clash, Page, BadList, NoMemory, StoreFault, BadFrame, OutOfPlace}
 use Rattle.sse_frames.specs.Reading.{IsReply}
 use Rattle.sse_frames.proofs.ReplySpelling.{one_reply}
 use Rattle.client_replies.specs.declared.reply_fault.ReplyFault.{ReplyFault}
@@ -35,11 +35,3 @@ fault_told-IsFaultOf faults.NoMemory bytes is text reply = ap fault_told (same_r
 fault_told-IsFaultOf faults.StoreFault bytes is text reply = ap fault_told (same_reply StoreFault text bytes is reply)
 fault_told-IsFaultOf faults.BadReply bytes is text reply = sym (is text reply)
 fault_told-IsFaultOf faults.OutOfMemory bytes is text reply = absurd is
-
--- the server's disk failed only where its reply says so
-pub store_only : (fault : ReplyFault) (bytes : List ℕ) → IsFaultOf bytes fault → fault ≡ faults.StoreFault → bytes ≡ reply_bytes StoreFault
-store_only (faults.Clash what place) bytes is e = absurd cc
-store_only faults.NoMemory bytes is e = absurd cc
-store_only faults.StoreFault bytes is e = is.spelled
-store_only faults.BadReply bytes is e = absurd cc
-store_only faults.OutOfMemory bytes is e = absurd cc

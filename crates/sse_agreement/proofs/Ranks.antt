@@ -22,14 +22,6 @@ use Rattle.sse_agreement.proofs.Dictionary.{Contains-by_bytes}
 
 -- How many pass.
 
-length-filter_map : {X Y : Type 0} (p : Y → Bool) (g : X → Y) (xs : List X) → length (filter p (map g xs)) ≡ length (filter (λ x. p (g x)) xs)
-length-filter_map p g [] = refl
-length-filter_map p g (x ∷ xs) = by (p (g x)) (length-filter_map p g xs)
-  where
-    by : (b : Bool) → length (filter p (map g xs)) ≡ length (filter (λ y. p (g y)) xs) → length (cond b (g x ∷ filter p (map g xs)) (filter p (map g xs))) ≡ length (cond b (x ∷ filter (λ y. p (g y)) xs) (filter (λ y. p (g y)) xs))
-    by true h = ap (λ n. suc n) h
-    by false h = h
-
 -- none, where none passes
 length-filter_none : {X : Type 0} (p : X → Bool) (xs : List X) → AllByRecursion (λ x. p x ≡ false) xs → length (filter p xs) ≡ 0
 length-filter_none p [] none = refl

@@ -223,9 +223,6 @@ module _ (t : Table) (o : Offsets) (s : Setup) where
 
   -- Additions.
 
-  number_known : (past : List Command) (word : List ℕ) (id : ℕ) → was_sent s past word id ≡ true → (m : Option Origin) → number_origin o s past word id ≡ m → m ≡ None → ⊥
-  number_known past word id was m is none = true≢false (sym was ∙ unsent past word id (is ∙ none))
-
   -- an entry for each word whose pair isn't listed
   pub entries_counted : (past : List Command) (d : Document) (words : List (List ℕ)) → length (filter is_entry (map (word_added o s past d.id) words)) ≡ length (filter (λ word. not (is_listed s past word d.id)) words)
   entries_counted past d [] = refl

@@ -63,13 +63,6 @@ module _ {A B : Type 0} where
   paired-parts R S (x ∷ xs) us [] vs even all = absurd even
   paired-parts R S (x ∷ xs) us (y ∷ ys) vs even all = let rest = paired-parts R S xs us ys vs even.1 all.1 in ((all.0, rest.0), rest.1)
 
-  -- lists of lists
-  pub paired-flat : (R : A → B → Type 0) (xss : List (List A)) (yss : List (List B)) → Paired (Paired R) xss yss → Paired R (flat_map (λ xs. xs) xss) (flat_map (λ ys. ys) yss)
-  paired-flat R [] [] all = tt
-  paired-flat R [] (ys ∷ yss) all = absurd all
-  paired-flat R (xs ∷ xss) [] all = absurd all
-  paired-flat R (xs ∷ xss) (ys ∷ yss) all = paired-append R xs (flat_map (λ xs. xs) xss) ys (flat_map (λ ys. ys) yss) all.0 (paired-flat R xss yss all.1)
-
   -- an item of the second list goes together with one of the first
   pub partner_of : (R : A → B → Type 0) (xs : List A) (ys : List B) → Paired R xs ys → (y : B) → Contains ys y → (x : A) × Contains xs x × R x y
   partner_of R [] [] all y within = absurd (Contains-nil y within)
