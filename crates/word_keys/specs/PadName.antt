@@ -1,5 +1,5 @@
 -- Which pad a slot names.
-use Rattle.std.specs.Prelude.{ℕ, ◌+◌, List}
+use Rattle.std.specs.Prelude.{ℕ, ◌+◌, ◌^◌, List}
 use Rattle.keyed_fn.specs.KeyedFn.{KeyedFn}
 
 -- a pad by its key and its number
@@ -18,6 +18,14 @@ block_name key i = record { key = key; number = i + 1 }
 -- the pad of addition c of a word, under the key of its additions' pads
 abbrev pub plus_name : List ℕ → ℕ → PadName
 plus_name key c = record { key = key; number = c }
+
+-- the pad of the cell of dummy entry i, under the key of the dummies' pads
+abbrev pub dummy_cell_name : List ℕ → ℕ → PadName
+dummy_cell_name key i = record { key = key; number = i }
+
+-- the pad of dummy block j, under the key of the dummies' pads: its number is above those of the cells
+abbrev pub dummy_block_name : List ℕ → ℕ → PadName
+dummy_block_name key j = record { key = key; number = 2 ^ 32 + j }
 
 -- the pad after the one named, under the same key
 abbrev pub name_after : PadName → PadName

@@ -5,9 +5,10 @@ ghost use Rattle.keyed_fn.specs.KeyedFn.{keyed_fn};
 ghost use Rattle.keyed_fn.specs.KeyFormulas.{list_label, mark_of, part_key, plain_key};
 ghost use Rattle.search_token.specs.TokenKeys.{token_keys};
 ghost use Rattle.word_keys.specs.HashNumbers.{numbers_of_key};
-ghost use Rattle.word_keys.specs.KeyPair.{plus_keys};
+ghost use Rattle.word_keys.specs.KeyPair.{dummy_keys, plus_keys};
 ghost use Rattle.word_keys.specs.PadName.{cell_name};
 
+use crate::dummy_key::DummyKey;
 use crate::list_pads::ListPads;
 use crate::place_key::PlaceKey;
 use crate::plus_keys::PlusKeys;
@@ -39,6 +40,12 @@ const PLACES: u8 = 6;
 
 /// The part whose key, for no word, begins with the key mark.
 const MARK: u8 = 7;
+
+/// The part whose key, for no word, gives the labels and tags of dummies.
+const DUMMY_LABELS: u8 = 8;
+
+/// The part whose key, for no word, gives the pads of dummies.
+const DUMMY_PADS: u8 = 9;
 
 /// The part whose key, for no word, begins with the numbers of the hasher.
 const HASHING: u8 = 13;
@@ -122,6 +129,14 @@ impl<K: Keyed> PreparedMaster<K> {
         ensures { result ≡ part_key (keyed_fn K.prf K.pad) self.now 6 (word_bytes word.now) }
     {
         PlaceKey::new(self.key_of_part(keyed, PLACES, word.bytes()))
+    }
+
+    /// The keys of a setup's dummies: those of the parts 8 and 9, for no word, which never leave the client.
+    pub fn dummy_key(&self, keyed: &K) -> DummyKey
+        ensures { result ≡ dummy_keys (keyed_fn K.prf K.pad) self.now }
+    {
+        let pad_key = self.key_of_part(keyed, DUMMY_PADS, &[]);
+        DummyKey::new(&self.key_of_part(keyed, DUMMY_LABELS, &[]), pad_key)
     }
 
     /// The 16-byte key mark, by which a client knows again whether it was given the same key.
