@@ -8,7 +8,9 @@ mod WrittenBack
 mod PlacedLaws
 mod AddedWords
 mod ListSteps
+mod EntryPlaces
 mod ListWrites
+mod DummyWrites
 mod PlacedSorted
 pub mod AcceptedLaws
 pub mod BuildErrors

@@ -1,14 +1,13 @@
 -- A loop over the words that writes the entry and the blocks of each in their places.
 use Rattle.std.proofs.Common.{◌≡◌, ℕ, suc, ◌+◌, ◌*◌, ◌<◌, ◌≤◌, List, [], ◌∷◌, ◌++◌, length, take, drop, map, get_or, set, Option, None, Some, refl, sym, ap, ◌∙◌, arith, length-append, length-drop, length-take}
-use Rattle.std.specs.Prelude.{flat_map, option_map, sum_by, slice_get}
+use Rattle.std.specs.Prelude.{flat_map, option_map, sum_by}
 use Rattle.std.specs.List.{range_with_len}
 use Rattle.std.proofs.Math.Seq.{drop-cons}
 use Rattle.std.proofs.lemmas.List.FromFn.{length-map-range_with_len}
 use Rattle.std.proofs.lemmas.Grind.{get_or_default_zero}
-use Rattle.std.proofs.lemmas.List.{get_or-take, get_or-drop, drop-drop, drop_all, drop_at, get_or-map, length-map, length-take-le, map-append, take-append-drop, take_at}
+use Rattle.std.proofs.lemmas.List.{get_or-take, get_or-drop, drop-drop, drop_all, drop_at, length-take-le, map-append, take-append-drop, take_at}
 use Rattle.std.proofs.lemmas.List.Folds.{fold-map}
 use Rattle.std.proofs.lemmas.List.Sums.{sum_by_more, sum_by-take-le}
-use Rattle.std.proofs.lemmas.Option.{get_or_from_slice_get}
 use Rattle.std.proofs.lemmas.Simd.{map-map}
 use Rattle.keyed_fn.specs.KeyedFn.{KeyedFn}
 use Rattle.keyed_fn.specs.KeyFormulas.{part_key, list_label, block_pad}
@@ -16,26 +15,18 @@ use Rattle.keyed_fn.specs.Xored.{xored}
 use Rattle.two_level.specs.Laid.{Laid, laid, cell_bytes}
 use Rattle.two_level.specs.Plan.{plan, block_count}
 use Rattle.client_registry.specs.Acceptance.{blocks_of, padded_blocks}
-use Rattle.client_registry.specs.Document.{Document}
-use Rattle.client_registry.specs.Documents.{ids_with, list_lengths, words_of}
+use Rattle.client_registry.specs.Documents.{ids_with}
 use Rattle.client_registry.specs.Setup.{Setup, setup_words}
 use Rattle.sse_frames.specs.Frames.{entry_bytes}
 use Rattle.sse_frames.specs.Order.{by_bytes}
-use Rattle.sse_model.proofs.Counts.{length-block_positions}
-use Rattle.sse_model.proofs.NoDummies.{entry_positions-alone, block_positions-alone}
-use Rattle.sse_model.specs.Positions.{Position, block_position, entry_position, entries_from, blocks_from, ranks_of, block_positions, block_text, cell_text, sealed, word_blocks}
+use Rattle.sse_model.specs.Positions.{Position, block_position, entry_position, blocks_from, ranks_of, block_text, cell_text, sealed, word_blocks}
 use Rattle.word_keys.specs.PadName.{PadName, cell_name, name_after, named_pad}
-use Rattle.index_setup.specs.Entries.{index_tags, key_table, setup_blocks, setup_entries, setup_ranks}
+use Rattle.index_setup.specs.Entries.{array_texts, entry_texts, index_tags, key_table, setup_ranks}
 use Rattle.index_setup.specs.Placed.{block_texts, placed}
 use Rattle.tag_order.specs.Tagged.{tagged_from}
+use Rattle.index_setup.proofs.KeyTags.{length-index_tags}
 use Rattle.index_setup.proofs.RankWrites.{length-ranks_of, position_at_rank}
 use Rattle.tag_order.proofs.InOrder.{key as tag_of}
-
--- the list of the word at w is as long as its length says
-pub list_at : (docs : List Document) (w n : ℕ) → w < length (words_of docs) → slice_get (list_lengths docs) w ≡ Some n
-    → n ≡ length (ids_with docs (get_or (words_of docs) w []))
-list_at docs w n within at =
-    sym (get_or_from_slice_get (list_lengths docs) w n 0 at) ∙ get_or-map (λ word. length (ids_with docs word)) (words_of docs) w [] 0 within
 
 -- ---- texts placed in two steps
 
@@ -52,7 +43,7 @@ placed-none slots (r ∷ rs) = refl
 
 -- ---- places
 
-ranks_low : (tags : List (List ℕ)) (p d : ℕ) → p < length tags → get_or (ranks_of tags) p d < length tags
+pub ranks_low : (tags : List (List ℕ)) (p d : ℕ) → p < length tags → get_or (ranks_of tags) p d < length tags
 ranks_low tags p d within =
     let same = get_or_default_zero (ranks_of tags) p d (omega (arith, length-ranks_of tags, within)) in
     omega (arith, same, (position_at_rank tags (by_bytes tag_of (tagged_from 0 tags)) refl p within).0)
@@ -64,57 +55,48 @@ written_cell None label pad out is = absurd (cc)
 written_cell (Some l) label pad out is = cc
 
 module _ (f : KeyedFn) (key : List ℕ) (s : Setup) where
-  -- the bytes of the entries of these words, whose blocks begin at this position
-  abbrev pub entry_texts : ℕ → List (List ℕ) → List (List ℕ)
-  entry_texts first words = map entry_bytes (map (sealed (key_table f key s) (setup_ranks f key s)) (entries_from 0 s first words))
-
-  -- and those of their blocks
-  abbrev pub array_texts : ℕ → List (List ℕ) → List (List ℕ)
-  array_texts first words = map (λ block. block.text) (map (sealed (key_table f key s) (setup_ranks f key s)) (blocks_from 0 s first words))
-
   -- how many blocks the first w words take
   abbrev pub blocks_before : ℕ → ℕ
   blocks_before w = sum_by (word_blocks s) (take w (setup_words s))
 
   -- what is left to write: the lists and the places of the words from w on, and what their texts make of the slots
-  pub record Remains (w : ℕ) (ids ranks : List ℕ) (entries array first_entries first_array : List (List ℕ)) (word_ranks : List ℕ) : Type 0 where
+  pub record Remains (w : ℕ) (ids ranks : List ℕ) (entries array first_entries first_array : List (List ℕ)) (entry_ranks : List ℕ) : Type 0 where
     pub ids_are : ids ≡ flat_map (ids_with s.documents) (drop w (setup_words s))
     pub ranks_are : ranks ≡ drop (blocks_before w) (setup_ranks f key s)
-    pub entries_are : placed entries (drop w word_ranks) (entry_texts (blocks_before w) (drop w (setup_words s))) ≡ placed first_entries word_ranks (entry_texts 0 (setup_words s))
-    pub array_are : placed array ranks (array_texts (blocks_before w) (drop w (setup_words s))) ≡ placed first_array (setup_ranks f key s) (array_texts 0 (setup_words s))
+    pub entries_are : placed entries (drop w entry_ranks) (entry_texts f key s (blocks_before w) (drop w (setup_words s))) ≡ placed first_entries entry_ranks (entry_texts f key s 0 (setup_words s))
+    pub array_are : placed array ranks (array_texts f key s (blocks_before w) (drop w (setup_words s))) ≡ placed first_array (setup_ranks f key s) (array_texts f key s 0 (setup_words s))
 
   pub length-setup_ranks : length (setup_ranks f key s) ≡ padded_blocks s
-  length-setup_ranks =
-      length-ranks_of (index_tags f key s) ∙ length-map (block_positions 0 s) (λ p. key_table f key s p.label) ∙ length-block_positions 0 s
+  length-setup_ranks = length-ranks_of (index_tags f key s) ∙ length-index_tags f key s
 
   -- at first all is left
-  pub Remains-first : (ids ranks : List ℕ) (entries array : List (List ℕ)) (word_ranks : List ℕ) → ids ≡ flat_map (ids_with s.documents) (setup_words s) → ranks ≡ setup_ranks f key s
-      → Remains 0 ids ranks entries array entries array word_ranks
-  Remains-first ids ranks entries array word_ranks ids_is ranks_is = record {
+  pub Remains-first : (ids ranks : List ℕ) (entries array : List (List ℕ)) (entry_ranks : List ℕ) → ids ≡ flat_map (ids_with s.documents) (setup_words s) → ranks ≡ setup_ranks f key s
+      → Remains 0 ids ranks entries array entries array entry_ranks
+  Remains-first ids ranks entries array entry_ranks ids_is ranks_is = record {
     ids_are = ids_is;
     ranks_are = ranks_is;
     entries_are = refl;
-    array_are = ap (λ rs. placed array rs (array_texts 0 (setup_words s))) ranks_is;
+    array_are = ap (λ rs. placed array rs (array_texts f key s 0 (setup_words s))) ranks_is;
   }
 
   blocks_by_word : blocks_of s ≡ sum_by (word_blocks s) (setup_words s)
   blocks_by_word = fold-map (λ a n. a + block_count (plan s.shape n)) (λ w. length (ids_with s.documents w)) 0 (setup_words s)
 
-  -- at the end nothing is left; at a Q of 1 these are all entries and blocks
-  pub all_written : s.pad ≡ 1 → (w : ℕ) (ids ranks : List ℕ) (entries array first_entries first_array : List (List ℕ)) (word_ranks : List ℕ) → length (setup_words s) ≤ w
-      → Remains w ids ranks entries array first_entries first_array word_ranks
-      → (entries ≡ placed first_entries word_ranks (map entry_bytes (setup_entries f key s))) × (array ≡ placed first_array (setup_ranks f key s) (map (λ block. block.text) (setup_blocks f key s)))
-  all_written alone w ids ranks entries array first_entries first_array word_ranks all left =
+  -- at the end nothing is left
+  pub all_written : (w : ℕ) (ids ranks : List ℕ) (entries array first_entries first_array : List (List ℕ)) (entry_ranks : List ℕ) → length (setup_words s) ≤ w
+      → Remains w ids ranks entries array first_entries first_array entry_ranks
+      → (entries ≡ placed first_entries entry_ranks (entry_texts f key s 0 (setup_words s))) × (array ≡ placed first_array (setup_ranks f key s) (array_texts f key s 0 (setup_words s)))
+  all_written w ids ranks entries array first_entries first_array entry_ranks all left =
       let none : drop w (setup_words s) ≡ [] = drop_all w (setup_words s) all in (
-        sym (placed-none entries (drop w word_ranks)) ∙ ap (λ ws. placed entries (drop w word_ranks) (entry_texts (blocks_before w) ws)) (sym none) ∙ left.entries_are ∙ ap (λ ps. placed first_entries word_ranks (map entry_bytes (map (sealed (key_table f key s) (setup_ranks f key s)) ps))) (sym (entry_positions-alone 0 s alone)),
-        sym (placed-none array ranks) ∙ ap (λ ws. placed array ranks (array_texts (blocks_before w) ws)) (sym none) ∙ left.array_are ∙ ap (λ ps. placed first_array (setup_ranks f key s) (map (λ block. block.text) (map (sealed (key_table f key s) (setup_ranks f key s)) ps))) (sym (block_positions-alone 0 s alone)),
+        sym (placed-none entries (drop w entry_ranks)) ∙ ap (λ ws. placed entries (drop w entry_ranks) (entry_texts f key s (blocks_before w) ws)) (sym none) ∙ left.entries_are,
+        sym (placed-none array ranks) ∙ ap (λ ws. placed array ranks (array_texts f key s (blocks_before w) ws)) (sym none) ∙ left.array_are,
       )
 
   -- the blocks of one word in front of the others
   array_texts-cons : (first : ℕ) (word : List ℕ) (words : List (List ℕ)) (places : List ℕ) → places ≡ take (word_blocks s word) (drop first (setup_ranks f key s))
       → length places ≡ word_blocks s word
-      → array_texts first (word ∷ words)
-      ≡ block_texts f (part_key f key 2 word) s.shape places (ids_with s.documents word) ++ array_texts (first + word_blocks s word) words
+      → array_texts f key s first (word ∷ words)
+      ≡ block_texts f (part_key f key 2 word) s.shape places (ids_with s.documents word) ++ array_texts f key s (first + word_blocks s word) words
   array_texts-cons first word words places are size =
       let t = key_table f key s in
       let all = setup_ranks f key s in
@@ -126,7 +108,7 @@ module _ (f : KeyedFn) (key : List ℕ) (s : Setup) where
       ∙ ap (λ texts. texts ++ map text later) (map-map text (block_position 0 s first word) (range_with_len 0 (word_blocks s word)))
       ∙ ap (λ n. map (λ i. text (block_position 0 s first word i)) (range_with_len 0 n) ++ map text later) (sym size)
       ∙ ap (λ texts. map (λ i. text (block_position 0 s first word i)) (range_with_len 0 (length places)) ++ texts) (sym (map-map (λ block. block.text) (sealed t all) later))
-      ∙ ap (λ ps. map (λ i. xored (block_text i (laid s.shape ps (ids_with s.documents word))) (block_pad f (part_key f key 2 word) i (8 * s.shape.big))) (range_with_len 0 (length places)) ++ array_texts (first + word_blocks s word) words) (sym are)
+      ∙ ap (λ ps. map (λ i. xored (block_text i (laid s.shape ps (ids_with s.documents word))) (block_pad f (part_key f key 2 word) i (8 * s.shape.big))) (range_with_len 0 (length places)) ++ array_texts f key s (first + word_blocks s word) words) (sym are)
 
   module _ (w : ℕ) (within : w < length (setup_words s)) where
     -- the word at w
@@ -142,8 +124,8 @@ module _ (f : KeyedFn) (key : List ℕ) (s : Setup) where
     before_within : blocks_before w + word_blocks s word_at ≤ length (setup_ranks f key s)
     before_within = omega (arith, before_more, sum_by-take-le (word_blocks s) (setup_words s) (w + 1), blocks_by_word, length-setup_ranks)
 
-    module _ (ids ranks : List ℕ) (entries array first_entries first_array : List (List ℕ)) (word_ranks : List ℕ)
-        (left : Remains w ids ranks entries array first_entries first_array word_ranks) where
+    module _ (ids ranks : List ℕ) (entries array first_entries first_array : List (List ℕ)) (entry_ranks : List ℕ)
+        (left : Remains w ids ranks entries array first_entries first_array entry_ranks) where
       -- the identifiers begin with those of the word
       ids_split : ids ≡ ids_with s.documents word_at ++ flat_map (ids_with s.documents) (drop (w + 1) (setup_words s))
       ids_split = left.ids_are ∙ ap (flat_map (ids_with s.documents)) words_are
@@ -205,11 +187,11 @@ module _ (f : KeyedFn) (key : List ℕ) (s : Setup) where
             (λ i. block_texts f (its_key i) s.shape places (own_list i))
 
         -- one word more
-        pub Remains-more : (place : ℕ) (label text ids' ranks' : List ℕ) (entries' array' : List (List ℕ)) → ids' ≡ drop n ids → ranks' ≡ drop count ranks → w < length word_ranks → place ≡ get_or word_ranks w 0
+        pub Remains-more : (place : ℕ) (label text ids' ranks' : List ℕ) (entries' array' : List (List ℕ)) → ids' ≡ drop n ids → ranks' ≡ drop count ranks → w < length entry_ranks → place ≡ get_or entry_ranks w 0
             → label ≡ list_label f (part_key f key 1 word_at)
             → option_map (λ l. label ++ xored (cell_bytes l) (named_pad f pad (1 + 8 * s.shape.b))) (laid s.shape places list) ≡ Some text
             → entries' ≡ set entries place text → array' ≡ placed array places (block_texts f after.key s.shape places list)
-            → Remains (w + 1) ids' ranks' entries' array' first_entries first_array word_ranks
+            → Remains (w + 1) ids' ranks' entries' array' first_entries first_array entry_ranks
         Remains-more place label text ids' ranks' entries' array' ids_rest ranks_rest ranked place_is label_is laid_is written placed_is = record {
           ids_are =
               ids_rest
@@ -222,24 +204,24 @@ module _ (f : KeyedFn) (key : List ℕ) (s : Setup) where
               ∙ ap (λ k. drop k (setup_ranks f key s)) (sym before_more);
           entries_are =
               let next : suc w ≡ w + 1 = omega arith in
-              let rest = drop (w + 1) word_ranks in
+              let rest = drop (w + 1) entry_ranks in
               let later = drop (w + 1) (setup_words s) in
-              let split : drop w word_ranks ≡ place ∷ rest =
-              drop-cons word_ranks w 0 ranked ∙ ap (λ k. get_or word_ranks w 0 ∷ drop k word_ranks) next ∙ ap (λ k. k ∷ rest) (sym place_is) in
-              ap (λ slots. placed slots rest (entry_texts (blocks_before (w + 1)) later)) written
-              ∙ (λ i. placed (set entries place (entry_is label text label_is laid_is i)) rest (entry_texts (before_more i) later))
-              ∙ (λ i. placed entries (sym split i) (entry_texts (blocks_before w) (sym words_are i)))
+              let split : drop w entry_ranks ≡ place ∷ rest =
+              drop-cons entry_ranks w 0 ranked ∙ ap (λ k. get_or entry_ranks w 0 ∷ drop k entry_ranks) next ∙ ap (λ k. k ∷ rest) (sym place_is) in
+              ap (λ slots. placed slots rest (entry_texts f key s (blocks_before (w + 1)) later)) written
+              ∙ (λ i. placed (set entries place (entry_is label text label_is laid_is i)) rest (entry_texts f key s (before_more i) later))
+              ∙ (λ i. placed entries (sym split i) (entry_texts f key s (blocks_before w) (sym words_are i)))
               ∙ left.entries_are;
           array_are =
               let later = drop (w + 1) (setup_words s) in
               let own = block_texts f (part_key f key 2 word_at) s.shape places (ids_with s.documents word_at) in
-              let others = array_texts (blocks_before w + word_blocks s word_at) later in
-              (λ i. placed (placed_is i) (ranks_rest i) (array_texts (blocks_before (w + 1)) later))
-              ∙ (λ i. placed (placed array places (blocks_are i)) (drop count ranks) (array_texts (before_more i) later))
+              let others = array_texts f key s (blocks_before w + word_blocks s word_at) later in
+              (λ i. placed (placed_is i) (ranks_rest i) (array_texts f key s (blocks_before (w + 1)) later))
+              ∙ (λ i. placed (placed array places (blocks_are i)) (drop count ranks) (array_texts f key s (before_more i) later))
               ∙ sym (placed-append array places (drop count ranks) own others (sym (length-map-range_with_len _ 0 (length places))))
               ∙ ap (λ ps. placed array (ps ++ drop count ranks) (own ++ others)) places_are
               ∙ ap (λ rs. placed array rs (own ++ others)) (take-append-drop count ranks)
               ∙ ap (placed array ranks) (sym (array_texts-cons (blocks_before w) word_at later places own_places as_many))
-              ∙ ap (λ ws. placed array ranks (array_texts (blocks_before w) ws)) (sym words_are)
+              ∙ ap (λ ws. placed array ranks (array_texts f key s (blocks_before w) ws)) (sym words_are)
               ∙ left.array_are;
         }

@@ -6,7 +6,7 @@ use Rattle.std.specs.Int.{div_ceil}
 use Rattle.std.proofs.Math.Nat.{mul-le-mul_right}
 use Rattle.std.proofs.lemmas.Bool.{cases_lt, cases_eq}
 use Rattle.std.proofs.lemmas.Grind.{div_ceil_times}
-use Rattle.std.proofs.lemmas.List.{ext_get_or, length-set, get_or-set_same, get_or-set_other, drop_at, take_at, take_rest, drop-take, length-take-le}
+use Rattle.std.proofs.lemmas.List.{ext_get_or, length-set, get_or-set_same, get_or-set_other, drop_at, take_all, take_at, take_rest, drop-take, length-take-le}
 use Rattle.std.proofs.lemmas.List.FromFn.{length-map-range_with_len, get_or-map-range_with_len}
 use Rattle.std.proofs.lemmas.Slice.{take-put_mid_below, drop-put_mid}
 use Rattle.keyed_fn.specs.KeyedFn.{KeyedFn}
@@ -17,7 +17,7 @@ use Rattle.list_packing.specs.Parts.{parts}
 use Rattle.list_packing.proofs.PartsLemmas.{length-parts, parts-at}
 use Rattle.two_level.specs.Laid.{Laid, laid, cell_bytes, block_bytes}
 use Rattle.two_level.specs.Shape.{Shape}
-use Rattle.sse_model.specs.Positions.{block_text, cell_text}
+use Rattle.sse_model.specs.Positions.{block_text}
 use Rattle.index_setup.specs.Placed.{block_texts, placed}
 
 -- ---- a slot written
@@ -83,7 +83,8 @@ length-slot size r count bytes some whole less =
 
 -- ---- texts placed
 
-pub placed-more : {X : Type 0} (slots : List X) (ranks : List ℕ) (texts : List X) (i : ℕ) (d : X) → i < length ranks → i < length texts
+-- one more
+placed-more : {X : Type 0} (slots : List X) (ranks : List ℕ) (texts : List X) (i : ℕ) (d : X) → i < length ranks → i < length texts
     → placed slots (take (i + 1) ranks) (take (i + 1) texts) ≡ set (placed slots (take i ranks) (take i texts)) (get_or ranks i 0) (get_or texts i d)
 placed-more slots [] texts i d ranked written = absurd (omega arith)
 placed-more slots (r ∷ rs) [] i d ranked written = absurd (omega arith)
@@ -93,11 +94,46 @@ placed-more slots (r ∷ rs) (t ∷ ts) (suc i) d ranked written =
     ap (λ n. placed slots (take n (r ∷ rs)) (take n (t ∷ ts))) next
     ∙ placed-more (set slots r t) rs ts i d (omega arith) (omega arith)
 
+-- one text more, written over its slot
+pub placed_step : (size z i : ℕ) (first bytes new : List ℕ) (ranks : List ℕ) (texts : List (List ℕ)) → z ≡ size → 0 < size
+    → (get_or ranks i 0 + 1) * size ≤ length bytes → i < length ranks → length texts ≡ length ranks → length new ≡ size → new ≡ get_or texts i []
+    → parts size bytes ≡ placed (parts size first) (take i ranks) (take i texts)
+    → parts size (put_mid (get_or ranks i 0 * z) (get_or ranks i 0 * z + z - get_or ranks i 0 * z) bytes new)
+    ≡ placed (parts size first) (take (i + 1) ranks) (take (i + 1) texts)
+placed_step size z i first bytes new ranks texts is some room within count long own before =
+    let r : ℕ = get_or ranks i 0 in
+    ap (λ n. parts size (put_mid (r * n) (r * n + n - r * n) bytes new)) is
+    ∙ parts-put_mid size r bytes new some room long
+    ∙ ap (λ slots. set slots r new) before
+    ∙ ap (set (placed (parts size first) (take i ranks) (take i texts)) r) own
+    ∙ sym (placed-more (parts size first) ranks texts i [] within (omega (arith, count, within)))
+
+-- and all of them
+pub placed_all : (size i : ℕ) (first : List ℕ) (ranks : List ℕ) (texts : List (List ℕ)) → length ranks ≤ i → length texts ≡ length ranks
+    → placed (parts size first) (take i ranks) (take i texts) ≡ placed (parts size first) ranks texts
+placed_all size i first ranks texts all count =
+    ap (λ rs. placed (parts size first) rs (take i texts)) (take_all i ranks all)
+    ∙ ap (placed (parts size first) ranks) (take_all i texts (omega (arith, count, all)))
+
+-- texts placed in two steps
+pub placed-behind : {X : Type 0} (slots : List X) (ranks : List ℕ) (us vs : List X) → placed (placed slots ranks us) (drop (length us) ranks) vs ≡ placed slots ranks (us ++ vs)
+placed-behind slots [] [] vs = refl
+placed-behind slots [] (u ∷ us) vs = refl
+placed-behind slots (r ∷ rs) [] vs = refl
+placed-behind slots (r ∷ rs) (u ∷ us) vs = placed-behind (set slots r u) rs us vs
+
 -- ---- the texts of a list
 
 pub block_text-laid : (i : ℕ) (o : Option Laid) (bytes : List ℕ) → option_map (block_bytes i) o ≡ Some bytes → block_text i o ≡ bytes
 block_text-laid i None bytes is = absurd (cc)
 block_text-laid i (Some l) bytes is = cc
+
+-- an encrypted text written behind the label that was copied
+pub label_written : (label copied out encrypted : List ℕ) → copied ≡ label → length label ≡ 16
+    → put_mid 16 (length (copied ++ drop 16 out) - 16) (copied ++ drop 16 out) encrypted ≡ label ++ encrypted
+label_written label copied out encrypted same long =
+    put_mid-to_end 16 (length (copied ++ drop 16 out) - 16) (copied ++ drop 16 out) encrypted (omega arith)
+    ∙ ap (λ xs. xs ++ encrypted) (take_at copied (drop 16 out) 16 (ap length same ∙ long) ∙ same)
 
 -- the label and the encrypted cell after it
 pub entry_written : (o : Option Laid) (label copied out cell encrypted : List ℕ) (size : ℕ) (pad : ℕ → List ℕ) → copied ≡ label → length label ≡ 16
@@ -106,11 +142,8 @@ pub entry_written : (o : Option Laid) (label copied out cell encrypted : List �
 entry_written None label copied out cell encrypted size pad same long room laid_is fits is = absurd (cc)
 entry_written (Some l) label copied out cell encrypted size pad same long room laid_is fits is =
     let own : cell_bytes l ≡ cell = cc in
-    let front : put_mid 16 (length (copied ++ drop 16 out) - 16) (copied ++ drop 16 out) encrypted ≡ label ++ encrypted =
-    put_mid-to_end 16 (length (copied ++ drop 16 out) - 16) (copied ++ drop 16 out) encrypted (omega arith)
-    ∙ ap (λ xs. xs ++ encrypted) (take_at copied (drop 16 out) 16 (ap length same ∙ long) ∙ same) in
     ap (λ x. Some (label ++ x)) (ap (λ bytes. xored bytes (pad size)) own ∙ ap (λ n. xored cell (pad n)) (sym fits) ∙ sym is)
-    ∙ ap (λ x. Some x) (sym front)
+    ∙ ap (λ x. Some x) (sym (label_written label copied out encrypted same long))
 
 -- the room after a label
 pub behind_label : (label copied out : List ℕ) (size : ℕ) → copied ≡ label → length label ≡ 16 → length out ≡ 16 + size
@@ -128,19 +161,17 @@ pub block_step : (f : KeyedFn) (key : List ℕ) (shape : Shape) (ranks ids : Lis
     ≡ placed (parts (8 * shape.big) first) (take (i + 1) ranks) (take (i + 1) (block_texts f key shape ranks ids))
 block_step f key shape ranks ids i z first array plain encrypted within size some room before laid_is fits is =
     let w : ℕ = 8 * shape.big in
-    let r : ℕ = get_or ranks i 0 in
     let texts : List (List ℕ) = block_texts f key shape ranks ids in
     let long : length encrypted ≡ w = ap length is ∙ length-map-range_with_len _ 0 (length plain) ∙ fits in
-    let count : length texts ≡ length ranks = length-map-range_with_len _ 0 (length ranks) in
     let own : encrypted ≡ get_or texts i [] =
     is ∙ ap (λ n. xored plain (f.pad key (i + 1) n)) fits
     ∙ ap (λ bytes. xored bytes (f.pad key (i + 1) w)) (sym (block_text-laid i (laid shape ranks ids) plain laid_is))
     ∙ sym (get_or-map-range_with_len (λ j. xored (block_text j (laid shape ranks ids)) (block_pad f key j (8 * shape.big))) 0 (length ranks) i i [] within (zero-add i)) in
-    ap (λ n. parts w (put_mid (r * n) (r * n + n - r * n) array encrypted)) size
-    ∙ parts-put_mid w r array encrypted (omega arith) room long
-    ∙ ap (λ slots. set slots r encrypted) before
-    ∙ ap (set (placed (parts w first) (take i ranks) (take i texts)) r) own
-    ∙ sym (placed-more (parts w first) ranks texts i [] within (omega (arith, count, within)))
+    placed_step w z i first array encrypted ranks texts size (omega arith) room within (length-map-range_with_len _ 0 (length ranks)) long own before
+
+-- a slot lies in the bytes of all
+pub slot_within : (r count size n : ℕ) → r < count → n ≡ count * size → (r + 1) * size ≤ n
+slot_within r count size n less whole = let room : (r + 1) * size ≤ count * size = mul-le-mul_right size (omega arith) in omega (arith, room, whole)
 
 -- the bytes of one slot
 pub slot_room : (r z size : ℕ) (bytes : List ℕ) → z ≡ size → (r + 1) * size ≤ length bytes → length (take (r * z + z - r * z) (drop (r * z) bytes)) ≡ size

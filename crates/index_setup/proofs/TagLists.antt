@@ -43,6 +43,13 @@ tagged-range_more F n i position tag old items are is at =
     ∙ ap (λ es. old ++ es) (sym (tagged_from-push n front (F i)))
     ∙ ap (λ ts. old ++ tagged_from n ts) (sym (map-range_with_len_more F 0 i i (zero-add i)))
 
+-- tags behind others
+pub tagged-append : (xs ys : List (List ℕ)) (n : ℕ) (items all : List Tagged) → items ≡ tagged_from 0 xs → n ≡ length items
+    → all ≡ items ++ tagged_from n ys → all ≡ tagged_from 0 (xs ++ ys)
+tagged-append xs ys n items all are count is =
+    let size : n ≡ 0 + length xs = count ∙ ap length are ∙ length-tagged_from 0 xs ∙ sym (zero-add (length xs)) in
+    is ∙ (λ i. are i ++ tagged_from (size i) ys) ∙ sym (tagged_from-append 0 xs ys)
+
 -- the pieces of one element more
 pub flat_map-take_more : {Y : Type 0} (F : List ℕ → List Y) (words : List (List ℕ)) (w : ℕ) → w < length words
     → flat_map F (take (w + 1) words) ≡ flat_map F (take w words) ++ F (get_or words w [])

@@ -4,4 +4,6 @@ pub mod IndexView
 pub mod Lists
 pub mod Placed
 pub mod Refused
+pub mod SizeOf
+pub mod Sources
 pub mod Texts

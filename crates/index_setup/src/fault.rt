@@ -6,16 +6,18 @@ use std::fmt;
 /// Why a setup's index can't be built: the first cause that stands, in this order.
 #[derive(Debug, Clone, Copy)]
 pub enum BuildFault {
-    /// A parameter is out of its range: `which` is 0 for b (1 to 64), 1 for B (1 to 256).
+    /// A parameter is out of its range: `which` is 0 for b (1 to 64), 1 for B (1 to 256), 2 for Q (a power of two from 1
+    /// to 4,096).
     BadParameter { which: u8, value: u64 },
     /// The list of this word number has `n` identifiers, more than b·B·B.
     ListTooLong { word: u32, n: u64 },
-    /// The index would have so many bytes, more than 2^28.
+    /// The index would have so many bytes, dummies included, more than 2^28.
     TooManyBytes(u64),
-    /// The labels of these two word numbers are equal; `second` is the least such number, then `first`.
+    /// The labels of these two entries are equal. Entries are counted by word number, and then the dummies; `second` is the
+    /// least such position, then `first`.
     LabelClash { first: u32, second: u32 },
     /// The places of these two blocks are equal. Blocks are counted over all words, by word number and then by
-    /// block number; `second` is the least such position, then `first`.
+    /// block number, and then the dummies; `second` is the least such position, then `first`.
     PlaceClash { first: u32, second: u32 },
     /// There is no memory for the index.
     NoMemory,
@@ -30,7 +32,10 @@ impl fmt::Display for BuildFault {
     fn fmt<W: fmt::Write>(&self, f: &mut fmt::Formatter<W>) -> fmt::Result {
         match self {
             BuildFault::BadParameter { which: 0, value } => write!(f, "b is 1 to 64, not {value}"),
-            BuildFault::BadParameter { value, .. } => write!(f, "B is 1 to 256, not {value}"),
+            BuildFault::BadParameter { which: 1, value } => write!(f, "B is 1 to 256, not {value}"),
+            BuildFault::BadParameter { value, .. } => {
+                write!(f, "Q is a power of two from 1 to 4096, not {value}")
+            }
             BuildFault::ListTooLong { word, n } => {
                 write!(f, "the list of word {word} has {n} identifiers, over b*B*B")
             }

@@ -1,18 +1,23 @@
 ghost use Rattle.std.specs.Prelude.{◌≡◌, ◌+◌, ◌*◌, ◌<◌, ◌≤◌, ◌^◌, ◌++◌, [], length, slice_index_or, vec_len};
 ghost use Rattle.list_packing.specs.Parts.{parts};
 ghost use Rattle.index_setup.specs.Built.{IsIndex};
+ghost use Rattle.index_setup.specs.SizeOf.{HasSize};
 
+use client_registry::Size;
 use list_packing::part;
 use std::marker::Model;
 
 /// The index of a setup: for each word its label and encrypted cell, by rising label, and the encrypted blocks of the
-/// longer lists by rising place tag. What it hands out takes no memory.
+/// longer lists by rising place tag, dummies among both. What it hands out takes no memory.
 #[derive(Drop)]
 pub struct Index {
     b: u16,
     big: u16,
+    pad: u16,
     words: u32,
     blocks: u32,
+    own_words: u32,
+    own_blocks: u32,
     entries: Vec<u8>,
     array: Vec<u8>,
 }
@@ -30,35 +35,28 @@ impl Model for Index {
 }
 
 impl Index {
-    /// The index of these parts, whose sizes are those that its parameters give.
-    pub(crate) fn new(
-        b: u16,
-        big: u16,
-        words: u32,
-        blocks: u32,
-        entries: Vec<u8>,
-        array: Vec<u8>,
-    ) -> Index
-        requires some { 1 ≤ b }
-        requires cell { b ≤ 64 }
-        requires block_some { 1 ≤ big }
-        requires block { big ≤ 256 }
-        requires most { words ≤ 2 ^ 20 }
-        requires few_blocks { blocks ≤ 2 ^ 20 }
-        requires whole { vec_len entries ≡ words * (17 + 8 * b) }
-        requires array_whole { vec_len array ≡ blocks * (8 * big) }
-        ensures b { result.b ≡ b }
-        ensures big { result.big ≡ big }
-        ensures words { result.words ≡ words }
-        ensures blocks { result.blocks ≡ blocks }
+    /// The index of this size with these entries and blocks, whose sizes are those that its parameters give.
+    pub(crate) fn new(size: &Size, entries: Vec<u8>, array: Vec<u8>) -> Index
+        requires pad_some { 1 ≤ size.now.pad }
+        requires pad_most { size.now.pad ≤ 4096 }
+        requires most { size.now.padded_words ≤ 2 ^ 20 }
+        requires few_blocks { size.now.padded_blocks ≤ 2 ^ 20 }
+        requires own_words { size.now.words ≤ size.now.padded_words }
+        requires own_blocks { size.now.blocks ≤ size.now.padded_blocks }
+        requires whole { vec_len entries ≡ size.now.padded_words * (17 + 8 * size.now.shape.b) }
+        requires array_whole { vec_len array ≡ size.now.padded_blocks * (8 * size.now.shape.big) }
+        ensures size { HasSize result size.now }
         ensures entries { result.entries ≡ entries.items }
         ensures array { result.array ≡ array.items }
     {
         Index {
-            b,
-            big,
-            words,
-            blocks,
+            b: size.shape.b(),
+            big: size.shape.big(),
+            pad: size.pad,
+            words: size.padded_words,
+            blocks: size.padded_blocks,
+            own_words: size.words,
+            own_blocks: size.blocks,
             entries,
             array,
         }
@@ -78,7 +76,15 @@ impl Index {
         self.big
     }
 
-    /// How many words, and so entries, it has; at most 2^20.
+    /// Q, up to multiples of which dummies were added, 1 to 4,096.
+    pub fn pad(&self) -> u16
+        ensures pad { result ≡ self.now.pad }
+        ensures limits { IsIndex self.now }
+    {
+        self.pad
+    }
+
+    /// How many entries it has, those of the words and the dummies; at most 2^20.
     pub fn words(&self) -> u32
         ensures count { result ≡ self.now.words }
         ensures limits { IsIndex self.now }
@@ -86,12 +92,28 @@ impl Index {
         self.words
     }
 
-    /// How many blocks it has.
+    /// How many blocks it has, those of the lists and the dummies; at most 2^20.
     pub fn blocks(&self) -> u32
         ensures count { result ≡ self.now.blocks }
         ensures limits { IsIndex self.now }
     {
         self.blocks
+    }
+
+    /// How many words it has, which are its entries without the dummies.
+    pub fn own_words(&self) -> u32
+        ensures count { result ≡ self.now.own_words }
+        ensures limits { IsIndex self.now }
+    {
+        self.own_words
+    }
+
+    /// How many blocks its lists take, which are its blocks without the dummies.
+    pub fn own_blocks(&self) -> u32
+        ensures count { result ≡ self.now.own_blocks }
+        ensures limits { IsIndex self.now }
+    {
+        self.own_blocks
     }
 
     /// The bytes of a cell: its kind byte and b numbers of 8 bytes.
@@ -125,7 +147,7 @@ impl Index {
         part(&self.array, 8 * self.big as usize, i as usize)
     }
 
-    /// The entries by rising label, joined: for each word its label of 16 bytes, then its encrypted cell.
+    /// The entries by rising label, joined: for each its label of 16 bytes, then its encrypted cell.
     pub fn entries(&self) -> &[u8]
         ensures bytes { result.now ≡ self.now.entries }
         ensures limits { IsIndex self.now }

@@ -1,56 +1,60 @@
-ghost use Rattle.std.specs.Prelude.{◌≡◌, ◌+◌, ◌<◌, ◌≤◌, ◌^◌, ◌++◌, length, map, vec_len, IfOk, OnOk, IsSome};
+ghost use Rattle.std.specs.Prelude.{◌≡◌, ◌+◌, ◌<◌, ◌≤◌, ◌^◌, ◌++◌, map, vec_len, IfOk, OnOk, IsSome};
 ghost use Rattle.std.specs.List.{range_with_len};
-ghost use Rattle.client_registry.specs.Documents.{list_lengths, words_of};
 ghost use Rattle.client_registry.specs.WordBytes.{word_bytes};
 ghost use Rattle.keyed_fn.specs.KeyedFn.{keyed_fn};
 ghost use Rattle.keyed_fn.specs.KeyFormulas.{part_key, place_tag};
 ghost use Rattle.two_level.specs.Plan as layout;
-ghost use Rattle.index_setup.specs.Entries.{block_tags, word_labels, ArePlanned};
+ghost use Rattle.index_setup.specs.Entries.{index_labels, index_tags};
+ghost use Rattle.index_setup.specs.SizeOf.{setup_sized, IsSizeOf};
 ghost use Rattle.tag_order.specs.Tagged.{tagged_from};
 
-use client_registry::{Docs, Word};
+use crate::dummies::{push_dummy_labels, push_dummy_tags};
+use client_registry::{Docs, Size, Word};
 use keyed_fn::Keyed;
 use std::alloc::{AllocError, Global};
 use tag_order::Tagged;
 use two_level::Shape;
 use word_keys::{PlaceTags, PreparedMaster};
 
-/// The label of each word, by word number.
+/// The label of each word, by word number, then those of the dummies. `size` is that of the documents' index.
 pub(crate) fn labels_of<K: Keyed>(
     alloc: Global,
     keyed: &K,
     master: &PreparedMaster<K>,
     docs: &Docs,
+    size: &Size,
 ) -> Result<Vec<Tagged>, AllocError>
-    ensures { IfOk result (λ labels. labels.items ≡ tagged_from 0 (word_labels (keyed_fn K.prf K.pad) master.now (words_of docs.now.documents))) }
+    requires { IsSizeOf docs.now.documents size.now }
+    ensures { IfOk result (λ labels. labels.items ≡ tagged_from 0 (index_labels (keyed_fn K.prf K.pad) master.now (setup_sized docs.now.documents size.now))) }
 {
-    let mut labels = Vec::with_capacity(alloc, docs.words())?;
+    let mut labels = Vec::with_capacity(alloc, size.padded_words as usize)?;
     for w in 0..docs.words() {
         let tag = master.list_label(keyed, docs.word(w));
         let position = w as u32;
         labels.push(Tagged { tag, position })?;
     }
+    push_dummy_labels(&mut labels, keyed, master, size.padded_words - size.words)?;
     Ok(labels)
 }
 
-/// The place tag of each block, by word number and then by block number. `blocks` is how many there are.
+/// The place tag of each block, by word number and then by block number, then those of the dummies. `size` is that of the
+/// documents' index.
 pub(crate) fn tags_of<K: Keyed>(
     alloc: Global,
     keyed: &K,
     master: &PreparedMaster<K>,
     docs: &Docs,
-    shape: Shape,
-    blocks: u32,
+    size: &Size,
 ) -> Result<Vec<Tagged>, AllocError>
-    requires planned { ArePlanned shape docs.now.documents }
-    requires most { length (block_tags (keyed_fn K.prf K.pad) master.now shape docs.now.documents (words_of docs.now.documents)) < 2 ^ 32 }
-    ensures { IfOk result (λ tags. tags.items ≡ tagged_from 0 (block_tags (keyed_fn K.prf K.pad) master.now shape docs.now.documents (words_of docs.now.documents))) }
+    requires { IsSizeOf docs.now.documents size.now }
+    ensures { IfOk result (λ tags. tags.items ≡ tagged_from 0 (index_tags (keyed_fn K.prf K.pad) master.now (setup_sized docs.now.documents size.now))) }
 {
-    let mut tags = Vec::with_capacity(alloc, blocks as usize)?;
+    let mut tags = Vec::with_capacity(alloc, size.padded_blocks as usize)?;
     for w in 0..docs.words() {
-        let count = blocks_in(docs.list_len(w), shape);
+        let count = blocks_in(docs.list_len(w), size.shape);
         push_tags(&mut tags, keyed, master, docs.word(w), count)?;
     }
+    push_dummy_tags(&mut tags, keyed, master, size.padded_blocks - size.blocks)?;
     Ok(tags)
 }
 

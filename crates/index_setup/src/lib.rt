@@ -1,12 +1,14 @@
 //! Builds the encrypted index of a setup in flat bytes: for each word of the collected documents one dictionary
 //! entry, a label and an encrypted cell, by rising label, and for each block of a longer list its encrypted numbers,
-//! by rising place tag. Labels and tags come first, so that each cell and block is laid in the place that it is sent
-//! from, and encrypted there. It depends on `word_keys`, the only way to labels and keystream, on `two_level` for
-//! the layout of a list, on `tag_order` for the order of labels and tags, and on `client_registry` for the documents. Callers use [`build`], and read the [`Index`]. It
-//! sends and stores nothing: frames are `client_core`'s.
+//! by rising place tag. Dummies, encrypted zeros of no word, stand among both, so that their exact numbers don't show. Labels and
+//! tags come first, so that each cell and block is laid in the place that it is sent from, and encrypted there. It depends on
+//! `word_keys`, the only way to labels and keystream, on `two_level` for the layout of a list, on `tag_order` for the order of
+//! labels and tags, and on `client_registry` for the documents. Callers use [`build`], and read the [`Index`]. It sends and
+//! stores nothing: frames are `client_core`'s.
 #![tactic(auto)]
 
 mod building;
+mod dummies;
 mod fault;
 mod index;
 mod labels;

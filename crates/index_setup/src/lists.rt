@@ -1,5 +1,5 @@
 ghost use Rattle.std.specs.Prelude.{◌≡◌, ◌+◌, ◌<◌, ◌≤◌, ◌^◌, length, take, flat_map, sum, IfOk};
-ghost use Rattle.client_registry.specs.Documents.{ids_with, list_lengths, words_of};
+ghost use Rattle.client_registry.specs.Documents.{ids_with, list_lengths, words_of, IsCollected};
 ghost use Rattle.index_setup.specs.Lists.{lists_among, starts_from, HoldsLists};
 
 use client_registry::Docs;
@@ -8,7 +8,8 @@ use std::alloc::{AllocError, Global};
 /// For each word, by word number, the identifiers of the documents with that word, in the documents' order: one list
 /// after the other. How long each is the documents know, so one pass over them fills all.
 pub(crate) fn lists_of(alloc: Global, docs: &Docs) -> Result<Vec<u64>, AllocError>
-    ensures { IfOk result (λ ids. ids.items ≡ flat_map (ids_with docs.now.documents) (words_of docs.now.documents)) }
+    ensures valid { IfOk result (λ _. IsCollected docs.now.documents) }
+    ensures lists { IfOk result (λ ids. ids.items ≡ flat_map (ids_with docs.now.documents) (words_of docs.now.documents)) }
 {
     let mut next = starts_of(alloc, docs)?;
     let mut ids = vec![in alloc; 0u64; total_of(docs)]?;

@@ -4,7 +4,7 @@ use Rattle.index_setup.specs.declared.fault.BuildFault.TheVariants.{LabelClash}
 use Rattle.index_setup.proofs.building.labels_differ.Goals as goal
 
 pub returns-in-Some : goal.returns-in-Some
-returns-in-Some c = λ tags order. ap (option_map (λ words. LabelClash words.0 words.1)) (sym c.in-Some.is ∙ c.first_clash.ensures tags order)
+returns-in-Some c = λ tags order. ap (option_map (λ entries. LabelClash entries.0 entries.1)) (sym c.in-Some.is ∙ c.first_clash.ensures tags order)
 
 pub returns-in-None : goal.returns-in-None
-returns-in-None c = λ tags order. ap (option_map (λ words. LabelClash words.0 words.1)) (sym c.in-None.is ∙ c.first_clash.ensures tags order)
+returns-in-None c = λ tags order. ap (option_map (λ entries. LabelClash entries.0 entries.1)) (sym c.in-None.is ∙ c.first_clash.ensures tags order)

@@ -8,4 +8,4 @@ use Rattle.index_setup.proofs.labels.tags_of.Given as goal
 -- the tags of the blocks of the first w words
 abbrev pub invariant-loop-w : goal.invariant-loop-w
 invariant-loop-w g l =
-    l.tags.items ≡ tagged_from 0 (block_tags (keyed_fn g.K.Keyed.prf g.K.Keyed.pad) l.master l.shape l.docs.documents (take l.w (words_of l.docs.documents)))
+    l.tags.items ≡ tagged_from 0 (block_tags (keyed_fn g.K.Keyed.prf g.K.Keyed.pad) l.master l.fn.size.shape l.docs.documents (take l.w (words_of l.docs.documents)))

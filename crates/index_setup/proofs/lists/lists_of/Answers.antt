@@ -32,8 +32,8 @@ loop-i-preserved c =
           (subst (HoldsLists (list_lengths docs) (lists_among docs (take (c.loop-i.i + 1) docs)) new_ids) (sym next_are) c.add_document.ensures);
     }
 
-pub returns : goal.returns
-returns c =
+pub returns-clause-lists : goal.returns-clause-lists
+returns-clause-lists c =
     let docs = c.args.docs.now.documents in
     HoldsLists-all docs c.loop-i.ids.items c.loop-i.next.items
     (subst (λ among. HoldsLists (list_lengths docs) (lists_among docs among) c.loop-i.ids.items c.loop-i.next.items)

@@ -1,13 +1,11 @@
-use Rattle.std.proofs.Common.{◌≡◌, ◌≤◌, ◌+◌, ◌*◌, length, take, get_or, sym, ap, subst, ◌∙◌, arith}
-use Rattle.std.proofs.lemmas.List.{take_all}
+use Rattle.std.proofs.Common.{◌≡◌, ◌≤◌, ◌+◌, ◌*◌, length, get_or, sym, ap, subst, ◌∙◌}
 use Rattle.std.proofs.lemmas.List.FromFn.{length-map-range_with_len}
 use Rattle.keyed_fn.specs.KeyedFn.{keyed_fn}
 use Rattle.keyed_fn.specs.Xored.{xored}
-use Rattle.list_packing.specs.Parts.{parts}
 use Rattle.two_level.specs.Shape.{Shape}
 use Rattle.word_keys.specs.PadName.{name_after, named_pad}
-use Rattle.index_setup.specs.Placed.{block_texts, placed}
-use Rattle.index_setup.proofs.PlacedLaws.{block_step, slot_room}
+use Rattle.index_setup.specs.Placed.{block_texts}
+use Rattle.index_setup.proofs.PlacedLaws.{block_step, placed_all, slot_room}
 use Rattle.index_setup.proofs.writing.write_blocks.Goals as goal
 
 pub loop-i-preserved : goal.loop-i-preserved
@@ -36,7 +34,4 @@ returns g c =
     let s : Shape = c.args.shape in
     let ranks = c.args.ranks.now in
     let texts = block_texts f c.args.pads.now.key s ranks c.args.ids.now in
-    let count : length texts ≡ length ranks = length-map-range_with_len _ 0 (length ranks) in
-    c.loop-i.invariant.array
-    ∙ ap (λ rs. placed (parts (8 * c.args.shape.big) c.args.array.now) rs (take c.loop-i.i texts)) (take_all c.loop-i.i ranks c.loop-i-test.false)
-    ∙ ap (placed (parts (8 * c.args.shape.big) c.args.array.now) ranks) (take_all c.loop-i.i texts (omega (arith, count, c.loop-i-test.false)))
+    c.loop-i.invariant.array ∙ placed_all (8 * c.args.shape.big) c.loop-i.i c.args.array.now ranks texts c.loop-i-test.false (length-map-range_with_len _ 0 (length ranks))
