@@ -1,7 +1,6 @@
 -- A line of a script has few words.
 use Rattle.std.proofs.Common.{◌≡◌, ℕ, ◌+◌, ◌^◌, ◌≤◌, Bool, true, false, List, [], ◌∷◌, length, nat_lt, refl, sym, subst, arith}
 use Rattle.std.specs.Prelude.{Option, None, Some, IfSome, option_map, codes, if◌then◌else◌}
-use Rattle.std.specs.Option.{option_and_then}
 use Rattle.std.specs.Str.{bytes_eq}
 use Rattle.std.proofs.lemmas.Bool.{ltb-false}
 use Rattle.std.proofs.lemmas.List.Sums.{length-filter, count_by-le-length}
@@ -9,7 +8,7 @@ use Rattle.std.proofs.lemmas.List.Splits.{length-slice_split}
 use Rattle.std.specs.List.{slice_split}
 use Rattle.sse_script.specs.Fields.{is_space, is_field, fields_of}
 use Rattle.sse_script.specs.Numbers.{number_of, key_of}
-use Rattle.sse_script.specs.Lines.{Line, Key, Doc, SetupLine, AddLine, Del, line_of, line_by_kind, key_line, document_line, setup_line, delete_line, find_line}
+use Rattle.sse_script.specs.Lines.{Line, Key, Doc, AddLine, Del, line_of, line_by_kind, key_line, document_line, setup_numbers, setup_line, delete_line, find_line}
 use Rattle.run_texts.specs.LineWords.{words_in}
 
 -- a line has at most one field more than bytes
@@ -35,15 +34,18 @@ module _ (n : ℕ) where
   few_document line same [] few = tt
   few_document line same (id ∷ words) few = mapped HasFew (number_of id) (λ m. line m words) (λ m. omega (arith, few, same m words))
 
+  few_numbers : (b big pad : Option ℕ) → IfSome (setup_numbers b big pad) HasFew
+  few_numbers (Some b) (Some big) (Some pad) = let few : 0 ≤ n = omega arith in few
+  few_numbers (Some b) (Some big) None = tt
+  few_numbers (Some b) None pad = tt
+  few_numbers None big pad = tt
+
   few_setup : (fields : List (List ℕ)) → IfSome (setup_line fields) HasFew
   few_setup [] = tt
   few_setup (b ∷ []) = tt
-  few_setup (b ∷ big ∷ []) = by (number_of b)
-    where
-      by : (m : Option ℕ) → IfSome (option_and_then (λ m. option_map (λ n. SetupLine m n) (number_of big)) m) HasFew
-      by None = tt
-      by (Some m) = mapped HasFew (number_of big) (λ n. SetupLine m n) (λ x. omega arith)
-  few_setup (b ∷ big ∷ other ∷ more) = tt
+  few_setup (b ∷ big ∷ []) = few_numbers (number_of b) (number_of big) (Some 1)
+  few_setup (b ∷ big ∷ pad ∷ []) = few_numbers (number_of b) (number_of big) (number_of pad)
+  few_setup (b ∷ big ∷ pad ∷ other ∷ more) = tt
 
   few_delete : (fields : List (List ℕ)) → IfSome (delete_line fields) HasFew
   few_delete [] = tt

@@ -7,7 +7,7 @@ abbrev pub words_in : Line → ℕ
 words_in Empty = 0
 words_in (Key key) = 0
 words_in (Doc id words) = length words
-words_in (SetupLine b big) = 0
+words_in (SetupLine b big pad) = 0
 words_in (AddLine id words) = length words
 words_in (Del id) = 0
 words_in (Find word) = 0

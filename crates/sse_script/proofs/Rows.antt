@@ -15,8 +15,11 @@ empty_line = refl
 doc_line : line_of (codes " doc 3  a b ") ≡ Some (Doc 3 (codes "a" ∷ codes "b" ∷ []))
 doc_line = refl
 
-setup_line : line_of (codes "setup 4 18446744073709551615") ≡ Some (SetupLine 4 18446744073709551615)
+setup_line : line_of (codes "setup 4 18446744073709551615") ≡ Some (SetupLine 4 18446744073709551615 1)
 setup_line = refl
+
+setup_with_q : line_of (codes "setup 4 8 16") ≡ Some (SetupLine 4 8 16)
+setup_with_q = refl
 
 add_line : line_of (codes "add 0") ≡ Some (AddLine 0 [])
 add_line = refl
@@ -35,6 +38,9 @@ leading_zero = refl
 
 too_large : line_of (codes "del 18446744073709551616") ≡ None
 too_large = refl
+
+four_numbers : line_of (codes "setup 4 8 16 1") ≡ None
+four_numbers = refl
 
 two_words : line_of (codes "find a b") ≡ None
 two_words = refl
@@ -55,7 +61,7 @@ found_none_text : text_of (shown.Found []) ≡ codes "found 0:" ++ 10 ∷ []
 unfolding digits
 found_none_text = refl
 
-refused_text : text_of (shown.Refused (refusals.BadParameter 1 257)) ≡ codes "refused: B is 257" ++ 10 ∷ []
+refused_text : text_of (shown.Refused (refusals.BadParameter 2 3)) ≡ codes "refused: Q is 3" ++ 10 ∷ []
 unfolding digits
 refused_text = refl
 

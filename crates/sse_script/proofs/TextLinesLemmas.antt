@@ -1,5 +1,5 @@
 -- Laws of the lines of a text, and of texts that are read piece by piece.
-use Rattle.std.proofs.Common.{suc, ◌≡◌, ℕ, ◌+◌, ◌-◌, ◌<◌, ◌≤◌, ◌==◌, Bool, true, false, not, cond, List, [], ◌∷◌, ◌++◌, length, take, drop, None, Some, IfSome, refl, sym, ap, ◌∙◌, subst, arith, append_assoc, append-nil, length-append, length-take}
+use Rattle.std.proofs.Common.{suc, ◌≡◌, ℕ, ◌+◌, ◌-◌, ◌<◌, ◌≤◌, ◌==◌, Bool, true, false, not, cond, List, [], ◌∷◌, ◌++◌, length, take, drop, None, Some, refl, sym, ap, ◌∙◌, subst, arith, append_assoc, append-nil, length-append, length-take}
 use Rattle.std.specs.declared.option.Option.{Option}
 use Rattle.std.specs.Option.{option_map}
 use Rattle.std.specs.List.{onto_first, position_or_len, before_first, after_first}
@@ -109,18 +109,10 @@ after_first-front xs known n is =
     prepend_known-append (take (position_or_len (λ b. b == 10) xs) xs) (drop (position_or_len (λ b. b == 10) xs) xs) known
     ∙ ap (λ l. prepend_known l known) (take-append-drop (position_or_len (λ b. b == 10) xs) xs)))
 
-pub after_first-end : (known : Option (List ℕ)) → IsAtEnd known → option_map (after_first (λ b. b == 10)) known ≡ known
-after_first-end None end = refl
-after_first-end (Some xs) end = ap Some (ap (after_first (λ b. b == 10)) end ∙ sym end)
-
 pub IsAtEnd-prepend_known : (xs : List ℕ) (known : Option (List ℕ)) → length xs ≡ 0 → IsAtEnd known → IsAtEnd (prepend_known xs known)
 IsAtEnd-prepend_known xs None none end = tt
 IsAtEnd-prepend_known [] (Some ys) none end = end
 IsAtEnd-prepend_known (x ∷ xs) (Some ys) none end = absurd (omega arith)
-
-pub prepend_known-none : (xs : List ℕ) (known : Option (List ℕ)) → xs ≡ [] → prepend_known xs known ≡ known
-prepend_known-none xs None none = refl
-prepend_known-none xs (Some ys) none = ap (λ l. Some (l ++ ys)) none
 
 -- ---- what a reader of lines takes: `line` is what it has of a line, `pending` what it has read after that
 
@@ -202,14 +194,6 @@ TakesLine-last line (Some more) old same unended end some =
     ∙ lines_of-first line some
     ∙ ap (λ l. l ∷ lines_of (after_first (λ b. b == 10) line)) front
     ∙ ap (λ l. line ∷ lines_of l) behind)
-
--- nothing has come and nothing more comes
-pub lines_of-none : (line : List ℕ) (known old : Option (List ℕ)) → prepend_known line known ≡ old → line ≡ [] → IsAtEnd known
-    → IfSome (option_map lines_of old) (λ lines. lines ≡ [])
-lines_of-none line None old same none end = subst (λ k. IfSome (option_map lines_of k) (λ lines. lines ≡ [])) same tt
-lines_of-none line (Some more) old same none end =
-    let empty : lines_of (line ++ more) ≡ [] = ap (λ l. lines_of (l ++ more)) none ∙ ap lines_of end in
-    subst (λ k. IfSome (option_map lines_of k) (λ lines. lines ≡ [])) same empty
 
 -- the line is longer than a line may be
 too_long : (line pending : List ℕ) (known : Option (List ℕ)) → position_or_len (λ b. b == 10) line ≡ length line

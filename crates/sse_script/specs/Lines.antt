@@ -1,6 +1,5 @@
 -- The grammar of a script's lines.
 use Rattle.std.specs.Prelude.{ℕ, ◌^◌, List, [], ◌∷◌, length, nat_lt, codes, Option, Some, None, option_map, if◌then◌else◌}
-use Rattle.std.specs.Option.{option_and_then}
 use Rattle.std.specs.Str.{bytes_eq}
 use Rattle.sse_script.specs.Fields.{fields_of}
 use Rattle.sse_script.specs.Numbers.{number_of, key_of}
@@ -10,7 +9,7 @@ pub data Line : Type 0 where
   Empty : Line
   Key : (key : List ℕ) → Line
   Doc : (id : ℕ) (words : List (List ℕ)) → Line
-  SetupLine : (b big : ℕ) → Line
+  SetupLine : (b big pad : ℕ) → Line
   AddLine : (id : ℕ) (words : List (List ℕ)) → Line
   Del : (id : ℕ) → Line
   Find : (word : List ℕ) → Line
@@ -25,9 +24,15 @@ abbrev pub document_line : (ℕ → List (List ℕ) → Line) → List (List ℕ
 document_line line (id ∷ words) = option_map (λ n. line n words) (number_of id)
 document_line line [] = None
 
--- `setup`: the numbers b and B
+-- the setup line of these numbers, where each of them is one
+abbrev pub setup_numbers : (b big pad : Option ℕ) → Option Line
+setup_numbers (Some b) (Some big) (Some pad) = Some (SetupLine b big pad)
+setup_numbers _ _ _ = None
+
+-- `setup`: the numbers b and B, and Q, which is 1 where it is left out
 abbrev pub setup_line : List (List ℕ) → Option Line
-setup_line (b ∷ big ∷ []) = option_and_then (λ m. option_map (λ n. SetupLine m n) (number_of big)) (number_of b)
+setup_line (b ∷ big ∷ []) = setup_numbers (number_of b) (number_of big) (Some 1)
+setup_line (b ∷ big ∷ pad ∷ []) = setup_numbers (number_of b) (number_of big) (number_of pad)
 setup_line _ = None
 
 -- `del`: a number

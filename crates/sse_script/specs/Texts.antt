@@ -7,6 +7,10 @@ use Rattle.sse_script.specs.declared.refusal.Refusal.TheVariants.{NotSetUp, SetU
 use Rattle.sse_script.specs.Shown.{Cause, BadWords, BadLine, SourceFault, LinkFault, DiskFault, NoMemory, LabelClash, PlaceClash, NumberClash, Clash, PeerElsewhere, BadReply, NoJournal, HasRecords, BadRecord, WrongKey}
 use Rattle.sse_script.specs.Shown.{Shown, SetUp, Added, Deleted, Found, Resumed, Refused, Stopped}
 
+-- a parameter of a setup by its number
+abbrev pub parameter_name : ℕ → List ℕ
+parameter_name which = if which == 0 then codes "b" else if which == 1 then codes "B" else codes "Q"
+
 -- after `refused: `
 abbrev pub refusal_text : Refusal → List (List ℕ)
 refusal_text NotSetUp = codes "not set up" ∷ []
@@ -21,7 +25,7 @@ refusal_text (UnknownDocument id) = codes "unknown document " ∷ decimal id ∷
 refusal_text (TooManyDocuments n) = codes "too many documents: " ∷ decimal n ∷ []
 refusal_text (TooManyPairs n) = codes "too many pairs: " ∷ decimal n ∷ []
 refusal_text (TooManyBytes n) = codes "too many bytes: " ∷ decimal n ∷ []
-refusal_text (BadParameter which value) = (if which == 0 then codes "b" else codes "B") ∷ codes " is " ∷ decimal value ∷ []
+refusal_text (BadParameter which value) = parameter_name which ∷ codes " is " ∷ decimal value ∷ []
 refusal_text (ListTooLong word n) = codes "list of word " ∷ decimal word ∷ codes " has " ∷ decimal n ∷ codes " identifiers" ∷ []
 refusal_text (CounterFull position) = codes "counter of word " ∷ decimal position ∷ codes " is full" ∷ []
 refusal_text HistoryFull = codes "history is full" ∷ []

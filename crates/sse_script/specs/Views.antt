@@ -8,7 +8,7 @@ abbrev pub line_view : ReadLine → Line
 line_view Empty = EmptyLine
 line_view (Key key) = KeyLine key
 line_view (Doc id words) = DocLine id words
-line_view (Setup b big) = SetupLine b big
+line_view (Setup b big pad) = SetupLine b big pad
 line_view (Add id words) = AddLine id words
 line_view (Del id) = DelLine id
 line_view (Find word) = FindLine word.now

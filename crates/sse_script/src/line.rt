@@ -11,8 +11,9 @@ pub enum Line<'a> {
     Key([u8; 32]),
     /// `doc`: a document for the setup, and its words as they stand.
     Doc { id: u64, words: Fields<'a> },
-    /// `setup`: the identifiers in a cell, and those in a block.
-    Setup { b: u64, big: u64 },
+    /// `setup`: the identifiers in a cell, those in a block, and the number up to a multiple of which words and
+    /// blocks are filled with dummies; that is 1, for no dummies, where the line leaves it out.
+    Setup { b: u64, big: u64, pad: u64 },
     /// `add`: a document to be added, and its words as they stand.
     Add { id: u64, words: Fields<'a> },
     /// `del`: the identifier of a document to be deleted.

@@ -83,18 +83,23 @@ fn numbered(mut fields: Fields<'_>) -> Option<(u64, Fields<'_>)>
     Some((id, fields))
 }
 
-/// `setup`: two numbers.
+/// `setup`: two numbers or three; the third is 1 where there are two.
 fn setup_line(mut fields: Fields<'_>) -> Option<Line<'_>>
     ensures { option_map line_view result ≡ lines.setup_line fields.entry }
 {
     let b = fields.next()?;
     let big = fields.next()?;
+    let pad = fields.next();
     if fields.next().is_some() {
         return None;
     }
     let b = read_number(b)?;
     let big = read_number(big)?;
-    Some(Line::Setup { b, big })
+    let pad = match pad {
+        Some(field) => read_number(field)?,
+        None => 1,
+    };
+    Some(Line::Setup { b, big, pad })
 }
 
 /// `del`: one number.

@@ -29,7 +29,8 @@ pub enum Refusal {
     TooManyPairs { n: u64 },
     /// An index of `n` bytes, more than 2^28.
     TooManyBytes { n: u64 },
-    /// A parameter of the setup that isn't possible: 0 is b, the identifiers in a cell, and 1 is B, those in a block.
+    /// A parameter of the setup that isn't possible: 0 is b, the identifiers in a cell, 1 is B, those in a block, and 2
+    /// is Q, up to a multiple of which words and blocks are filled with dummies.
     BadParameter { which: u8, value: u64 },
     /// The list of the word with this number has `n` identifiers, more than the parameters allow.
     ListTooLong { word: u32, n: u64 },
@@ -63,7 +64,8 @@ impl fmt::Display for Refusal {
             Refusal::TooManyPairs { n } => write!(f, "too many pairs: {n}"),
             Refusal::TooManyBytes { n } => write!(f, "too many bytes: {n}"),
             Refusal::BadParameter { which: 0, value } => write!(f, "b is {value}"),
-            Refusal::BadParameter { value, .. } => write!(f, "B is {value}"),
+            Refusal::BadParameter { which: 1, value } => write!(f, "B is {value}"),
+            Refusal::BadParameter { value, .. } => write!(f, "Q is {value}"),
             Refusal::ListTooLong { word, n } => write!(
                 f,
                 "list of word {word} has {n} identifiers"
