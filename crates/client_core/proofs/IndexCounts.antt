@@ -1,14 +1,11 @@
 -- How many entries and blocks the bytes of an index hold, and how many frames it takes.
-use Rattle.std.proofs.Common.{◌≡◌, ◌+◌, ◌*◌, ◌<◌, length, map, refl, ◌∙◌, arith}
+use Rattle.std.proofs.Common.{◌≡◌, ◌+◌, ◌*◌, ◌<◌, length, refl, arith}
 use Rattle.std.proofs.lemmas.Grind.{div_ceil_times}
-use Rattle.std.proofs.lemmas.List.{length-map}
-use Rattle.sse_frames.specs.Frames.{frame_bytes}
 use Rattle.sse_frames.specs.FrameViews.{entries_in, items_in}
-use Rattle.sse_frames.specs.Sending.{numbered}
 use Rattle.sse_frames.proofs.Chunks.{length-entries_in, length-items_in}
 use Rattle.index_setup.specs.Built.{IsIndex}
 use Rattle.index_setup.specs.declared.index.Index.{Index}
-use Rattle.client_core.proofs.FramesAt.{length-frames, length-numbered}
+use Rattle.client_core.proofs.FramesAt.{length-frames}
 use Rattle.client_core.proofs.SetupFrames.{entries_whole}
 use Rattle.client_core.specs.Setup.{frames_in, index_frames}
 

@@ -1,6 +1,6 @@
 -- What an update's places are to the words of its document, and what its values are.
 use Rattle.std.proofs.Common.{◌≡◌, ◌≢◌, ◌+◌, ◌-◌, ◌<◌, ◌^◌, ◌||◌, ℕ, Bool, true, false, cond, not, List, [], ◌∷◌, length, map, filter, nat_lt, Option, Some, None, refl, sym, ap, ◌∙◌, subst, arith, Ok, Err}
-use Rattle.std.specs.Prelude.{All, option_map, slice_index, slice_index_or, if◌then◌else◌, IsErrAnd, Result}
+use Rattle.std.specs.Prelude.{All, option_map, slice_index, slice_index_or, if◌then◌else◌, IfSome, IsErrAnd, Result}
 use Rattle.std.specs.List.{list_all, range_with_len}
 use Rattle.std.specs.Option.{option_or}
 use Rattle.std.proofs.lemmas.Bool.{and_parts, ltb-true}
@@ -195,10 +195,17 @@ pub residual_is : {X : Type 0} (r : Result X CommandFault) (x : CommandFault) �
 residual_is (Ok v) x is = absurd is
 residual_is (Err e) x is = ap (λ y. Err y) is
 
-pub not_wanting : {X Y : Type 0} (r : Result X CommandFault) (s : Result Y CommandFault) (x : CommandFault) → r ≡ Err x → s ≡ Err x → s ≢ Err NoMemory → r ≢ Err NoMemory
-not_wanting r s x first second some wants =
-    let same : x ≡ NoMemory = cc in
+-- of two that fail alike, the one has the fault that the other has
+pub not_wanting : {X Y E : Type 0} {want : E} (r : Result X E) (s : Result Y E) (x : E) → r ≡ Err x → s ≡ Err x → s ≢ Err want → r ≢ Err want
+not_wanting {want = want} r s x first second some wants =
+    let same : x ≡ want = cc in
     some (second ∙ ap (λ y. Err y) same)
+
+pub passed_on : {X Y Z E : Type 0} (o : Option Z) (fault : Z → E) (r : Result X E) (s : Result Y E) (x : E) → r ≡ Err x → s ≡ Err x → IfSome o (λ z. r ≡ Err (fault z)) → IfSome o (λ z. s ≡ Err (fault z))
+passed_on None fault r s x first second named = tt
+passed_on (Some z) fault r s x first second named =
+    let same : x ≡ fault z = cc in
+    second ∙ ap (λ y. Err y) same
 
 pub ok_not_wanting : {X : Type 0} (r : Result X CommandFault) (v : X) → r ≡ Ok v → r ≢ Err NoMemory
 ok_not_wanting r v is wants = cc

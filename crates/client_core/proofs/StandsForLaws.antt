@@ -1,6 +1,6 @@
 -- A client that stands for a history still does after its registry has numbered more words, and after a command.
 use Rattle.std.proofs.Common.{◌≡◌, ◌≢◌, ◌<◌, ◌+◌, ◌-◌, ◌^◌, ℕ, Bool, true, false, not, ◌&&◌, List, [], ◌∷◌, ◌++◌, Option, None, Some, is_some, filter, length, map, take, get_or, refl, sym, ap, ◌∙◌, subst, arith, Ok, Err}
-use Rattle.std.specs.Prelude.{IfErr, Result, if◌then◌else◌, IfSome, IsSome, nat_le, option_map, position, slice_index_or, unwrap_or}
+use Rattle.std.specs.Prelude.{IfErr, Result, if◌then◌else◌, IfSome, nat_le, option_map, position, slice_index_or, unwrap_or}
 use Rattle.std.specs.Option.{option_or}
 use Rattle.std.specs.Result.{result_err}
 use Rattle.std.proofs.lemmas.Bool.{leb-false}

@@ -1,8 +1,8 @@
 -- What the fields of a plan of a setup stand for.
 use Rattle.std.specs.Prelude.{◌≡◌, ◌+◌, ◌*◌, None, map, vec_len}
-use Rattle.client_registry.specs.Acceptance.{frames_needed, setup_refusal}
+use Rattle.client_registry.specs.Acceptance.{frames_needed, size_refusal}
 use Rattle.client_registry.specs.Collected.{Collected}
-use Rattle.client_registry.specs.Setup.{setup_of}
+use Rattle.client_registry.specs.Setup.{Setup, setup_with}
 use Rattle.index_setup.specs.declared.index.Index.{Index}
 use Rattle.sse_frames.specs.Frames.{Rises, frame_bytes, labels_of}
 use Rattle.sse_frames.specs.FrameViews.{entries_in}
@@ -17,15 +17,20 @@ plan_of index docs = record {
   made_of = docs;
   b = index.b;
   big = index.big;
-  words = index.words;
-  blocks = index.blocks;
+  pad = index.pad;
+  own_words = index.own_words;
+  own_blocks = index.own_blocks;
   frames = map frame_bytes (numbered 0 (index_frames index));
 }
 
+-- the setup whose index it is, of these documents
+abbrev pub setup_in : Index → Collected → Setup
+setup_in index docs = setup_with docs.documents index.b index.big index.pad
+
 -- an index of these documents can be sent: they are accepted, its frames are as many as they need, and its entries rise
 pub record IsSendable (index : Index) (docs : Collected) : Type 0 where
-  pub accepted : setup_refusal docs.documents index.b index.big ≡ None
-  pub frames : frames_in index ≡ frames_needed (setup_of docs.documents index.b index.big)
+  pub accepted : size_refusal (setup_in index docs) ≡ None
+  pub frames : frames_in index ≡ frames_needed (setup_in index docs)
   pub rises : Rises (labels_of (entries_in (1 + 8 * index.b) index.entries))
 
 -- what contracts see of the fields

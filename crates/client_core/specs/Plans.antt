@@ -3,14 +3,15 @@ use Rattle.std.specs.Prelude.{ℕ, List}
 use Rattle.client_registry.specs.Collected.{Collected}
 use Rattle.client_core.specs.declared.update.Update.{Update}
 
--- of a setup: the documents that it was made of, the numbers per cell and per block, how many words and blocks it has, and
--- the bytes of its frames in the order in which they are sent, numbered from 0
+-- of a setup: the documents that it was made of, the numbers per cell and per block, Q, how many words it has and how many
+-- blocks their lists take, and the bytes of its frames in the order in which they are sent, numbered from 0
 pub record SetupPlan : Type 0 where
   pub made_of : Collected
   pub b : ℕ
   pub big : ℕ
-  pub words : ℕ
-  pub blocks : ℕ
+  pub pad : ℕ
+  pub own_words : ℕ
+  pub own_blocks : ℕ
   pub frames : List (List ℕ)
 
 -- of an update: the numbers of an added document's words in the client's registry, the bytes of the one frame that carries the

@@ -32,10 +32,10 @@ frames_in index = 2 + div_ceil index.words 1024 + div_ceil index.blocks 256
 abbrev pub setup_bytes : (b big : ℕ) → List ℕ → List ℕ → List (List ℕ)
 setup_bytes b big entries array = map frame_bytes (numbered 0 (frames_of_joined b big entries array))
 
--- the frames of a setup of so many words and blocks: those of as many entries and blocks
-pub record SendsSetup (b big words blocks : ℕ) (frames : List (List ℕ)) : Type 0 where
+-- the frames of so many entries and blocks
+pub record SendsSetup (b big entry_count block_count : ℕ) (frames : List (List ℕ)) : Type 0 where
   pub entries : List ℕ
   pub array : List ℕ
-  pub whole : length entries ≡ words * (17 + 8 * b)
-  pub array_whole : length array ≡ blocks * (8 * big)
+  pub whole : length entries ≡ entry_count * (17 + 8 * b)
+  pub array_whole : length array ≡ block_count * (8 * big)
   pub sent : frames ≡ setup_bytes b big entries array

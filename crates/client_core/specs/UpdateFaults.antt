@@ -16,3 +16,10 @@ clash_fault (Places first second) = faults.NoMemory
 abbrev pub equal_at : List NumberedWord → List (List ℕ) → Option (ℕ × ℕ)
 equal_at places values =
     option_map (λ two. (slice_index (map (λ p. p.position) places) two.0, slice_index (map (λ p. p.position) places) two.1)) (first_clash values)
+
+-- the fault that names them, of labels and of revocation numbers
+abbrev pub label_fault : List NumberedWord → List (List ℕ) → Option CommandFault
+label_fault places labels = option_map (λ two. faults.LabelClash two.0 two.1) (equal_at places labels)
+
+abbrev pub number_fault : List NumberedWord → List (List ℕ) → Option CommandFault
+number_fault places numbers = option_map (λ two. faults.NumberClash two.0 two.1) (equal_at places numbers)

@@ -1,8 +1,8 @@
 ghost use Rattle.std.specs.Prelude.{◌≡◌, ◌≢◌, List, [], ℕ, length, map, None, Err, IfOk, IfSome, IsOkUnless};
-ghost use Rattle.client_registry.specs.Acceptance.{blocks_of, setup_refusal};
+ghost use Rattle.client_registry.specs.Acceptance.{blocks_of, padded_blocks, padded_words, size_refusal};
 ghost use Rattle.client_registry.specs.Documents.{words_of};
 ghost use Rattle.client_registry.specs.Run.{at_first};
-ghost use Rattle.client_registry.specs.Setup.{setup_of};
+ghost use Rattle.client_registry.specs.Setup.{setup_with};
 ghost use Rattle.keyed_fn.specs.KeyedFn.{KeyedFn, keyed_fn};
 ghost use Rattle.std.specs.List.{AllByRecursion};
 ghost use Rattle.sse_frames.specs.Frames.{IsFrame, frame_bytes};
@@ -39,9 +39,10 @@ impl Client<Fresh> {
         Client { key, state: Fresh }
     }
 
-    /// Plans the setup of these documents with b numbers per cell (1 to 64) and `big` numbers per
-    /// block (1 to 256), and takes its memory: the frames are those of `sse_model` for this setup under
-    /// the client's key, numbered from 0. Errors: as `index_setup::build`. Nothing is changed.
+    /// Plans the setup of these documents with b numbers per cell (1 to 64) and `big` numbers per block (1 to 256), filled
+    /// with dummies up to multiples of `pad` (a power of two from 1 to 4,096), and takes its memory: the frames are those of
+    /// `sse_model` for this setup under the client's key, numbered from 0. Errors: as `index_setup::build`. Nothing is
+    /// changed.
     pub fn plan_setup<K: Keyed>(
         &self,
         alloc: Global,
@@ -49,20 +50,22 @@ impl Client<Fresh> {
         docs: &Docs,
         b: u64,
         big: u64,
+        pad: u64,
     ) -> Result<Planned, BuildFault>
-        ensures refused { IfSome (setup_refusal docs.now.documents b big) (λ fault. result ≡ Err (refused_by_size fault)) }
-        ensures clash { setup_refusal docs.now.documents b big ≡ None → result ≢ Err BuildFault.NoMemory → IfSome (clash_refusal (keyed_fn K.prf K.pad) self.now.key (setup_of docs.now.documents b big)) (λ fault. result ≡ Err fault) }
-        ensures built { build_refusal (keyed_fn K.prf K.pad) self.now.key docs.now.documents b big ≡ None → IsOkUnless result BuildFault.NoMemory }
-        ensures accepted { IfOk result (λ _. build_refusal (keyed_fn K.prf K.pad) self.now.key docs.now.documents b big ≡ None) }
-        ensures frames { IfOk result (λ planned. planned.frames ≡ map frame_bytes (frames_of_setup (key_table (keyed_fn K.prf K.pad) self.now.key (setup_of docs.now.documents b big)) at_first (setup_of docs.now.documents b big))) }
+        ensures refused { IfSome (size_refusal (setup_with docs.now.documents b big pad)) (λ fault. result ≡ Err (refused_by_size fault)) }
+        ensures clash { size_refusal (setup_with docs.now.documents b big pad) ≡ None → result ≢ Err BuildFault.NoMemory → IfSome (clash_refusal (keyed_fn K.prf K.pad) self.now.key (setup_with docs.now.documents b big pad)) (λ fault. result ≡ Err fault) }
+        ensures built { build_refusal (keyed_fn K.prf K.pad) self.now.key (setup_with docs.now.documents b big pad) ≡ None → IsOkUnless result BuildFault.NoMemory }
+        ensures accepted { IfOk result (λ _. build_refusal (keyed_fn K.prf K.pad) self.now.key (setup_with docs.now.documents b big pad) ≡ None) }
+        ensures frames { IfOk result (λ planned. planned.frames ≡ map frame_bytes (frames_of_setup (key_table (keyed_fn K.prf K.pad) self.now.key (setup_with docs.now.documents b big pad)) at_first (setup_with docs.now.documents b big pad))) }
         ensures grammar { IfOk result (λ planned. AllByRecursion IsFrame (planned.frames)) }
         ensures documents { IfOk result (λ planned. planned.made_of ≡ docs.now) }
         ensures shape { IfOk result (λ planned. (planned.b ≡ b) × (planned.big ≡ big)) }
-        ensures words { IfOk result (λ planned. planned.words ≡ length (words_of docs.now.documents)) }
-        ensures blocks { IfOk result (λ planned. planned.blocks ≡ blocks_of (setup_of docs.now.documents b big)) }
-        ensures sends { IfOk result (λ planned. SendsSetup b big (length (words_of docs.now.documents)) (blocks_of (setup_of docs.now.documents b big)) (planned.frames)) }
+        ensures pad { IfOk result (λ planned. planned.pad ≡ pad) }
+        ensures own_words { IfOk result (λ planned. planned.own_words ≡ length (words_of docs.now.documents)) }
+        ensures own_blocks { IfOk result (λ planned. planned.own_blocks ≡ blocks_of (setup_with docs.now.documents b big pad)) }
+        ensures sends { IfOk result (λ planned. SendsSetup b big (padded_words (setup_with docs.now.documents b big pad)) (padded_blocks (setup_with docs.now.documents b big pad)) (planned.frames)) }
     {
-        let index = build(alloc, keyed, &self.key, docs, b, big)?;
+        let index = build(alloc, keyed, &self.key, docs, b, big, pad)?;
         Ok(Planned::new(alloc, index, docs)?)
     }
 
@@ -72,11 +75,11 @@ impl Client<Fresh> {
         requires documents { planned.made_of ≡ docs }
         ensures key { result.key ≡ self.key }
         ensures hash_keys { result.state.ready.registry.keys ≡ docs.keys }
-        ensures stands { (f : KeyedFn) (keys : ℕ → List ℕ) → StandsFor f keys at_first (record { setup = setup_of docs.documents planned.b planned.big; later = [] }) result.state.ready }
+        ensures stands { (f : KeyedFn) (keys : ℕ → List ℕ) → StandsFor f keys at_first (record { setup = setup_with docs.documents planned.b planned.big planned.pad; later = [] }) result.state.ready }
         ensures frames { frames_left result.state ≡ length (planned.frames) }
         ensures owed { to_send result.state ≡ planned.frames }
         ensures first { first_number result.state ≡ 0 }
-        ensures owes { (f : KeyedFn) (keys : ℕ → List ℕ) → planned.frames ≡ map frame_bytes (frames_of_setup (table f (setup_of docs.documents planned.b planned.big).shape keys) at_first (setup_of docs.documents planned.b planned.big)) → Owes f keys at_first (record { setup = setup_of docs.documents planned.b planned.big; later = [] }) 0 result.state }
+        ensures owes { (f : KeyedFn) (keys : ℕ → List ℕ) → planned.frames ≡ map frame_bytes (frames_of_setup (table f (setup_with docs.documents planned.b planned.big planned.pad).shape keys) at_first (setup_with docs.documents planned.b planned.big planned.pad)) → Owes f keys at_first (record { setup = setup_with docs.documents planned.b planned.big planned.pad; later = [] }) 0 result.state }
     {
         let Client { key, state: _ } = self;
         let Planned {

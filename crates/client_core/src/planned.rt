@@ -52,18 +52,18 @@ impl Planned {
         })
     }
 
-    /// How many different words the planned setup has.
-    pub fn words(&self) -> u32
-        ensures { result ≡ self.now.words }
+    /// How many different words the planned setup has, without the dummies.
+    pub fn own_words(&self) -> u32
+        ensures { result ≡ self.now.own_words }
     {
-        self.index.words()
+        self.index.own_words()
     }
 
-    /// How many blocks the planned setup has.
-    pub fn blocks(&self) -> u32
-        ensures { result ≡ self.now.blocks }
+    /// How many blocks their lists take, without the dummies.
+    pub fn own_blocks(&self) -> u32
+        ensures { result ≡ self.now.own_blocks }
     {
-        self.index.blocks()
+        self.index.own_blocks()
     }
 }
 

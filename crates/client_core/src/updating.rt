@@ -12,7 +12,7 @@ ghost use Rattle.client_core.specs.UpdateFaults.{clash_fault};
 ghost use Rattle.client_core.specs.UpdateTexts.{add_collision, add_text, delete_collision, delete_text};
 
 use crate::command_fault::CommandFault;
-use crate::equal_values::equal_positions;
+use crate::equal_values::{label_clash, number_clash};
 use crate::kept_keys::KeptKeys;
 use crate::new_pairs::{by_label, entries_of, labels_of, numbers_of, tags_of};
 use crate::update_frames::{add_frame, delete_frame};
@@ -50,13 +50,13 @@ pub(crate) fn add_update<K: Keyed>(
     let entries = entries_of(alloc, keyed, master, registry, keys, fresh, doc.id())?;
     let labels = labels_of(alloc, entries.as_slice())?;
     let labels = by_tag(labels)?;
-    if let Some((first, second)) = equal_positions(labels.as_slice(), fresh) {
-        return Err(CommandFault::LabelClash { first, second });
+    if let Some(fault) = label_clash(labels.as_slice(), fresh) {
+        return Err(fault);
     }
     let numbers = numbers_of(alloc, keyed, master, registry, keys, listed, doc.id())?;
     let numbers = numbers.sorted()?;
-    if let Some((first, second)) = equal_positions(numbers.as_slice(), listed) {
-        return Err(CommandFault::NumberClash { first, second });
+    if let Some(fault) = number_clash(numbers.as_slice(), listed) {
+        return Err(fault);
     }
     let numbers = tags_of(alloc, numbers.as_slice())?;
     let entries = by_label(entries)?;
@@ -86,8 +86,8 @@ pub(crate) fn delete_update<K: Keyed>(
     let places = places.as_slice();
     let numbers = numbers_of(alloc, keyed, master, registry, keys, places, id)?;
     let numbers = numbers.sorted()?;
-    if let Some((first, second)) = equal_positions(numbers.as_slice(), places) {
-        return Err(CommandFault::NumberClash { first, second });
+    if let Some(fault) = number_clash(numbers.as_slice(), places) {
+        return Err(fault);
     }
     let numbers = tags_of(alloc, numbers.as_slice())?;
     Ok(delete_frame(alloc, q, numbers.as_slice())?)

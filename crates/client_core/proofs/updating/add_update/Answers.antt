@@ -7,6 +7,7 @@ use Rattle.add_counters.specs.declared.entry.Entry.{Entry as Made}
 use Rattle.client_registry.proofs.DistinctLaws.{IsDistinct-first_clash}
 use Rattle.client_registry.specs.IdNumber.{id_number}
 use Rattle.client_registry.specs.Registered.{facts, known_words}
+use Rattle.index_setup.proofs.BuildErrors.{unmapped}
 use Rattle.keyed_fn.specs.KeyedFn.{keyed_fn}
 use Rattle.revocation_ids.specs.Places.{fresh_places, listed_places, word_at}
 use Rattle.revocation_ids.specs.declared.numbered_word.NumberedWord.{NumberedWord}
@@ -16,7 +17,7 @@ use Rattle.sse_frames.specs.Order.{by_bytes}
 use Rattle.sse_model.specs.Compared.{equal_among}
 use Rattle.tag_order.specs.Tagged.{IsOrderOf}
 use Rattle.tag_order.specs.declared.tagged.Tagged.{Tagged}
-use Rattle.client_core.specs.UpdateFaults.{equal_at}
+use Rattle.client_core.specs.UpdateFaults.{equal_at, label_fault, number_fault}
 use Rattle.client_core.specs.UpdateTexts.{entries_added, next_entry_of, number_of, numbers_added}
 use Rattle.client_core.specs.declared.command_fault.CommandFault.TheVariants.{LabelClash, NumberClash}
 use Rattle.client_core.proofs.DifferLaws.{Rises-numbers}
@@ -45,8 +46,8 @@ labels_of-requires g c =
       ap length c.as_slice.ensures.value,
     )
 
-pub equal_positions-requires : goal.equal_positions-requires
-equal_positions-requires g c =
+pub label_clash-requires : goal.label_clash-requires
+label_clash-requires g c =
     let label : Made → List ℕ = λ e. e.label in
     let tags = map label c.as_slice.result.now in
     let order : IsOrderOf tags c.as_slice-2.result.now = subst (IsOrderOf tags) (sym c.as_slice-2.ensures.value) (c.in_ok-labels-2.ensures.order tags c.in_ok-labels.ensures) in
@@ -64,8 +65,8 @@ sorted-requires g c =
       c.in_ok-numbers.ensures.count,
     )
 
-pub equal_positions-requires-2 : goal.equal_positions-requires-2
-equal_positions-requires-2 g c =
+pub number_clash-requires : goal.number_clash-requires
+number_clash-requires g c =
     let number_order : IsOrderOf c.in_ok-numbers.numbers c.as_slice-3.result.now = subst (IsOrderOf c.in_ok-numbers.numbers) (sym c.as_slice-3.ensures.value) c.in_ok-numbers-2.ensures.order in
     (c.in_ok-numbers.numbers, number_order, c.in_ok-numbers.ensures.count)
 
@@ -92,7 +93,7 @@ add_frame-requires-clause-rises g c =
     let label : Made → List ℕ = λ e. e.label in
     let tags = map label c.as_slice.result.now in
     let order : IsOrderOf tags c.as_slice-2.result.now = subst (IsOrderOf tags) (sym c.as_slice-2.ensures.value) (c.in_ok-labels-2.ensures.order tags c.in_ok-labels.ensures) in
-    let none = none_equal c.as_slice-fresh.result.now tags (sym (c.equal_positions.ensures tags order) ∙ c.in_default.is) in
+    let none = none_equal c.as_slice-fresh.result.now tags (unmapped (λ two. LabelClash two.0 two.1) (equal_at c.as_slice-fresh.result.now tags) (sym (c.label_clash.ensures tags order) ∙ c.in_default.is)) in
     let apart : IsDistinct bytes_eq (map label c.in_ok-entries.entries.items) = subst (λ es. IsDistinct bytes_eq (map label es)) c.as_slice.ensures.value (IsDistinct-first_clash tags none) in
     subst (λ es. Rises (map label es)) (sym c.as_slice-5.ensures.value) (c.in_ok-entries-2.ensures.rises apart)
 
@@ -100,7 +101,7 @@ pub add_frame-requires-clause-numbers_rise : goal.add_frame-requires-clause-numb
 add_frame-requires-clause-numbers_rise g c =
     let tag : Tagged → List ℕ = λ e. e.tag in
     let number_order : IsOrderOf c.in_ok-numbers.numbers c.as_slice-3.result.now = subst (IsOrderOf c.in_ok-numbers.numbers) (sym c.as_slice-3.ensures.value) c.in_ok-numbers-2.ensures.order in
-    let none = none_equal c.as_slice-listed.result.now c.in_ok-numbers.numbers (sym (c.equal_positions-2.ensures c.in_ok-numbers.numbers number_order) ∙ c.in_default-equal_positions.is) in
+    let none = none_equal c.as_slice-listed.result.now c.in_ok-numbers.numbers (unmapped (λ two. NumberClash two.0 two.1) (equal_at c.as_slice-listed.result.now c.in_ok-numbers.numbers) (sym (c.number_clash.ensures c.in_ok-numbers.numbers number_order) ∙ c.in_default-number_clash.is)) in
     Rises-numbers c.in_ok-numbers.numbers c.as_slice-6.result.now
     (c.as_slice-6.ensures.value ∙ c.in_ok-numbers-3.ensures ∙ ap (map tag) c.as_slice-4.ensures.value ∙ c.in_ok-numbers-2.ensures.numbers) none
 
@@ -121,14 +122,15 @@ returns-in-Some-clause-fault g c =
     let tags = map label c.as_slice.result.now in
     let order : IsOrderOf tags c.as_slice-2.result.now = subst (IsOrderOf tags) (sym c.as_slice-2.ensures.value) (c.in_ok-labels-2.ensures.order tags c.in_ok-labels.ensures) in
     let labels = equal_among (λ w. not ((facts r).listed w d.id)) (λ w. (next_entry_of f key (facts r) d.id w).label) d.words in
-    let at_labels : c.equal_positions.result ≡ labels =
-    c.equal_positions.ensures tags order ∙ ap (λ ps. equal_at ps tags) fresh
-    ∙ ap (λ es. equal_at (fresh_places r d.id ns) (map label es)) c.as_slice.ensures.value ∙ labels_at r d ns are f key c.in_ok-entries.entries.items made in
+    let at_labels : c.label_clash.result ≡ option_map (λ two. LabelClash two.0 two.1) labels =
+    c.label_clash.ensures tags order ∙ ap (λ ps. label_fault ps tags) fresh
+    ∙ ap (λ es. label_fault (fresh_places r d.id ns) (map label es)) c.as_slice.ensures.value
+    ∙ ap (option_map (λ two. LabelClash two.0 two.1)) (labels_at r d ns are f key c.in_ok-entries.entries.items made) in
     let numbers = equal_among (λ w. (facts r).listed w d.id) (number_of f key d.id) d.words in
-    stops_at_labels labels numbers (LabelClash c.in-Some.first c.in-Some.second) (ap (option_map (λ two. LabelClash two.0 two.1)) (sym c.in-Some.is ∙ at_labels))
+    stops_at_labels labels numbers c.in-Some.fault (sym c.in-Some.is ∙ at_labels)
 
-pub returns-in-Some-equal_positions-clause-fault : goal.returns-in-Some-equal_positions-clause-fault
-returns-in-Some-equal_positions-clause-fault g c =
+pub returns-in-Some-number_clash-clause-fault : goal.returns-in-Some-number_clash-clause-fault
+returns-in-Some-number_clash-clause-fault g c =
     λ had some.
     let f = keyed_fn g.K.Keyed.prf g.K.Keyed.pad in
     let r = c.args.registry.now in
@@ -144,19 +146,21 @@ returns-in-Some-equal_positions-clause-fault g c =
     let tags = map label c.as_slice.result.now in
     let order : IsOrderOf tags c.as_slice-2.result.now = subst (IsOrderOf tags) (sym c.as_slice-2.ensures.value) (c.in_ok-labels-2.ensures.order tags c.in_ok-labels.ensures) in
     let labels = equal_among (λ w. not ((facts r).listed w d.id)) (λ w. (next_entry_of f key (facts r) d.id w).label) d.words in
-    let at_labels : c.equal_positions.result ≡ labels =
-    c.equal_positions.ensures tags order ∙ ap (λ ps. equal_at ps tags) fresh
-    ∙ ap (λ es. equal_at (fresh_places r d.id ns) (map label es)) c.as_slice.ensures.value ∙ labels_at r d ns are f key c.in_ok-entries.entries.items made in
+    let at_labels : c.label_clash.result ≡ option_map (λ two. LabelClash two.0 two.1) labels =
+    c.label_clash.ensures tags order ∙ ap (λ ps. label_fault ps tags) fresh
+    ∙ ap (λ es. label_fault (fresh_places r d.id ns) (map label es)) c.as_slice.ensures.value
+    ∙ ap (option_map (λ two. LabelClash two.0 two.1)) (labels_at r d ns are f key c.in_ok-entries.entries.items made) in
     let numbers = equal_among (λ w. (facts r).listed w d.id) (number_of f key d.id) d.words in
     let listed = c.as_slice-listed.ensures.value ∙ c.in_ok-parts.ensures.listed ∙ ap (λ id. listed_places r id ns) c.id.ensures in
     let number_at : ℕ → NumberedWord → List ℕ = λ id place. number_of f key id (word_at r place) in
     let given : c.in_ok-numbers.numbers ≡ map (number_at d.id) (listed_places r d.id ns) =
     c.in_ok-numbers.ensures.numbers (c.entries_of.ensures.keeps had) ∙ ap (map (number_at (id_number c.id-3.result))) listed ∙ ap (λ id. map (number_at id) (listed_places r d.id ns)) c.id-3.ensures in
     let number_order : IsOrderOf c.in_ok-numbers.numbers c.as_slice-3.result.now = subst (IsOrderOf c.in_ok-numbers.numbers) (sym c.as_slice-3.ensures.value) c.in_ok-numbers-2.ensures.order in
-    let at_numbers : c.equal_positions-2.result ≡ numbers =
-    c.equal_positions-2.ensures c.in_ok-numbers.numbers number_order ∙ ap (λ ps. equal_at ps c.in_ok-numbers.numbers) listed ∙ numbers_at r d ns are f key c.in_ok-numbers.numbers given in
-    let none : None ≡ option_map (λ two. LabelClash two.0 two.1) labels = ap (option_map (λ two. LabelClash two.0 two.1)) (sym c.in_default.is ∙ at_labels) in
-    goes_to_numbers labels numbers (Some (NumberClash c.in-Some-equal_positions.first c.in-Some-equal_positions.second)) none (ap (option_map (λ two. NumberClash two.0 two.1)) (sym c.in-Some-equal_positions.is ∙ at_numbers))
+    let at_numbers : c.number_clash.result ≡ option_map (λ two. NumberClash two.0 two.1) numbers =
+    c.number_clash.ensures c.in_ok-numbers.numbers number_order ∙ ap (λ ps. number_fault ps c.in_ok-numbers.numbers) listed
+    ∙ ap (option_map (λ two. NumberClash two.0 two.1)) (numbers_at r d ns are f key c.in_ok-numbers.numbers given) in
+    let none : None ≡ option_map (λ two. LabelClash two.0 two.1) labels = sym c.in_default.is ∙ at_labels in
+    goes_to_numbers labels numbers (Some c.in-Some-number_clash.fault) none (sym c.in-Some-number_clash.is ∙ at_numbers)
 
 pub returns-clause-fault : goal.returns-clause-fault
 returns-clause-fault g c =
@@ -175,19 +179,21 @@ returns-clause-fault g c =
     let tags = map label c.as_slice.result.now in
     let order : IsOrderOf tags c.as_slice-2.result.now = subst (IsOrderOf tags) (sym c.as_slice-2.ensures.value) (c.in_ok-labels-2.ensures.order tags c.in_ok-labels.ensures) in
     let labels = equal_among (λ w. not ((facts r).listed w d.id)) (λ w. (next_entry_of f key (facts r) d.id w).label) d.words in
-    let at_labels : c.equal_positions.result ≡ labels =
-    c.equal_positions.ensures tags order ∙ ap (λ ps. equal_at ps tags) fresh
-    ∙ ap (λ es. equal_at (fresh_places r d.id ns) (map label es)) c.as_slice.ensures.value ∙ labels_at r d ns are f key c.in_ok-entries.entries.items made in
+    let at_labels : c.label_clash.result ≡ option_map (λ two. LabelClash two.0 two.1) labels =
+    c.label_clash.ensures tags order ∙ ap (λ ps. label_fault ps tags) fresh
+    ∙ ap (λ es. label_fault (fresh_places r d.id ns) (map label es)) c.as_slice.ensures.value
+    ∙ ap (option_map (λ two. LabelClash two.0 two.1)) (labels_at r d ns are f key c.in_ok-entries.entries.items made) in
     let numbers = equal_among (λ w. (facts r).listed w d.id) (number_of f key d.id) d.words in
     let listed = c.as_slice-listed.ensures.value ∙ c.in_ok-parts.ensures.listed ∙ ap (λ id. listed_places r id ns) c.id.ensures in
     let number_at : ℕ → NumberedWord → List ℕ = λ id place. number_of f key id (word_at r place) in
     let given : c.in_ok-numbers.numbers ≡ map (number_at d.id) (listed_places r d.id ns) =
     c.in_ok-numbers.ensures.numbers (c.entries_of.ensures.keeps had) ∙ ap (map (number_at (id_number c.id-3.result))) listed ∙ ap (λ id. map (number_at id) (listed_places r d.id ns)) c.id-3.ensures in
     let number_order : IsOrderOf c.in_ok-numbers.numbers c.as_slice-3.result.now = subst (IsOrderOf c.in_ok-numbers.numbers) (sym c.as_slice-3.ensures.value) c.in_ok-numbers-2.ensures.order in
-    let at_numbers : c.equal_positions-2.result ≡ numbers =
-    c.equal_positions-2.ensures c.in_ok-numbers.numbers number_order ∙ ap (λ ps. equal_at ps c.in_ok-numbers.numbers) listed ∙ numbers_at r d ns are f key c.in_ok-numbers.numbers given in
-    let none : None ≡ option_map (λ two. LabelClash two.0 two.1) labels = ap (option_map (λ two. LabelClash two.0 two.1)) (sym c.in_default.is ∙ at_labels) in
-    goes_to_numbers labels numbers None none (ap (option_map (λ two. NumberClash two.0 two.1)) (sym c.in_default-equal_positions.is ∙ at_numbers))
+    let at_numbers : c.number_clash.result ≡ option_map (λ two. NumberClash two.0 two.1) numbers =
+    c.number_clash.ensures c.in_ok-numbers.numbers number_order ∙ ap (λ ps. number_fault ps c.in_ok-numbers.numbers) listed
+    ∙ ap (option_map (λ two. NumberClash two.0 two.1)) (numbers_at r d ns are f key c.in_ok-numbers.numbers given) in
+    let none : None ≡ option_map (λ two. LabelClash two.0 two.1) labels = sym c.in_default.is ∙ at_labels in
+    goes_to_numbers labels numbers None none (sym c.in_default-number_clash.is ∙ at_numbers)
 
 pub returns-clause-bytes : goal.returns-clause-bytes
 returns-clause-bytes g c =

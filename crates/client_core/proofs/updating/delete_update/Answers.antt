@@ -5,6 +5,7 @@ use Rattle.client_registry.specs.DocumentRule.{IsDocument}
 use Rattle.client_registry.specs.IdNumber.{id_number}
 use Rattle.client_registry.specs.Numbered.{document_by, words_by_number}
 use Rattle.client_registry.specs.Registered.{facts, known_words}
+use Rattle.index_setup.proofs.BuildErrors.{unmapped}
 use Rattle.keyed_fn.specs.KeyedFn.{keyed_fn}
 use Rattle.revocation_ids.specs.declared.numbered_word.NumberedWord.{NumberedWord}
 use Rattle.sse_frames.proofs.Sorted.{length-by_bytes}
@@ -14,7 +15,7 @@ use Rattle.sse_model.proofs.UpdateGrammar.{few_words}
 use Rattle.sse_model.specs.Compared.{equal_among}
 use Rattle.tag_order.specs.Tagged.{IsOrderOf}
 use Rattle.tag_order.specs.declared.tagged.Tagged.{Tagged}
-use Rattle.client_core.specs.UpdateFaults.{equal_at}
+use Rattle.client_core.specs.UpdateFaults.{equal_at, number_fault}
 use Rattle.client_core.specs.UpdateTexts.{number_of}
 use Rattle.client_core.specs.declared.command_fault.CommandFault.TheVariants.{NumberClash}
 use Rattle.client_core.proofs.DifferLaws.{Rises-numbers}
@@ -46,8 +47,8 @@ sorted-requires g c =
       c.in_ok-numbers.ensures.count,
     )
 
-pub equal_positions-requires : goal.equal_positions-requires
-equal_positions-requires g c =
+pub number_clash-requires : goal.number_clash-requires
+number_clash-requires g c =
     let order : IsOrderOf c.in_ok-numbers.numbers c.as_slice.result.now = subst (IsOrderOf c.in_ok-numbers.numbers) (sym c.as_slice.ensures.value) c.in_ok-numbers-2.ensures.order in
     (c.in_ok-numbers.numbers, order, c.in_ok-numbers.ensures.count)
 
@@ -71,7 +72,7 @@ pub delete_frame-requires-clause-numbers_rise : goal.delete_frame-requires-claus
 delete_frame-requires-clause-numbers_rise g c =
     let tag : Tagged → List ℕ = λ e. e.tag in
     let order : IsOrderOf c.in_ok-numbers.numbers c.as_slice.result.now = subst (IsOrderOf c.in_ok-numbers.numbers) (sym c.as_slice.ensures.value) c.in_ok-numbers-2.ensures.order in
-    let none = none_equal c.as_slice-places.result.now c.in_ok-numbers.numbers (sym (c.equal_positions.ensures c.in_ok-numbers.numbers order) ∙ c.in_default.is) in
+    let none = none_equal c.as_slice-places.result.now c.in_ok-numbers.numbers (unmapped (λ two. NumberClash two.0 two.1) (equal_at c.as_slice-places.result.now c.in_ok-numbers.numbers) (sym (c.number_clash.ensures c.in_ok-numbers.numbers order) ∙ c.in_default.is)) in
     Rises-numbers c.in_ok-numbers.numbers c.as_slice-3.result.now
     (c.as_slice-3.ensures.value ∙ c.in_ok-numbers-3.ensures ∙ ap (map tag) c.as_slice-2.ensures.value ∙ c.in_ok-numbers-2.ensures.numbers) none
 
@@ -91,11 +92,11 @@ returns-in-Some-clause-fault g c =
     c.in_ok-numbers.ensures.numbers had ∙ ap (map (λ (place : NumberedWord). number_of f key id (slice_index_or table place.number []))) c.as_slice-places.ensures.value in
     let order : IsOrderOf c.in_ok-numbers.numbers c.as_slice.result.now = subst (IsOrderOf c.in_ok-numbers.numbers) (sym c.as_slice.ensures.value) c.in_ok-numbers-2.ensures.order in
     let clashes = equal_among (λ w. true) (number_of f key id) (unwrap_or ((facts r).live id) []) in
-    let at : c.equal_positions.result ≡ clashes =
-    c.equal_positions.ensures c.in_ok-numbers.numbers order ∙ ap (λ ps. equal_at ps c.in_ok-numbers.numbers) c.as_slice-places.ensures.value
-    ∙ all_equal table doc items c.in_ok-places.ensures.numbers (number_of f key id) c.in_ok-numbers.numbers c.in_ok-places.ensures.positions given
-    ∙ ap (equal_among (λ w. true) (number_of f key id)) words in
-    ap (option_map (λ two. NumberClash two.0 two.1)) (sym c.in-Some.is ∙ at) ∙ clash_of_numbers clashes
+    let at : c.number_clash.result ≡ option_map (λ two. NumberClash two.0 two.1) clashes =
+    c.number_clash.ensures c.in_ok-numbers.numbers order ∙ ap (λ ps. number_fault ps c.in_ok-numbers.numbers) c.as_slice-places.ensures.value
+    ∙ ap (option_map (λ two. NumberClash two.0 two.1))
+    (all_equal table doc items c.in_ok-places.ensures.numbers (number_of f key id) c.in_ok-numbers.numbers c.in_ok-places.ensures.positions given ∙ ap (equal_among (λ w. true) (number_of f key id)) words) in
+    sym c.in-Some.is ∙ at ∙ clash_of_numbers clashes
 
 pub returns-clause-fault : goal.returns-clause-fault
 returns-clause-fault g c =
@@ -113,11 +114,11 @@ returns-clause-fault g c =
     c.in_ok-numbers.ensures.numbers had ∙ ap (map (λ (place : NumberedWord). number_of f key id (slice_index_or table place.number []))) c.as_slice-places.ensures.value in
     let order : IsOrderOf c.in_ok-numbers.numbers c.as_slice.result.now = subst (IsOrderOf c.in_ok-numbers.numbers) (sym c.as_slice.ensures.value) c.in_ok-numbers-2.ensures.order in
     let clashes = equal_among (λ w. true) (number_of f key id) (unwrap_or ((facts r).live id) []) in
-    let at : c.equal_positions.result ≡ clashes =
-    c.equal_positions.ensures c.in_ok-numbers.numbers order ∙ ap (λ ps. equal_at ps c.in_ok-numbers.numbers) c.as_slice-places.ensures.value
-    ∙ all_equal table doc items c.in_ok-places.ensures.numbers (number_of f key id) c.in_ok-numbers.numbers c.in_ok-places.ensures.positions given
-    ∙ ap (equal_among (λ w. true) (number_of f key id)) words in
-    ap (option_map (λ two. NumberClash two.0 two.1)) (sym c.in_default.is ∙ at) ∙ clash_of_numbers clashes
+    let at : c.number_clash.result ≡ option_map (λ two. NumberClash two.0 two.1) clashes =
+    c.number_clash.ensures c.in_ok-numbers.numbers order ∙ ap (λ ps. number_fault ps c.in_ok-numbers.numbers) c.as_slice-places.ensures.value
+    ∙ ap (option_map (λ two. NumberClash two.0 two.1))
+    (all_equal table doc items c.in_ok-places.ensures.numbers (number_of f key id) c.in_ok-numbers.numbers c.in_ok-places.ensures.positions given ∙ ap (equal_among (λ w. true) (number_of f key id)) words) in
+    sym c.in_default.is ∙ at ∙ clash_of_numbers clashes
 
 pub returns-clause-bytes : goal.returns-clause-bytes
 returns-clause-bytes g c =

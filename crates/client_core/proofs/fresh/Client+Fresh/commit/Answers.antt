@@ -1,9 +1,10 @@
 use Rattle.std.proofs.Common.{◌≡◌, None, ap, drop, length, map, refl, ◌∙◌, subst}
-use Rattle.client_registry.specs.Acceptance.{frames_needed, setup_refusal}
-use Rattle.client_registry.specs.Setup.{setup_of}
+use Rattle.client_registry.specs.Acceptance.{frames_needed, size_refusal}
+use Rattle.client_registry.specs.Setup.{setup_with}
 use Rattle.sse_frames.specs.Frames.{frame_bytes}
 use Rattle.sse_frames.specs.Sending.{numbered}
 use Rattle.client_core.proofs.OwesLaws.{Owes-setup}
+use Rattle.client_core.specs.PlanView.{setup_in}
 use Rattle.client_core.specs.Setup.{frames_in, index_frames}
 use Rattle.client_core.proofs.fresh.Client+Fresh.commit.Goals as goal
 
@@ -15,9 +16,9 @@ returns-clause-stands c =
     let can = c.planned.invariant.sendable in
     let same = ap (λ plan. plan.made_of) c.planned.view_is ∙ c.requires.documents in
     rw (← c.planned.view_is)
-    (c.begun-ready.ensures.stands f keys (setup_of c.args.docs.documents index.b index.big) refl
-    (subst (λ docs. setup_refusal docs.documents index.b index.big ≡ None) same can.accepted)
-    (c.frame_count.ensures.count ∙ subst (λ docs. frames_in index ≡ frames_needed (setup_of docs.documents index.b index.big)) same can.frames))
+    (c.begun-ready.ensures.stands f keys (setup_in index c.args.docs) refl
+    (subst (λ docs. size_refusal (setup_in index docs) ≡ None) same can.accepted)
+    (c.frame_count.ensures.count ∙ subst (λ docs. frames_in index ≡ frames_needed (setup_in index docs)) same can.frames))
 
 pub returns-clause-owed : goal.returns-clause-owed
 returns-clause-owed c =
@@ -30,6 +31,6 @@ returns-clause-frames c = ap length (returns-clause-owed c)
 pub returns-clause-owes : goal.returns-clause-owes
 returns-clause-owes c =
     λ f keys frames.
-    Owes-setup f keys (setup_of c.args.docs.documents c.args.planned.b c.args.planned.big) _ (returns-clause-stands c f keys)
+    Owes-setup f keys (setup_with c.args.docs.documents c.args.planned.b c.args.planned.big c.args.planned.pad) _ (returns-clause-stands c f keys)
     (returns-clause-owed c ∙ frames)
     c.at.ensures.next

@@ -1,17 +1,18 @@
-use Rattle.std.proofs.Common.{rules, ◌≡◌, ◌+◌, ◌*◌, List, ℕ, None, Ok, Err, map, refl, sym, ap, subst, ◌∙◌}
+use Rattle.std.proofs.Common.{rules, ◌≡◌, ◌+◌, ◌*◌, List, ℕ, Ok, Err, sym, ap, subst, ◌∙◌}
 use Rattle.std.specs.Prelude.{IfSome, Result, option_map}
 use Rattle.std.specs.Int.{div_ceil}
-use Rattle.client_registry.proofs.PaddedLaws.{own_words_alone, own_blocks_alone}
-use Rattle.client_registry.specs.Acceptance.{frames_needed, setup_refusal}
-use Rattle.client_registry.specs.Setup.{setup_of}
+use Rattle.std.proofs.lemmas.Result.{err_from_is_err_and}
+use Rattle.client_registry.specs.Acceptance.{frames_needed, size_refusal}
+use Rattle.client_registry.specs.Setup.{setup_with}
 use Rattle.keyed_fn.specs.KeyedFn.{IsKeyedFn, keyed_fn}
 use Rattle.sse_frames.specs.Frames.{Rises, labels_of}
 use Rattle.sse_frames.specs.FrameViews.{entries_in}
 use Rattle.index_setup.proofs.BuildErrors.{labels_differ, second_none, size_accepted}
 use Rattle.index_setup.specs.Refused.{clash_refusal, refused_by_size}
 use Rattle.index_setup.specs.declared.fault.BuildFault.{BuildFault}
+use Rattle.client_core.proofs.PlanLaws.{not_wanting, passed_on}
 use Rattle.client_core.proofs.SetupOf.{setup_bytes-index, labels_rise}
-use Rattle.client_core.specs.Setup.{frames_in, setup_bytes}
+use Rattle.client_core.specs.Setup.{setup_bytes}
 use Rattle.client_core.specs.declared.planned.Planned.{Planned}
 use Rattle.client_core.proofs.fresh.Client+Fresh.plan_setup.Goals as goal
 
@@ -28,19 +29,17 @@ new-requires g c =
       pad_prefix = g.met.K.Keyed.pad_prefix;
     } in
     let key = c.self.inside.key in
-    let s = setup_of c.args.docs.now.documents c.args.b c.args.big in
+    let docs = c.args.docs.now.documents in
+    let s = setup_with docs c.args.b c.args.big c.args.pad in
     let rises = labels_rise f laws key s (size_accepted f key s was.accepted) (labels_differ f key s was.accepted) in
     record {
       rises =
           subst (λ (b : ℕ). Rises (labels_of (entries_in (1 + 8 * b) c.in_ok-index.index.entries))) (sym was.b)
           (subst (λ (bytes : List ℕ). Rises (labels_of (entries_in (1 + 8 * c.args.b) bytes))) (sym was.entries) rises);
-      accepted =
-          subst (λ (b : ℕ). setup_refusal c.args.docs.now.documents b c.in_ok-index.index.big ≡ None) (sym was.b)
-          (subst (λ (big : ℕ). setup_refusal c.args.docs.now.documents c.args.b big ≡ None) (sym was.big) (size_accepted f key s was.accepted));
+      accepted = (λ i. size_refusal (setup_with docs (was.b i) (was.big i) (was.pad i))) ∙ size_accepted f key s was.accepted;
       frames =
-          subst (λ (b : ℕ). frames_in c.in_ok-index.index ≡ frames_needed (setup_of c.args.docs.now.documents b c.in_ok-index.index.big)) (sym was.b)
-          (subst (λ (big : ℕ). frames_in c.in_ok-index.index ≡ frames_needed (setup_of c.args.docs.now.documents c.args.b big)) (sym was.big)
-          (λ i. 2 + div_ceil ((was.words ∙ sym (own_words_alone s refl)) i) 1024 + div_ceil ((was.blocks ∙ sym (own_blocks_alone s refl)) i) 256));
+          (λ i. 2 + div_ceil (was.words i) 1024 + div_ceil (was.blocks i) 256)
+          ∙ sym (λ i. frames_needed (setup_with docs (was.b i) (was.big i) (was.pad i)));
     }
 
 -- the frames of the index are those of the setup that it is of
@@ -56,13 +55,13 @@ returns-clause-frames g c =
       pad_bytes = g.met.K.Keyed.pad_bytes;
       pad_prefix = g.met.K.Keyed.pad_prefix;
     } in
-    let s = setup_of c.args.docs.now.documents c.args.b c.args.big in
+    let s = setup_with c.args.docs.now.documents c.args.b c.args.big c.args.pad in
     ap (λ plan. plan.frames) c.in_ok-new.ensures.plan
     ∙ (λ i. setup_bytes (was.b i) (was.big i) (was.entries i) (was.array i))
     ∙ setup_bytes-index f laws c.self.inside.key s (size_accepted f c.self.inside.key s was.accepted)
     )
 
--- and carry as many entries and blocks as it has words and blocks
+-- and carry as many entries and blocks as it has, dummies included
 pub returns-clause-sends : goal.returns-clause-sends
 returns-clause-sends g c =
     let was = c.in_ok-index.ensures in
@@ -76,8 +75,31 @@ returns-clause-sends g c =
       sent = ap (λ plan. plan.frames) c.in_ok-new.ensures.plan ∙ (λ i. setup_bytes (was.b i) (was.big i) index.entries index.array);
     }
 
+-- a fault of building is the plan's
+pub returns-in_err-index-clause-refused : goal.returns-in_err-index-clause-refused
+returns-in_err-index-clause-refused g c =
+    let s = setup_with c.args.docs.now.documents c.args.b c.args.big c.args.pad in
+    let told = err_from_is_err_and c.from_residual.result c.from_residual.ensures.1 in
+    passed_on (size_refusal s) refused_by_size c.build.result c.from_residual.result c.in_err-index.field-0.0 c.in_err-index.was (told.1 ∙ ap (λ e. Err e) told.2) c.build.ensures.refused
+
+pub returns-in_err-index-clause-clash : goal.returns-in_err-index-clause-clash
+returns-in_err-index-clause-clash g c =
+    rw (← c.self.view_is) (
+    λ accepted some.
+    let f = keyed_fn g.K.Keyed.prf g.K.Keyed.pad in
+    let s = setup_with c.args.docs.now.documents c.args.b c.args.big c.args.pad in
+    let told = err_from_is_err_and c.from_residual.result c.from_residual.ensures.1 in
+    let fault = c.in_err-index.field-0.0 in
+    let is = told.1 ∙ ap (λ e. Err e) told.2 in
+    passed_on (clash_refusal f c.self.inside.key s) (λ e. e) c.build.result c.from_residual.result fault c.in_err-index.was is
+    (c.build.ensures.clash accepted (not_wanting c.build.result c.from_residual.result fault c.in_err-index.was is some))
+    )
+
 pub returns-in_err-index-clause-built : goal.returns-in_err-index-clause-built
 returns-in_err-index-clause-built g c = rw (← c.self.view_is) (search rules)
+
+pub returns-clause-accepted : goal.returns-clause-accepted
+returns-clause-accepted g c = rw (← c.self.view_is) c.in_ok-index.ensures.accepted
 
 -- what is planned has no clash
 pub returns-clause-clash : goal.returns-clause-clash
@@ -85,9 +107,9 @@ returns-clause-clash g c =
     rw (← c.self.view_is) (
     let f = keyed_fn g.K.Keyed.prf g.K.Keyed.pad in
     let docs = c.args.docs.now.documents in
-    let s = setup_of docs c.args.b c.args.big in
+    let s = setup_with docs c.args.b c.args.big c.args.pad in
     let planned : Result Planned BuildFault = Ok c.in_ok-new.field-0 in
     let none =
-    second_none (option_map refused_by_size (setup_refusal docs c.args.b c.args.big)) (clash_refusal f c.self.inside.key s) c.in_ok-index.ensures.accepted in
+    second_none (option_map refused_by_size (size_refusal s)) (clash_refusal f c.self.inside.key s) c.in_ok-index.ensures.accepted in
     λ _ _. subst (λ o. IfSome o (λ fault. planned ≡ Err fault)) (sym none) tt
     )
