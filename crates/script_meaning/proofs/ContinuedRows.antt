@@ -1,10 +1,9 @@
 -- A session that goes on, under the toy function: a server that has taken a setup is greeted by a client that doesn't know whether
 -- its last frame came there; it expects the update 3, one of the two that are possible, takes an addition of this number, and
 -- answers a search with both documents.
-use Rattle.std.proofs.Common.{◌≡◌, ℕ, inl, inr, true, false, List, [], ◌∷◌, ◌++◌, map, Some, None, refl, sym, ap, ◌∙◌, subst, arith, lit<, lit≤}
+use Rattle.std.proofs.Common.{◌≡◌, ℕ, inl, inr, true, false, List, [], ◌∷◌, ◌++◌, map, Some, None, refl, sym, subst, arith, lit<, lit≤}
 use Rattle.std.specs.Prelude.{codes, All, Option}
 use Rattle.std.specs.Fmt.{digits}
-use Rattle.std.specs.List.{AllByRecursion}
 use Rattle.std.specs.Str.{is_utf8, chars}
 use Rattle.std.specs.Str.Lossy.{utf8_valid_len}
 use Rattle.std.proofs.lemmas.List.Elements.{All-nil, All-cons}
@@ -20,8 +19,8 @@ use Rattle.server_core.specs.State.{ServerState}
 use Rattle.server_core.specs.Step.{steps}
 use Rattle.sse_agreement.proofs.Histories.{history_held}
 use Rattle.sse_agreement.specs.Held.{Holds}
-use Rattle.sse_frames.specs.Frames.{FrameText, Hello, InGrammar}
-use Rattle.sse_frames.specs.Replies.{ReplyText, Next, Took, Page, IsIdentifier}
+use Rattle.sse_frames.specs.Frames.{FrameText, Hello}
+use Rattle.sse_frames.specs.Replies.{Next, Took, Page, IsIdentifier}
 use Rattle.sse_model.proofs.CollisionTest.{IsCollisionFree-from_test}
 use Rattle.sse_model.specs.Drawn.{IsCollisionFree}
 use Rattle.sse_model.specs.Epochs.{keys_under}
@@ -61,7 +60,7 @@ keys = keys_under key (Some run)
 
 kept_row : IsKeptAt 2 (at_run key docs run)
 unfolding utf8_valid_len is_utf8 chars encode
-kept_row = kept_next 1 (record { key = key; documents = docs; history = None }) (SetupLine 1 1) tt (kept_next 0 (opened key) (Doc 1 (a ∷ [])) (lit< tt) (IsKeptAt-opened 0 key))
+kept_row = kept_next 1 (record { key = key; documents = docs; history = None }) (SetupLine 1 1 1) tt (kept_next 0 (opened key) (Doc 1 (a ∷ [])) (lit< tt) (IsKeptAt-opened 0 key))
 
 whole_kept_row : IsKept (longer more (Some run))
 unfolding utf8_valid_len is_utf8 chars encode

@@ -1,7 +1,7 @@
 -- A session that goes on after a run: over an honest link from a server that holds what the run leaves, however it came to
 -- that, no collision and no reply stops it where the history up to its stop has no collision; and where nothing stopped it from
 -- outside either, it did what its lines mean.
-use Rattle.std.proofs.Common.{◌≡◌, ◌⊎◌, ℕ, Bool, ◌+◌, ◌^◌, ◌<◌, ◌≤◌, inl, inr, List, [], ◌∷◌, ◌++◌, length, map, take, Some, None, refl, sym, ap, ◌∙◌, subst, arith, length-append}
+use Rattle.std.proofs.Common.{◌≡◌, ℕ, Bool, ◌^◌, ◌<◌, ◌≤◌, inl, inr, List, [], ◌∷◌, ◌++◌, length, map, take, Some, None, refl, sym, ap, ◌∙◌, subst, arith, length-append}
 use Rattle.std.specs.Prelude.{flat_map, Option}
 use Rattle.std.specs.Io.KnownBytes.{append_known}
 use Rattle.std.specs.List.{AllByRecursion}
@@ -19,12 +19,11 @@ use Rattle.keyed_fn.specs.KeyedFn.{KeyedFn, IsKeyedFn}
 use Rattle.link_events.specs.Events.{Event}
 use Rattle.link_events.specs.Served.{IsServed, idle}
 use Rattle.server_core.specs.State.{ServerState}
-use Rattle.server_core.specs.Step.{steps}
 use Rattle.sse_agreement.proofs.Histories.{IsAnswer, replies_behind, shown_are_answers, in_order-shown_in_turn}
 use Rattle.sse_agreement.specs.Agreement.{shown_behind}
 use Rattle.sse_agreement.specs.Held.{Holds}
 use Rattle.sse_frames.specs.Exchange.{searches}
-use Rattle.sse_frames.specs.Frames.{FrameText, InGrammar}
+use Rattle.sse_frames.specs.Frames.{InGrammar}
 use Rattle.sse_model.proofs.Exchanging.{searches-append, searches-sent}
 use Rattle.sse_model.proofs.HistoryLaws.{frames_sent-longer, frames_sent-in_grammar}
 use Rattle.sse_model.specs.Epochs.{keys_under}
@@ -33,7 +32,7 @@ use Rattle.sse_outside.proofs.Known.{append_known-twice}
 use Rattle.sse_script.specs.Texts.{text_of}
 use Rattle.script_meaning.specs.Carries.{Outside, text_with, with_answers}
 use Rattle.script_meaning.specs.Continues.{at_run, GoesOn, frames_since, Continued}
-use Rattle.script_meaning.specs.Exchange.{Told, Adds}
+use Rattle.script_meaning.specs.Exchange.{Adds}
 use Rattle.script_meaning.specs.Goes.{Passes, HasPassed, Goes}
 use Rattle.script_meaning.specs.Headline.{IsOverHonest, IsUndisturbed}
 use Rattle.script_meaning.specs.Lines.{Line}

@@ -7,7 +7,7 @@ use Rattle.client_registry.proofs.HistoryLaws.{IsFirstOf-same, IsFirstOf-trans, 
 use Rattle.client_registry.specs.Command.{Add, Delete}
 use Rattle.client_registry.specs.Histories.{begun_by, IsKept, IsFirstOf, found_in_turn}
 use Rattle.client_registry.specs.Run.{at_first}
-use Rattle.client_registry.specs.Setup.{setup_of}
+use Rattle.client_registry.specs.Setup.{setup_with}
 use Rattle.keyed_fn.specs.KeyedFn.{KeyedFn}
 use Rattle.sse_frames.specs.Exchange.{searches}
 use Rattle.sse_agreement.proofs.NoCollision.{collision_of_first-none, collision_of_next-none}
@@ -49,7 +49,7 @@ module _ (place : Place) (line : Request) where
   first-next = by_cases place line (λ r. IsFirstOf place.history (after r place).history) (record {
     refuses = λ refusal. IsFirstOf-same place.history;
     collects = λ id words is none e. IsFirstOf-same place.history;
-    sets_up = λ b big none e. IsFirstOf-before place.history (begun_by (setup_of place.documents b big)) none;
+    sets_up = λ b big pad none e. IsFirstOf-before place.history (begun_by (setup_with place.documents b big pad)) none;
     adds = λ id words is up e. IsFirstOf-longer place.history _;
     deletes = λ id is up e. IsFirstOf-longer place.history _;
     finds = λ word up e. IsFirstOf-longer place.history _;
@@ -60,7 +60,7 @@ module _ (place : Place) (line : Request) where
   finds-next = by_cases place line (λ r. found_in_turn (after r place).history ≡ found_in_turn place.history ++ finds (shown_by r)) (record {
     refuses = λ refusal. sym (append-nil (found_in_turn place.history));
     collects = λ id words is none e. sym (append-nil (found_in_turn place.history));
-    sets_up = λ b big none e. sym (append-nil (found_in_turn place.history) ∙ found_in_turn-before place.history none);
+    sets_up = λ b big pad none e. sym (append-nil (found_in_turn place.history) ∙ found_in_turn-before place.history none);
     adds = λ id words is up e. found_in_turn-update place.history _ refl ∙ sym (append-nil (found_in_turn place.history));
     deletes = λ id is up e. found_in_turn-update place.history _ refl ∙ sym (append-nil (found_in_turn place.history));
     finds = λ word up e. found_in_turn-search place.history word up;
@@ -71,9 +71,9 @@ module _ (place : Place) (line : Request) where
   frames-next f = by_cases place line (λ r. frames_sent f (keys_at place) (after r place).history ≡ frames_sent f (keys_at place) place.history ++ frames_by f place r) (record {
     refuses = λ refusal. sym (append-nil (frames_sent f (keys_at place) place.history));
     collects = λ id words is none e. sym (append-nil (frames_sent f (keys_at place) place.history));
-    sets_up = λ b big none e.
-        frames_sent-begun f (keys_at place) (setup_of place.documents b big)
-        ∙ ap (λ frames. frames ++ frames_of_first f (keys_at place) (setup_of place.documents b big)) (sym (frames_sent-before f (keys_at place) place.history none));
+    sets_up = λ b big pad none e.
+        frames_sent-begun f (keys_at place) (setup_with place.documents b big pad)
+        ∙ ap (λ frames. frames ++ frames_of_first f (keys_at place) (setup_with place.documents b big pad)) (sym (frames_sent-before f (keys_at place) place.history none));
     adds = λ id words is up e. frames_sent-longer f (keys_at place) place.history _;
     deletes = λ id is up e. frames_sent-longer f (keys_at place) place.history _;
     finds = λ word up e. frames_sent-longer f (keys_at place) place.history _;
@@ -84,7 +84,7 @@ module _ (place : Place) (line : Request) where
   searches-next f = by_cases place line (λ r. searches (frames_by f place r) ≡ length (finds (shown_by r))) (record {
     refuses = λ refusal. refl;
     collects = λ id words is none e. refl;
-    sets_up = λ b big none e. searches-setup _ at_first (setup_of place.documents b big);
+    sets_up = λ b big pad none e. searches-setup _ at_first (setup_with place.documents b big pad);
     adds = λ id words is up e. searches_behind-update f (keys_at place) place.history _ refl;
     deletes = λ id is up e. searches_behind-update f (keys_at place) place.history _ refl;
     finds = λ word up e. ap searches (frames_of_next-search f (keys_at place) place.history word up);
@@ -96,8 +96,8 @@ pub no_clash-next : (f : KeyedFn) (place : Place) (line : Request) → IsKept (a
 no_clash-next f place line = by_cases place line (λ r. IsKept (after r place).history → HasNoCollision f (keys_at place) (after r place).history → clash_in_hand f place r ≡ None) (record {
   refuses = λ refusal kept free. refl;
   collects = λ id words is none e kept free. refl;
-  sets_up = λ b big none e kept free.
-      ap (option_map collision_cause) (collision_of_first-none f (keys_at place) (setup_of place.documents b big) free);
+  sets_up = λ b big pad none e kept free.
+      ap (option_map collision_cause) (collision_of_first-none f (keys_at place) (setup_with place.documents b big pad) free);
   adds = λ id words is up e kept free. ap (option_map collision_cause) (collision_of_next-none f (keys_at place) place.history (Add (document id words)) kept free);
   deletes = λ id is up e kept free. ap (option_map collision_cause) (collision_of_next-none f (keys_at place) place.history (Delete id) kept free);
   finds = λ word up e kept free. ap (option_map collision_cause) (collision_of_next-search f (keys_at place) place.history word);

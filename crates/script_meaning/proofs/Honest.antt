@@ -26,7 +26,7 @@ use Rattle.link_events.specs.Served.{Served, IsServed, IsStep}
 use Rattle.sse_model.proofs.Exchanging.{length-answers_behind}
 use Rattle.sse_script.specs.Shown.{Cause, BadWords, BadLine, SourceFault, LinkFault, DiskFault, NoMemory, LabelClash, PlaceClash, NumberClash, Clash, PeerElsewhere, BadReply, NoJournal, HasRecords, BadRecord, WrongKey}
 use Rattle.sse_script.specs.Stops.{cause_status}
-use Rattle.script_meaning.specs.Greeting.{AnswersHello, ShowsInAnswer, IsTurned}
+use Rattle.script_meaning.specs.Greeting.{ShowsInAnswer, IsTurned}
 use Rattle.script_meaning.specs.Exchange.{as_event, bare, EndsWith, IsNotice, IsBadReply, ShowsInReplies, IsCut}
 
 -- Events without their marks.

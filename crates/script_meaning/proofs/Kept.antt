@@ -12,11 +12,11 @@ use Rattle.client_registry.specs.WordRule.{word_refusal}
 use Rattle.client_registry.specs.Document.{Document}
 use Rattle.client_registry.specs.DocumentRule.{IsDocument}
 use Rattle.client_registry.specs.Documents.{IsCollected}
-use Rattle.client_registry.specs.Acceptance.{setup_refusal}
+use Rattle.client_registry.specs.Acceptance.{size_refusal}
 use Rattle.client_registry.specs.Command.{Command, Add, Delete, Search, is_update}
 use Rattle.client_registry.specs.Histories.{is_set_up, longer, is_live_in, is_listed_in, counter_in, frames_in, accepts, IsKept}
 use Rattle.client_registry.specs.Run.{History, commands_of}
-use Rattle.client_registry.specs.Setup.{setup_of}
+use Rattle.client_registry.specs.Setup.{setup_with}
 use Rattle.client_registry.specs.Sized.{IsSizedCommand}
 use Rattle.sse_script.specs.declared.refusal.Refusal.TheVariants.{Zero, AlreadyLive, UnknownDocument, CounterFull, HistoryFull}
 use Rattle.line_documents.specs.LineDocument.{document}
@@ -28,8 +28,8 @@ use Rattle.script_meaning.specs.Lines.{Request, Doc, SetupLine, AddLine, Del, Fi
 use Rattle.script_meaning.specs.Meaning.{follow, meant_from}
 use Rattle.script_meaning.proofs.Outcomes.{ByCases, by_cases}
 
-index_passed : (docs : List Document) (b big : ℕ) → index_refusal docs b big ≡ None → setup_refusal docs b big ≡ None
-index_passed docs b big h = by (setup_refusal docs b big) h
+index_passed : (docs : List Document) (b big pad : ℕ) → index_refusal docs b big pad ≡ None → size_refusal (setup_with docs b big pad) ≡ None
+index_passed docs b big pad h = by (size_refusal (setup_with docs b big pad)) h
   where
     by : (r : Option SizeFault) → option_map size_refused r ≡ None → r ≡ None
     by None h = refl
@@ -88,7 +88,7 @@ delete_passed h id up e =
 -- the identifiers of a line are below 2^64
 abbrev pub IsWithin : Request → Type 0
 IsWithin (Doc id words) = id < 2 ^ 64
-IsWithin (SetupLine b big) = Unit {0}
+IsWithin (SetupLine b big pad) = Unit {0}
 IsWithin (AddLine id words) = id < 2 ^ 64
 IsWithin (Del id) = id < 2 ^ 64
 IsWithin (Find word) = Unit {0}
@@ -137,9 +137,9 @@ module _ (n : ℕ) (place : Place) (line : Request) (within : IsWithin line) (ke
           history = kept.history;
           few = omega (arith, kept.few);
         };
-    sets_up = λ b big none e. record {
+    sets_up = λ b big pad none e. record {
       documents = kept.documents;
-      history = IsKept-begun (setup_of place.documents b big) kept.documents (index_passed place.documents b big e);
+      history = IsKept-begun (setup_with place.documents b big pad) kept.documents (index_passed place.documents b big pad e);
       few = omega arith;
     };
     adds = λ id words is up e.

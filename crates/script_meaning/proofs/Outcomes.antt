@@ -4,7 +4,7 @@ use Rattle.std.specs.Prelude.{Bool, Option, if◌then◌else◌}
 use Rattle.client_registry.specs.Command.{Add, Delete, Search}
 use Rattle.client_registry.specs.Histories.{is_set_up}
 use Rattle.client_registry.specs.Live.{matching_in}
-use Rattle.client_registry.specs.Setup.{setup_of}
+use Rattle.client_registry.specs.Setup.{setup_with}
 use Rattle.sse_script.specs.declared.refusal.Refusal.{Refusal}
 use Rattle.sse_script.specs.declared.refusal.Refusal.TheVariants.{NotSetUp, SetUpAlready}
 use Rattle.sse_script.specs.Shown.{Added, Deleted, Found}
@@ -20,7 +20,7 @@ module _ (place : Place) (line : Request) (P : Outcome → Type 0) where
     pub refuses : (refusal : Refusal) → P (Refuses refusal)
     pub collects : (id : ℕ) (words : List (List ℕ)) → line ≡ Doc id words → is_set_up place.history ≡ false → collect_refusal place.documents (document id words) ≡ None
         → P (Collects (document id words))
-    pub sets_up : (b big : ℕ) → is_set_up place.history ≡ false → index_refusal place.documents b big ≡ None → P (SetsUp (setup_of place.documents b big))
+    pub sets_up : (b big pad : ℕ) → is_set_up place.history ≡ false → index_refusal place.documents b big pad ≡ None → P (SetsUp (setup_with place.documents b big pad))
     pub adds : (id : ℕ) (words : List (List ℕ)) → line ≡ AddLine id words → is_set_up place.history ≡ true → add_refusal place.history (document id words) ≡ None
         → P (Does (Add (document id words) ∷ []) (Added id))
     pub deletes : (id : ℕ) → line ≡ Del id → is_set_up place.history ≡ true → delete_refusal place.history id ≡ None → P (Does (Delete id ∷ []) (Deleted id))
@@ -36,14 +36,14 @@ module _ (place : Place) (line : Request) (P : Outcome → Type 0) where
 
     before : (l : Request) → line ≡ l → is_set_up place.history ≡ false → P (before_setup place.documents l)
     before (Doc id words) e none = if_not _ _ (cases.collects id words e none)
-    before (SetupLine b big) e none = if_not _ _ (cases.sets_up b big none)
+    before (SetupLine b big pad) e none = if_not _ _ (cases.sets_up b big pad none)
     before (AddLine id words) e none = cases.refuses NotSetUp
     before (Del id) e none = cases.refuses NotSetUp
     before (Find word) e none = cases.refuses NotSetUp
 
     behind : (l : Request) → line ≡ l → is_set_up place.history ≡ true → P (after_setup place.history l)
     behind (Doc id words) e up = cases.refuses SetUpAlready
-    behind (SetupLine b big) e up = cases.refuses SetUpAlready
+    behind (SetupLine b big pad) e up = cases.refuses SetUpAlready
     behind (AddLine id words) e up = if_not _ _ (cases.adds id words e up)
     behind (Del id) e up = if_not _ _ (cases.deletes id e up)
     behind (Find word) e up = if_not _ _ (cases.finds word up)

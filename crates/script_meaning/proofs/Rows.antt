@@ -97,6 +97,13 @@ refusals_in_order :
 unfolding digits hex_on_literals utf8_valid_len is_utf8 chars encode
 refusals_in_order = refl
 
+-- a third number of the setup that is no power of two, and one that is; the counts are those without dummies
+with_dummies :
+    printed (codes "doc 1 a b" ∷ codes "doc 2 a" ∷ codes "doc 3 a" ∷ codes "setup 0 2 3" ∷ codes "setup 2 2 3" ∷ codes "setup 2 2 4" ∷ codes "find a" ∷ codes "find z" ∷ [])
+    ≡ codes "refused: b is 0\nrefused: Q is 3\nset up 2 words 2 blocks\nfound 3: 1 2 3\nfound 0:\n"
+unfolding digits hex_on_literals utf8_valid_len is_utf8 chars encode
+with_dummies = refl
+
 -- an addition and a deletion before the setup, and after one
 before_and_behind :
     printed (codes "add 0 a" ∷ codes "doc 1 a" ∷ codes "doc 2 a" ∷ codes "del 1" ∷ codes "setup 1 0" ∷ codes "setup 1 2" ∷ codes "del 1" ∷ codes "find a" ∷ [])

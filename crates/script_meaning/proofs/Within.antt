@@ -2,7 +2,7 @@
 use Rattle.std.proofs.Common.{◌≡◌, ℕ, ◌+◌, ◌^◌, ◌<◌, ◌≤◌, Bool, true, false, ◌&&◌, List, [], ◌∷◌, length, nat_lt, refl, arith}
 use Rattle.std.specs.Prelude.{Option, None, Some, IfSome, bytes_eq, codes, if◌then◌else◌}
 use Rattle.std.specs.List.{AllByRecursion}
-use Rattle.std.specs.Option.{option_map, option_and_then}
+use Rattle.std.specs.Option.{option_map}
 use Rattle.std.specs.Str.Parse.{digits_value}
 use Rattle.std.proofs.lemmas.Bool.{and_parts, ltb-true}
 use Rattle.std.proofs.lemmas.List.{length-map}
@@ -12,7 +12,7 @@ use Rattle.client_registry.specs.Run.{commands_of}
 use Rattle.client_registry.specs.Sized.{IsSized, run_words}
 use Rattle.sse_script.specs.Fields.{fields_of}
 use Rattle.sse_script.specs.Numbers.{number_of, key_of, is_numeral}
-use Rattle.sse_script.specs.Lines.{Line, Key, Doc, SetupLine, AddLine, Del, key_line, document_line, setup_line, delete_line, find_line, line_by_kind}
+use Rattle.sse_script.specs.Lines.{Line, Key, Doc, AddLine, Del, key_line, document_line, setup_numbers, setup_line, delete_line, find_line, line_by_kind}
 use Rattle.sse_script.specs.TextLines.{lines_of}
 use Rattle.script_meaning.specs.Lines.{line_read, line_in, lines_in, script_lines}
 use Rattle.script_meaning.specs.Meaning.{meant}
@@ -46,16 +46,18 @@ document-within make rule (id ∷ words) = by (number_of id) (number-within id)
     by None h = tt
     by (Some n) h = rule n words h
 
+numbers-within : (b big pad : Option ℕ) → IfSome (setup_numbers b big pad) IsWithinRead
+numbers-within (Some b) (Some big) (Some pad) = tt
+numbers-within (Some b) (Some big) None = tt
+numbers-within (Some b) None pad = tt
+numbers-within None big pad = tt
+
 setup-within : (fields : List (List ℕ)) → IfSome (setup_line fields) IsWithinRead
 setup-within [] = tt
 setup-within (b ∷ []) = tt
-setup-within (b ∷ big ∷ []) = by (number_of b) (number_of big)
-  where
-    by : (m n : Option ℕ) → IfSome (option_and_then (λ m. option_map (λ n. SetupLine m n) n) m) IsWithinRead
-    by None n = tt
-    by (Some m) None = tt
-    by (Some m) (Some n) = tt
-setup-within (b ∷ big ∷ other ∷ fields) = tt
+setup-within (b ∷ big ∷ []) = numbers-within (number_of b) (number_of big) (Some 1)
+setup-within (b ∷ big ∷ pad ∷ []) = numbers-within (number_of b) (number_of big) (number_of pad)
+setup-within (b ∷ big ∷ pad ∷ other ∷ fields) = tt
 
 delete-within : (fields : List (List ℕ)) → IfSome (delete_line fields) IsWithinRead
 delete-within [] = tt

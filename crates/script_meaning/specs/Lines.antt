@@ -7,7 +7,7 @@ use Rattle.sse_script.specs.TextLines.{lines_of}
 -- what a line asks for
 pub data Request : Type 0 where
   Doc : (id : ℕ) (words : List (List ℕ)) → Request
-  SetupLine : (b big : ℕ) → Request
+  SetupLine : (b big pad : ℕ) → Request
   AddLine : (id : ℕ) (words : List (List ℕ)) → Request
   Del : (id : ℕ) → Request
   Find : (word : List ℕ) → Request
@@ -21,7 +21,7 @@ abbrev pub line_read : read.Line → Line
 line_read read.Empty = Empty
 line_read (read.Key key) = Key key
 line_read (read.Doc id words) = Command (Doc id words)
-line_read (read.SetupLine b big) = Command (SetupLine b big)
+line_read (read.SetupLine b big pad) = Command (SetupLine b big pad)
 line_read (read.AddLine id words) = Command (AddLine id words)
 line_read (read.Del id) = Command (Del id)
 line_read (read.Find word) = Command (Find word)

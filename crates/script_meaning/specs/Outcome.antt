@@ -2,7 +2,7 @@
 use Rattle.std.specs.Prelude.{ℕ, Bool, true, false, List, [], ◌∷◌, ◌++◌, length, Option, None, Some, if◌then◌else◌}
 use Rattle.client_registry.specs.Document.{Document}
 use Rattle.client_registry.specs.Acceptance.{blocks_of}
-use Rattle.client_registry.specs.Setup.{Setup, setup_of, setup_words}
+use Rattle.client_registry.specs.Setup.{Setup, setup_with, setup_words}
 use Rattle.client_registry.specs.Command.{Command, Add, Delete, Search}
 use Rattle.client_registry.specs.Run.{History}
 use Rattle.client_registry.specs.Histories.{empty, is_set_up, begun_by, longer}
@@ -41,7 +41,7 @@ unless (Some refusal) outcome = Refuses refusal
 -- a line of a script that isn't set up
 abbrev pub before_setup : List Document → Request → Outcome
 before_setup docs (Doc id words) = unless (collect_refusal docs (document id words)) (Collects (document id words))
-before_setup docs (SetupLine b big) = unless (index_refusal docs b big) (SetsUp (setup_of docs b big))
+before_setup docs (SetupLine b big pad) = unless (index_refusal docs b big pad) (SetsUp (setup_with docs b big pad))
 before_setup docs (AddLine id words) = Refuses NotSetUp
 before_setup docs (Del id) = Refuses NotSetUp
 before_setup docs (Find word) = Refuses NotSetUp
@@ -49,7 +49,7 @@ before_setup docs (Find word) = Refuses NotSetUp
 -- a line of a script that is set up
 abbrev pub after_setup : History → Request → Outcome
 after_setup h (Doc id words) = Refuses SetUpAlready
-after_setup h (SetupLine b big) = Refuses SetUpAlready
+after_setup h (SetupLine b big pad) = Refuses SetUpAlready
 after_setup h (AddLine id words) = unless (add_refusal h (document id words)) (Does (Add (document id words) ∷ []) (Added id))
 after_setup h (Del id) = unless (delete_refusal h id) (Does (Delete id ∷ []) (Deleted id))
 after_setup h (Find word) = unless (bad_word 0 (word ∷ [])) (Does (Search word ∷ []) (Found (matching_in h word)))

@@ -5,8 +5,9 @@ use Rattle.std.specs.Option.{option_or}
 use Rattle.client_registry.specs.declared.faults.SizeFault.{SizeFault}
 use Rattle.client_registry.specs.declared.faults.SizeFault.TheVariants as sizes
 use Rattle.client_registry.specs.Document.{Document}
-use Rattle.client_registry.specs.Acceptance.{setup_refusal}
+use Rattle.client_registry.specs.Acceptance.{size_refusal}
 use Rattle.client_registry.specs.Run.{History}
+use Rattle.client_registry.specs.Setup.{setup_with}
 use Rattle.client_registry.specs.Histories.{is_live_in, is_listed_in, counter_in, frames_in}
 use Rattle.line_documents.specs.Refused.{document_refusal}
 use Rattle.sse_script.specs.declared.refusal.Refusal.{Refusal}
@@ -18,9 +19,9 @@ size_refused (sizes.BadParameter which value) = BadParameter which value
 size_refused (sizes.ListTooLong word n) = ListTooLong word n
 size_refused (sizes.TooManyBytes n) = TooManyBytes n
 
--- there is no index of the documents
-abbrev pub index_refusal : List Document → (b big : ℕ) → Option Refusal
-index_refusal docs b big = option_map size_refused (setup_refusal docs b big)
+-- there is no index of the documents with these numbers b, B and Q
+abbrev pub index_refusal : List Document → (b big pad : ℕ) → Option Refusal
+index_refusal docs b big pad = option_map size_refused (size_refusal (setup_with docs b big pad))
 
 -- one update frame more would pass the last number, 2^32 - 2
 abbrev pub frame_refusal : History → Option Refusal
