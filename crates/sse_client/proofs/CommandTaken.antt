@@ -1,17 +1,17 @@
 -- How a session takes a command: what it comes to where the session stands, and that this is done.
 use Rattle.std.proofs.Common.{◌≡◌, inl, inr, ℕ, true, false, List, [], ◌∷◌, ◌++◌, length, refl, sym, ap, subst, ◌∙◌}
-use Rattle.std.specs.Prelude.{Option, None, Some, Result, Ok, Err, OnOk, OnErr, IfOk, IfErr, option_map, if◌then◌else◌}
+use Rattle.std.specs.Prelude.{Option, None, Some, Result, Ok, Err, IfOk, IfErr, option_map, if◌then◌else◌}
 use Rattle.client_core.specs.StandsFor.{with_command}
 use Rattle.client_core.specs.declared.client.Client.{Client}
 use Rattle.client_core.specs.declared.ready.Ready.{Ready}
-use Rattle.client_registry.specs.Acceptance.{blocks_of, setup_refusal}
+use Rattle.client_registry.specs.Acceptance.{blocks_of, size_refusal}
 use Rattle.client_registry.specs.Command.{Search}
 use Rattle.client_registry.specs.Document.{Document}
 use Rattle.client_registry.specs.Documents.{words_of}
 use Rattle.client_registry.specs.Histories.{is_set_up, longer}
 use Rattle.client_registry.specs.Live.{matching_in}
 use Rattle.client_registry.specs.Run.{History, Run, at_first}
-use Rattle.client_registry.specs.Setup.{Setup, setup_of}
+use Rattle.client_registry.specs.Setup.{Setup, setup_with}
 use Rattle.index_setup.proofs.BuildErrors.{size_accepted}
 use Rattle.index_setup.specs.Entries.{key_table, label_clash, place_clash}
 use Rattle.index_setup.specs.Refused.{build_refusal}
@@ -22,7 +22,6 @@ use Rattle.sse_frames.specs.Frames.{FrameText, SearchFrame}
 use Rattle.sse_model.specs.Histories.{frames_of_next, collision_of_next}
 use Rattle.sse_model.specs.Names.{table}
 use Rattle.sse_model.specs.Wire.{frames_of_setup}
-use Rattle.sse_script.specs.Lines as read
 use Rattle.sse_script.specs.Shown as says
 use Rattle.sse_script.specs.declared.refusal.Refusal.{Refusal}
 use Rattle.sse_script.specs.declared.refusal.Refusal.TheVariants as refusals
@@ -43,7 +42,7 @@ use Rattle.sse_client.specs.SetupFaults.{setup_answer}
 use Rattle.sse_client.specs.Stages.{key_of, hash_keys_of, hash_keys_under}
 use Rattle.sse_client.specs.Exchanges.{HasExchanged, HasSearched, HasCut}
 use Rattle.run_texts.specs.LineResultViews.{line_result_view, refuses}
-use Rattle.sse_client.specs.Stands.{IsReady, IsStage, IsAt, GoesOn, MayStop, Takes, StopsWithin, outside_of}
+use Rattle.sse_client.specs.Stands.{IsReady, IsStage, IsAt, GoesOn, Takes, StopsWithin, outside_of}
 use Rattle.run_texts.specs.Stops.{command_cause, plan_cause}
 use Rattle.run_texts.specs.declared.line_result.LineResult.{LineResult}
 use Rattle.run_texts.specs.declared.line_result.LineResult.TheVariants as line_results
@@ -222,15 +221,15 @@ at_ready : (f : KeyedFn) (run : Run) (stage : Stage) (place : Place) → place.h
 at_ready f run (Collecting client docs) place is ready = absurd ready
 at_ready f run (Searching client) place is ready = (run, is, ready)
 
-module _ (f : KeyedFn) (key : List ℕ) (docs : List Document) (b big : ℕ) where
+module _ (f : KeyedFn) (key : List ℕ) (docs : List Document) (b big pad : ℕ) where
   abbrev s : Setup
-  s = setup_of docs b big
+  s = setup_with docs b big pad
 
   module _ (place : Place) (same_key : key ≡ place.key) (same : docs ≡ place.documents) (fresh : is_set_up place.history ≡ false) where
-    comes-setup : outcome place (SetupLine b big) ≡ unless (index_refusal docs b big) (SetsUp s)
-    comes-setup = before place (SetupLine b big) fresh ∙ ap (λ ds. unless (index_refusal ds b big) (SetsUp (setup_of ds b big))) (sym same)
+    comes-setup : outcome place (SetupLine b big pad) ≡ unless (index_refusal docs b big pad) (SetsUp s)
+    comes-setup = before place (SetupLine b big pad) fresh ∙ ap (λ ds. unless (index_refusal ds b big pad) (SetsUp (setup_with ds b big pad))) (sym same)
 
-    comes-set_up : setup_refusal docs b big ≡ None → outcome place (SetupLine b big) ≡ SetsUp s
+    comes-set_up : size_refusal s ≡ None → outcome place (SetupLine b big pad) ≡ SetsUp s
     comes-set_up none = comes-setup ∙ ap (λ r. unless (option_map size_refused r) (SetsUp s)) none
 
     frames_at : frames_of_setup (key_table f key s) at_first s ≡ frames_by f place (SetsUp s)
@@ -239,12 +238,12 @@ module _ (f : KeyedFn) (key : List ℕ) (docs : List Document) (b big : ℕ) whe
     clash_at : clash_in_hand f place (SetsUp s) ≡ clash_cause (label_clash f key s) (place_clash f key s)
     clash_at = ap (λ k. clash_cause (label_clash f k s) (place_clash f k s)) (sym same_key)
 
-    module _ (accepted : build_refusal f key docs b big ≡ None) (old new : Told) where
+    module _ (accepted : build_refusal f key s ≡ None) (old new : Told) where
       no_clash-setup : clash_in_hand f place (SetsUp s) ≡ None
-      no_clash-setup = clash_at ∙ no_clash-planned f key docs b big accepted
+      no_clash-setup = clash_at ∙ no_clash-planned f key s accepted
 
       takes-setup : (next : Stage) (came : LineResult) (words blocks : ℕ) → words ≡ length (words_of docs) → blocks ≡ blocks_of s → HasExchanged old new [] (frames_of_setup (key_table f key s) at_first s)
-          → line_result_view came ≡ says.SetUp words blocks ∷ [] → refuses came ≡ false → IsReady f key (record { setup = s; later = [] }) next → key_of next ≡ key → hash_keys_of next ≡ hash_keys_under f place.key → GoesOn f old new next came place (outcome place (SetupLine b big))
+          → line_result_view came ≡ says.SetUp words blocks ∷ [] → refuses came ≡ false → IsReady f key (record { setup = s; later = [] }) next → key_of next ≡ key → hash_keys_of next ≡ hash_keys_under f place.key → GoesOn f old new next came place (outcome place (SetupLine b big pad))
       takes-setup next came words blocks counted counted_blocks x view fine ready keyed hashed =
           subst (GoesOn f old new next came place) (sym (comes-set_up (size_accepted f key s accepted)))
           (record {
@@ -265,7 +264,7 @@ module _ (f : KeyedFn) (key : List ℕ) (docs : List Document) (b big : ℕ) whe
           })
 
       stops-setup : (c : says.Cause) → HasCut old new (frames_of_setup (key_table f key s) at_first s) c → (written : Option (List ℕ))
-          → StopsIn f place (outcome place (SetupLine b big)) (outside_of old written) (outside_of new written) (At c)
+          → StopsIn f place (outcome place (SetupLine b big pad)) (outside_of old written) (outside_of new written) (At c)
       stops-setup c cut written =
           subst (λ result. StopsIn f place result (outside_of old written) (outside_of new written) (At c)) (sym (comes-set_up (size_accepted f key s accepted)))
           (inr (inl (record {
@@ -278,24 +277,24 @@ module _ (f : KeyedFn) (key : List ℕ) (docs : List Document) (b big : ℕ) whe
             unprinted = refl;
           })))
 
-    module _ (T : Type 0) (fault : BuildFault) (plan : IsRefusedPlan T f key docs b big fault) (told : Told) where
+    module _ (T : Type 0) (fault : BuildFault) (plan : IsRefusedPlan T f key s fault) (told : Told) where
       -- a setup whose plan was refused is refused
       pub takes-refused_setup : (next : Stage) (came : LineResult) (shown : Refusal) → line_result_view came ≡ says.Refused shown ∷ [] → refuses came ≡ true → IsAt f next place → setup_answer fault ≡ Ok shown
-          → GoesOn f told told next came place (outcome place (SetupLine b big))
+          → GoesOn f told told next came place (outcome place (SetupLine b big pad))
       takes-refused_setup next came shown view refused at answer =
-          subst (GoesOn f told told next came place) (sym (comes-setup ∙ ap (λ r. unless r (SetsUp s)) (refused_size f key docs b big T fault plan shown answer)))
+          subst (GoesOn f told told next came place) (sym (comes-setup ∙ ap (λ r. unless r (SetsUp s)) (refused_size f key s T fault plan shown answer)))
           (goes-refused f told next came place shown view refused at)
 
       -- equal labels and equal places stop the run at the setup, and so does want of memory
       pub stops-plan : (stop : PlanStop) → setup_answer fault ≡ Err stop → (written : Option (List ℕ))
-          → StopsIn f place (outcome place (SetupLine b big)) (outside_of told written) (outside_of told written) (At (plan_cause stop))
+          → StopsIn f place (outcome place (SetupLine b big pad)) (outside_of told written) (outside_of told written) (At (plan_cause stop))
       stops-plan stop answer written =
-          let why = stopped_plan f key docs b big T fault plan stop answer in
+          let why = stopped_plan f key s T fault plan stop answer in
           elim why.1 [
             | inl found ↦ subst (λ result. StopsIn f place result (outside_of told written) (outside_of told written) (At (plan_cause stop))) (sym (comes-set_up why.0))
                 (inl (record { cause = plan_cause stop; found = clash_at ∙ found; stops = refl; nothing = refl }))
-            | inr memory ↦ subst (λ x. StopsIn f place (outcome place (SetupLine b big)) (outside_of told written) (outside_of told written) (At (plan_cause x))) (sym memory)
-                (stops-memory f told place (outcome place (SetupLine b big)) written)
+            | inr memory ↦ subst (λ x. StopsIn f place (outcome place (SetupLine b big pad)) (outside_of told written) (outside_of told written) (At (plan_cause x))) (sym memory)
+                (stops-memory f told place (outcome place (SetupLine b big pad)) written)
           ]
 
 -- the key and the documents of a session that collects
@@ -303,28 +302,28 @@ abbrev pub IsCollecting : KeyedFn → List ℕ → List Document → ℕ × ℕ 
 IsCollecting f key docs hash_keys stage =
     (place : Place) → IsAt f stage place → (key ≡ place.key) × (docs ≡ place.documents) × (is_set_up place.history ≡ false) × (hash_keys ≡ hash_keys_under f place.key)
 
-module _ (f : KeyedFn) (key : List ℕ) (old new : Told) (stage : Stage) (docs : List Document) (hash_keys : ℕ × ℕ) (b big : ℕ) (at : IsCollecting f key docs hash_keys stage) (accepted : build_refusal f key docs b big ≡ None) where
+module _ (f : KeyedFn) (key : List ℕ) (old new : Told) (stage : Stage) (docs : List Document) (hash_keys : ℕ × ℕ) (b big pad : ℕ) (at : IsCollecting f key docs hash_keys stage) (accepted : build_refusal f key (setup_with docs b big pad) ≡ None) where
   abbrev sent_frames : List FrameText
-  sent_frames = frames_of_setup (key_table f key (setup_of docs b big)) at_first (setup_of docs b big)
+  sent_frames = frames_of_setup (key_table f key (setup_with docs b big pad)) at_first (setup_with docs b big pad)
 
   -- a setup whose sending ended is done
-  pub takes_if_sent : (words blocks : ℕ) → words ≡ length (words_of docs) → blocks ≡ blocks_of (setup_of docs b big) → (next : Stage) (came : LineResult) → HasExchanged old new [] sent_frames
-      → line_result_view came ≡ says.SetUp words blocks ∷ [] → refuses came ≡ false → IsReady f key (record { setup = setup_of docs b big; later = [] }) next → key_of next ≡ key → hash_keys_of next ≡ hash_keys
-      → Takes f stage (SetupLine b big) old new next came
+  pub takes_if_sent : (words blocks : ℕ) → words ≡ length (words_of docs) → blocks ≡ blocks_of (setup_with docs b big pad) → (next : Stage) (came : LineResult) → HasExchanged old new [] sent_frames
+      → line_result_view came ≡ says.SetUp words blocks ∷ [] → refuses came ≡ false → IsReady f key (record { setup = setup_with docs b big pad; later = [] }) next → key_of next ≡ key → hash_keys_of next ≡ hash_keys
+      → Takes f stage (SetupLine b big pad) old new next came
   takes_if_sent words blocks counted counted_blocks next came x view fine ready keyed hashes = λ place a.
       let p = at place a in
-      takes-setup f key docs b big place p.0 p.1 p.2 accepted old new next came words blocks counted counted_blocks x view fine ready keyed (hashes ∙ p.3)
+      takes-setup f key docs b big pad place p.0 p.1 p.2 accepted old new next came words blocks counted counted_blocks x view fine ready keyed (hashes ∙ p.3)
 
   -- one whose sending was cut stops the run
-  pub stops_if_sent : (c : says.Cause) → HasCut old new sent_frames c → StopsWithin f stage (SetupLine b big) old new c
+  pub stops_if_sent : (c : says.Cause) → HasCut old new sent_frames c → StopsWithin f stage (SetupLine b big pad) old new c
   stops_if_sent c cut = λ place a written.
       let p = at place a in
-      stops-setup f key docs b big place p.0 p.1 p.2 accepted old new c cut written
+      stops-setup f key docs b big pad place p.0 p.1 p.2 accepted old new c cut written
 
 -- one more setup is refused
-pub takes-set_up_already : (f : KeyedFn) (told : Told) (next : Stage) (came : LineResult) (place : Place) (b big : ℕ) → is_set_up place.history ≡ true → line_result_view came ≡ says.Refused refusals.SetUpAlready ∷ [] → refuses came ≡ true → IsAt f next place
-    → GoesOn f told told next came place (outcome place (SetupLine b big))
-takes-set_up_already f told next came place b big up view fine at = subst (GoesOn f told told next came place) (sym (behind place (SetupLine b big) up)) (goes-refused f told next came place refusals.SetUpAlready view fine at)
+pub takes-set_up_already : (f : KeyedFn) (told : Told) (next : Stage) (came : LineResult) (place : Place) (b big pad : ℕ) → is_set_up place.history ≡ true → line_result_view came ≡ says.Refused refusals.SetUpAlready ∷ [] → refuses came ≡ true → IsAt f next place
+    → GoesOn f told told next came place (outcome place (SetupLine b big pad))
+takes-set_up_already f told next came place b big pad up view fine at = subst (GoesOn f told told next came place) (sym (behind place (SetupLine b big pad) up)) (goes-refused f told next came place refusals.SetUpAlready view fine at)
 
 -- so is a document after the setup
 pub takes-doc_behind : (f : KeyedFn) (told : Told) (next : Stage) (came : LineResult) (place : Place) (id : ℕ) (words : List (List ℕ)) → is_set_up place.history ≡ true → line_result_view came ≡ says.Refused refusals.SetUpAlready ∷ [] → refuses came ≡ true

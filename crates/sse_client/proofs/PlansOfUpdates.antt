@@ -2,7 +2,6 @@
 -- history, and what a client stands for behind a setup and after a search.
 use Rattle.std.proofs.Common.{◌≡◌, ◌≢◌, ℕ, ◌+◌, ◌-◌, ◌^◌, Bool, true, false, not, ◌||◌, ◌&&◌, List, [], ◌∷◌, ◌++◌, length, Option, None, Some, is_some, nat_le, nat_lt, refl, sym, ap, subst, ◌∙◌, arith, Err, Ok, inl, inr}
 use Rattle.std.specs.Prelude.{IfSome, IsSome, Result, ◌==◌, if◌then◌else◌, option_map, position, IfErr, IfOk}
-use Rattle.std.specs.Int.{div_ceil}
 use Rattle.std.specs.List.{list_any, position_from}
 use Rattle.std.specs.Option.{option_and_then, option_or}
 use Rattle.std.specs.Result.{result_err}
@@ -14,15 +13,13 @@ use Rattle.client_registry.proofs.FactsLaws.{is_some-words_with_id}
 use Rattle.client_registry.proofs.HistoryLaws.{IsKept-longer, counter_in-below}
 use Rattle.client_registry.proofs.LiveLaws.{added_list-push, live-push}
 use Rattle.client_registry.proofs.SizedLaws.{update_frames-push}
-use Rattle.client_registry.specs.Acceptance.{blocks_of, frames_needed}
 use Rattle.client_registry.specs.Command.{Command, Add, Delete, Search}
 use Rattle.client_registry.specs.Document.{Document}
-use Rattle.client_registry.specs.Documents.{words_of}
 use Rattle.client_registry.specs.Facts.{facts_of, has_counter, words_with_id}
 use Rattle.client_registry.specs.Histories.{IsKept, counter_in, frames_in, is_listed_in, is_live_in}
 use Rattle.client_registry.specs.Live.{adds_pair, added_list, counter, holds_pair, is_listed, live}
 use Rattle.client_registry.specs.Run.{Run, at_first}
-use Rattle.client_registry.specs.Setup.{Setup, setup_of}
+use Rattle.client_registry.specs.Setup.{Setup}
 use Rattle.client_registry.specs.Sized.{IsSizedCommand}
 use Rattle.keyed_fn.specs.KeyedFn.{KeyedFn}
 use Rattle.sse_model.specs.Compared.{Collision, Labels, Numbers, Places, equal_among}

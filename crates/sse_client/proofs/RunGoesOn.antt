@@ -94,7 +94,7 @@ pub command_of : (line : ReadLine) → (line ≡ reads.Empty → ⊥) → ((key 
 command_of reads.Empty not_empty not_key = absurd (not_empty refl)
 command_of (reads.Key key) not_empty not_key = absurd (not_key key refl)
 command_of (reads.Doc id words) not_empty not_key = (_, refl)
-command_of (reads.Setup b big) not_empty not_key = (_, refl)
+command_of (reads.Setup b big pad) not_empty not_key = (_, refl)
 command_of (reads.Add id words) not_empty not_key = (_, refl)
 command_of (reads.Del id) not_empty not_key = (_, refl)
 command_of (reads.Find word) not_empty not_key = (_, refl)
@@ -104,7 +104,7 @@ pub bad_first : (line : ReadLine) → (line ≡ reads.Empty → ⊥) → ((key :
 bad_first reads.Empty not_empty not_key = absurd (not_empty refl)
 bad_first (reads.Key key) not_empty not_key = absurd (not_key key refl)
 bad_first (reads.Doc id words) not_empty not_key = tt
-bad_first (reads.Setup b big) not_empty not_key = tt
+bad_first (reads.Setup b big pad) not_empty not_key = tt
 bad_first (reads.Add id words) not_empty not_key = tt
 bad_first (reads.Del id) not_empty not_key = tt
 bad_first (reads.Find word) not_empty not_key = tt

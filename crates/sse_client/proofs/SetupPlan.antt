@@ -3,10 +3,9 @@ use Rattle.std.proofs.Common.{◌≡◌, ◌≢◌, ◌⊎◌, inl, inr, ℕ, Li
 use Rattle.std.specs.Prelude.{Option, None, Some, Ok, Err, IfSome, IsOkUnless, option_map}
 use Rattle.std.specs.Option.{option_or}
 use Rattle.client_core.proofs.SetupOf.{frames_of_setup-numbered}
-use Rattle.client_registry.specs.Acceptance.{setup_refusal}
-use Rattle.client_registry.specs.Document.{Document}
+use Rattle.client_registry.specs.Acceptance.{size_refusal}
 use Rattle.client_registry.specs.Run.{Offsets}
-use Rattle.client_registry.specs.Setup.{Setup, setup_of}
+use Rattle.client_registry.specs.Setup.{Setup}
 use Rattle.client_registry.specs.declared.faults.SizeFault.{SizeFault}
 use Rattle.client_registry.specs.declared.faults.SizeFault.TheVariants as sizes
 use Rattle.index_setup.proofs.BuildErrors.{failed, first_of, same_fault, second_none}
@@ -70,10 +69,10 @@ no_refusal (Some words) places fault refusal found answer =
 
 -- What a plan was refused for.
 
-pub record IsRefusedPlan (T : Type 0) (f : KeyedFn) (key : List ℕ) (docs : List Document) (b big : ℕ) (fault : BuildFault) : Type 0 where
-  pub refused : IfSome (setup_refusal docs b big) (λ size. failed T fault ≡ failed T (refused_by_size size))
-  pub clash : setup_refusal docs b big ≡ None → failed T fault ≢ failed T builds.NoMemory → IfSome (clash_refusal f key (setup_of docs b big)) (λ clash. failed T fault ≡ failed T clash)
-  pub built : build_refusal f key docs b big ≡ None → IsOkUnless (failed T fault) builds.NoMemory
+pub record IsRefusedPlan (T : Type 0) (f : KeyedFn) (key : List ℕ) (s : Setup) (fault : BuildFault) : Type 0 where
+  pub refused : IfSome (size_refusal s) (λ size. failed T fault ≡ failed T (refused_by_size size))
+  pub clash : size_refusal s ≡ None → failed T fault ≢ failed T builds.NoMemory → IfSome (clash_refusal f key s) (λ clash. failed T fault ≡ failed T clash)
+  pub built : build_refusal f key s ≡ None → IsOkUnless (failed T fault) builds.NoMemory
 
 -- memory is wanting, or not
 wanting : (T : Type 0) (fault : BuildFault) → (fault ≡ builds.NoMemory) ⊎ (failed T fault ≢ failed T builds.NoMemory)
@@ -90,27 +89,24 @@ size_answer (sizes.BadParameter which value) = refl
 size_answer (sizes.ListTooLong word n) = refl
 size_answer (sizes.TooManyBytes n) = refl
 
-module _ (f : KeyedFn) (key : List ℕ) (docs : List Document) (b big : ℕ) where
-  abbrev s : Setup
-  s = setup_of docs b big
-
+module _ (f : KeyedFn) (key : List ℕ) (s : Setup) where
   -- where nothing refuses the setup, no values of it are equal
-  pub no_clash-planned : build_refusal f key docs b big ≡ None → clash_cause (label_clash f key s) (place_clash f key s) ≡ None
+  pub no_clash-planned : build_refusal f key s ≡ None → clash_cause (label_clash f key s) (place_clash f key s) ≡ None
   no_clash-planned accepted =
-      no_clash_cause (label_clash f key s) (place_clash f key s) (second_none (option_map refused_by_size (setup_refusal docs b big)) (clash_refusal f key s) accepted)
+      no_clash_cause (label_clash f key s) (place_clash f key s) (second_none (option_map refused_by_size (size_refusal s)) (clash_refusal f key s) accepted)
 
-  module _ (T : Type 0) (fault : BuildFault) (plan : IsRefusedPlan T f key docs b big fault) where
+  module _ (T : Type 0) (fault : BuildFault) (plan : IsRefusedPlan T f key s fault) where
     -- its size, its first clash, or want of memory
     abbrev IsFor : Type 0
     IsFor =
-        ((size : SizeFault) × (setup_refusal docs b big ≡ Some size) × (fault ≡ refused_by_size size))
-        ⊎ ((setup_refusal docs b big ≡ None) × (clash_refusal f key s ≡ Some fault))
-        ⊎ ((setup_refusal docs b big ≡ None) × (fault ≡ builds.NoMemory))
+        ((size : SizeFault) × (size_refusal s ≡ Some size) × (fault ≡ refused_by_size size))
+        ⊎ ((size_refusal s ≡ None) × (clash_refusal f key s ≡ Some fault))
+        ⊎ ((size_refusal s ≡ None) × (fault ≡ builds.NoMemory))
 
     is_for : IsFor
-    is_for = by (setup_refusal docs b big) refl
+    is_for = by (size_refusal s) refl
       where
-        by_clash : setup_refusal docs b big ≡ None → (c : Option BuildFault) → clash_refusal f key s ≡ c → IsFor
+        by_clash : size_refusal s ≡ None → (c : Option BuildFault) → clash_refusal f key s ≡ c → IsFor
         by_clash none None e = inr (inr (none, plan.built ((λ i. option_or (option_map refused_by_size (none i)) (clash_refusal f key s)) ∙ e)))
         by_clash none (Some clash) e = elim (wanting T fault) [
           | inl memory ↦ inr (inr (none, memory))
@@ -119,12 +115,12 @@ module _ (f : KeyedFn) (key : List ℕ) (docs : List Document) (b big : ℕ) whe
               inr (inl (none, e ∙ ap (λ x. Some x) (sym same)))
         ]
 
-        by : (r : Option SizeFault) → setup_refusal docs b big ≡ r → IsFor
+        by : (r : Option SizeFault) → size_refusal s ≡ r → IsFor
         by None e = by_clash e (clash_refusal f key s) refl
         by (Some size) e = inl (size, e, same_fault T fault (refused_by_size size) (subst (λ r. IfSome r (λ size. failed T fault ≡ failed T (refused_by_size size))) e plan.refused))
 
     -- where the command is refused, it is for the size
-    pub refused_size : (refusal : Refusal) → setup_answer fault ≡ Ok refusal → option_map size_refused (setup_refusal docs b big) ≡ Some refusal
+    pub refused_size : (refusal : Refusal) → setup_answer fault ≡ Ok refusal → option_map size_refused (size_refusal s) ≡ Some refusal
     refused_size refusal answer = elim is_for [
       | inl size ↦
           let told : setup_answer (refused_by_size size.0) ≡ Ok refusal = subst (λ x. setup_answer x ≡ Ok refusal) size.2 answer in
@@ -136,7 +132,7 @@ module _ (f : KeyedFn) (key : List ℕ) (docs : List Document) (b big : ℕ) whe
 
     -- where the run stops, the size is right, and two values are equal or memory is wanting
     pub stopped_plan : (stop : PlanStop) → setup_answer fault ≡ Err stop
-        → (setup_refusal docs b big ≡ None) × ((clash_cause (label_clash f key s) (place_clash f key s) ≡ Some (plan_cause stop)) ⊎ (stop ≡ plans.Memory))
+        → (size_refusal s ≡ None) × ((clash_cause (label_clash f key s) (place_clash f key s) ≡ Some (plan_cause stop)) ⊎ (stop ≡ plans.Memory))
     stopped_plan stop answer = elim is_for [
       | inl size ↦
           let told : setup_answer (refused_by_size size.0) ≡ Err stop = subst (λ x. setup_answer x ≡ Err stop) size.2 answer in

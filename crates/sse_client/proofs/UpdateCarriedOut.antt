@@ -13,7 +13,7 @@ use Rattle.client_core.specs.declared.command_fault.CommandFault.{CommandFault}
 use Rattle.client_core.specs.declared.command_fault.CommandFault.TheVariants as commands
 use Rattle.client_core.specs.declared.planned_update.PlannedUpdate.{PlannedUpdate}
 use Rattle.client_core.specs.declared.ready.Ready.{Ready}
-use Rattle.client_registry.specs.Command.{Command, Add, Delete, Search}
+use Rattle.client_registry.specs.Command.{Command, Add, Delete}
 use Rattle.client_registry.specs.Document.{Document}
 use Rattle.client_registry.specs.Histories.{longer}
 use Rattle.client_registry.specs.Run.{Run, at_first}

@@ -1,5 +1,5 @@
 -- A whole run: from the start of its script over the key line, the greeting and the lines to its last line.
-use Rattle.std.proofs.Common.{◌≡◌, ℕ, ◌+◌, ◌≤◌, false, List, [], ◌∷◌, inr, refl, sym, ap, subst}
+use Rattle.std.proofs.Common.{◌≡◌, ℕ, ◌+◌, ◌≤◌, false, List, [], inr, refl, sym, ap, subst}
 use Rattle.std.specs.Prelude.{Option, None, Some, Result, Ok, Err, IfSome, IsErrAnd, take}
 use Rattle.std.specs.Io.KnownBytes.{append_known}
 use Rattle.std.proofs.lemmas.List.{append-nil}

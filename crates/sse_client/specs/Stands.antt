@@ -1,10 +1,11 @@
 -- Where a session stands in its script, what it does with a command there, and how a run ends.
 use Rattle.std.specs.Prelude.{◌≡◌, ◌≢◌, ◌≤◌, Bool, true, false, List, [], ◌∷◌, ℕ, map, Option, Some, None}
 use Rattle.client_core.specs.StandsFor.{StandsFor}
-use Rattle.client_registry.specs.Acceptance.{setup_refusal}
+use Rattle.client_registry.specs.Acceptance.{size_refusal}
 use Rattle.client_registry.specs.Histories.{is_set_up}
 use Rattle.client_registry.specs.Live.{in_order}
 use Rattle.client_registry.specs.Run.{History, Run, at_first}
+use Rattle.client_registry.specs.Setup.{setup_with}
 use Rattle.keyed_fn.specs.KeyedFn.{KeyedFn}
 use Rattle.server_core.specs.State.{ServerState}
 use Rattle.sse_agreement.specs.Taking.{Expects}
@@ -54,7 +55,7 @@ pub record IsAt (f : KeyedFn) (stage : Stage) (place : Place) : Type 0 where
 -- zero, of a setup's size, of a bad word, and of a deletion
 abbrev pub MayStop : KeyedFn → Stage → Line → Type 0
 MayStop f (Collecting client docs) (Doc id words) = id ≢ 0
-MayStop f (Collecting client docs) (SetupLine b big) = setup_refusal docs.documents b big ≡ None
+MayStop f (Collecting client docs) (SetupLine b big pad) = size_refusal (setup_with docs.documents b big pad) ≡ None
 MayStop f (Searching client) (AddLine id words) = id ≢ 0
 MayStop f (Searching client) (Del id) = (place : Place) → IsAt f (Searching client) place → delete_refusal place.history id ≡ None
 MayStop f (Searching client) (Find word) = bad_word 0 (word ∷ []) ≡ None

@@ -1,6 +1,6 @@
 ghost use Rattle.std.specs.Prelude.{◌≡◌, ◌≤◌, ◌^◌, List, [], ◌∷◌, false, Err, length, map, IfOk, IfErr, OnOk, OnErr, IsErrOf, Ok};
 ghost use Rattle.std.specs.List.{AllByRecursion};
-ghost use Rattle.client_registry.specs.Setup.{setup_of};
+ghost use Rattle.client_registry.specs.Setup.{setup_with};
 ghost use Rattle.keyed_fn.specs.KeyedFn.{KeyedFn, keyed_fn};
 ghost use Rattle.run_texts.specs.Causes.{CommandCause, PeerCause};
 ghost use Rattle.run_texts.specs.LineWords.{words_in};
@@ -62,7 +62,9 @@ pub(crate) fn take_line<K: Keyed, L: Link>(
     match line {
         Line::Empty | Line::Key(_) => Ok((stage, LineResult::Nothing)),
         Line::Doc { id, words } => Ok(collect(tools.alloc, stage, id, words)?),
-        Line::Setup { b, big } => set_up(tools, link, buffer, stage, b, big),
+        Line::Setup { b, big, pad } => {
+            set_up(tools, link, buffer, stage, SetupNumbers { b, big, pad })
+        }
         Line::Add { id, words } => add(tools, link, buffer, stage, id, words),
         Line::Del { id } => delete(tools, link, buffer, stage, id),
         Line::Find { word } => find(tools, link, buffer, stage, word),
@@ -108,24 +110,32 @@ fn refusal_of(done: Result<(), LineFault>) -> Result<LineResult, PlanStop>
     }
 }
 
+/// The numbers of a `setup` line: those in a cell, those in a block, and Q.
+#[derive(Clone, Copy)]
+struct SetupNumbers {
+    b: u64,
+    big: u64,
+    pad: u64,
+}
+
 /// Carries out a `setup` line. After a refusal the documents stay collected.
 fn set_up<K: Keyed, L: Link>(
     tools: &Tools<'_, K>,
     link: &mut L,
     buffer: &mut ReplyBuffer,
     stage: Stage,
-    b: u64,
-    big: u64,
+    numbers: SetupNumbers,
 ) -> Result<(Stage, LineResult), CommandStop>
-    ensures takes { IfOk result (λ done. Takes (keyed_fn K.prf K.pad) stage (requests.SetupLine b big) (L.transcript link.old) (L.transcript link.new) done.0 done.1) }
-    ensures stops { IfErr result (λ stop. StopsWithin (keyed_fn K.prf K.pad) stage (requests.SetupLine b big) (L.transcript link.old) (L.transcript link.new) (command_cause stop)) }
-    ensures may_stop { OnErr result (MayStop (keyed_fn K.prf K.pad) stage (lines.SetupLine b big)) }
+    ensures takes { IfOk result (λ done. Takes (keyed_fn K.prf K.pad) stage (requests.SetupLine numbers.b numbers.big numbers.pad) (L.transcript link.old) (L.transcript link.new) done.0 done.1) }
+    ensures stops { IfErr result (λ stop. StopsWithin (keyed_fn K.prf K.pad) stage (requests.SetupLine numbers.b numbers.big numbers.pad) (L.transcript link.old) (L.transcript link.new) (command_cause stop)) }
+    ensures may_stop { OnErr result (MayStop (keyed_fn K.prf K.pad) stage (lines.SetupLine numbers.b numbers.big numbers.pad)) }
     ensures same_key { IfOk result (λ done. key_of done.0 ≡ key_of stage) }
     ensures keeps { KeepsLink CommandCause (shows (L.transcript link.old) (L.faults link.old) (L.began link.old)) (shows (L.transcript link.new) (L.faults link.new) (L.began link.new)) result }
 {
     match stage {
         Stage::Collecting(client, docs) => {
-            match client.plan_setup(tools.alloc, tools.keyed, &docs, b, big) {
+            let SetupNumbers { b, big, pad } = numbers;
+            match client.plan_setup(tools.alloc, tools.keyed, &docs, b, big, pad) {
                 Ok(planned) => Ok(send_setup(tools.alloc, client, planned, docs, link, buffer)?),
                 Err(fault) => Ok((
                     Stage::Collecting(client, docs),
@@ -140,7 +150,7 @@ fn set_up<K: Keyed, L: Link>(
     }
 }
 
-/// Commits a planned setup and sends it.
+/// Commits a planned setup and sends it; the counts that are shown are those without dummies.
 fn send_setup<L: Link>(
     alloc: Global,
     client: Client<Fresh>,
@@ -153,14 +163,14 @@ fn send_setup<L: Link>(
     requires documents { planned.made_of ≡ docs }
     ensures sends { (frames : List FrameText) → planned.frames ≡ map frame_bytes frames → AreNumbered 0 frames →
         Sends (shows (L.transcript link.old) (L.faults link.old) (L.began link.old)) (shows (L.transcript link.new) (L.faults link.new) (L.began link.new)) frames result }
-    ensures shown { IfOk result (λ done. line_result_view done.1 ≡ says.SetUp planned.words planned.blocks ∷ []) }
+    ensures shown { IfOk result (λ done. line_result_view done.1 ≡ says.SetUp planned.own_words planned.own_blocks ∷ []) }
     ensures accepted { IfOk result (λ done. refuses done.1 ≡ false) }
-    ensures stands { (f : KeyedFn) → IfOk result (λ done. IsReady f client.key (record { setup = setup_of docs.documents planned.b planned.big; later = [] }) done.0) }
+    ensures stands { (f : KeyedFn) → IfOk result (λ done. IsReady f client.key (record { setup = setup_with docs.documents planned.b planned.big planned.pad; later = [] }) done.0) }
     ensures hash_keys { IfOk result (λ done. hash_keys_of done.0 ≡ docs.keys) }
     ensures key { IfOk result (λ done. key_of done.0 ≡ client.key) }
     ensures keeps { KeepsLink PeerCause (shows (L.transcript link.old) (L.faults link.old) (L.began link.old)) (shows (L.transcript link.new) (L.faults link.new) (L.began link.new)) result }
 {
-    let (words, blocks) = (planned.words(), planned.blocks());
+    let (words, blocks) = (planned.own_words(), planned.own_blocks());
     let ready = catch_up(client.commit(alloc, planned, docs), link, buffer)?;
     Ok((Stage::Searching(ready), LineResult::SetUp { words, blocks }))
 }

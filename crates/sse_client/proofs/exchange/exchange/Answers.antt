@@ -3,7 +3,6 @@ use Rattle.link_events.specs.Events.{Sent}
 use Rattle.run_texts.specs.Causes.{PeerCause}
 use Rattle.run_texts.specs.Stops.{peer_cause}
 use Rattle.std.specs.Prelude.{IfErr}
-use Rattle.sse_client.specs.Progress.{IsUnanswered}
 use Rattle.sse_client.proofs.TranscriptsJoined.{Adds-joined, IsUnanswered-recv, OnOk-then, IfErr-both}
 use Rattle.sse_client.proofs.exchange.exchange.Goals as goal
 

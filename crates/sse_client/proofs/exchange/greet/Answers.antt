@@ -5,7 +5,7 @@ use Rattle.script_meaning.specs.Greeting.{TurnsAway}
 use Rattle.sse_frames.specs.Frames.{Hello, frame_bytes}
 use Rattle.sse_client.specs.Progress.{IsAnswered}
 use Rattle.sse_client.proofs.CountsAtStop.{PeerCause-fault, store_told}
-use Rattle.sse_client.proofs.PartOfExchange.{Greets-answered, TurnsAway-memory, TurnsAway-unanswered, TurnsAway-answered, shows_to_hello, shows_elsewhere}
+use Rattle.sse_client.proofs.PartOfExchange.{TurnsAway-memory, TurnsAway-unanswered, TurnsAway-answered, shows_to_hello, shows_elsewhere}
 use Rattle.sse_client.proofs.TranscriptsJoined.{IfErr-from, IsAnswered-same}
 use Rattle.sse_client.proofs.exchange.greet.Goals as goal
 

@@ -1,4 +1,4 @@
-use Rattle.std.proofs.Common.{true, false, [], ◌∷◌, Err, refl, sym, ap, subst, arith, ◌∙◌}
+use Rattle.std.proofs.Common.{true, false, [], ◌∷◌, Err, sym, ap, subst, arith, ◌∙◌}
 use Rattle.client_replies.specs.Pages.{IsNextPage, is_done}
 use Rattle.client_registry.specs.WordBytes.{word_bytes}
 use Rattle.keyed_fn.specs.KeyFormulas.{token_of}

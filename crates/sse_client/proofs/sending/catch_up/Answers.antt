@@ -1,14 +1,13 @@
-use Rattle.std.proofs.Common.{List, refl, subst, ◌∙◌}
+use Rattle.std.proofs.Common.{refl, subst, ◌∙◌}
 use Rattle.std.specs.Prelude.{Ok}
 use Rattle.client_core.specs.Sending.{to_send}
 use Rattle.run_texts.specs.Stops.{peer_cause}
 use Rattle.sse_client.specs.Calls.{shows}
-use Rattle.sse_client.specs.Steps.{AreOwed, LeavesClient, StepsOver}
+use Rattle.sse_client.specs.Steps.{LeavesClient, StepsOver}
 use Rattle.sse_client.specs.declared.sending.Step.{Step}
 use Rattle.sse_client.proofs.TranscriptsJoined.{Sends-err}
 use Rattle.sse_client.proofs.FramesSent.{IsSending-begun, IsSending-joined, HasExchanged-behind, HasCut-behind}
 use Rattle.sse_client.proofs.FramesUnderWay.{frames_of_next}
-use Rattle.sse_frames.specs.Frames.{FrameText}
 use Rattle.sse_client.proofs.sending.catch_up.Goals as goal
 
 pub frames-init : goal.frames-init

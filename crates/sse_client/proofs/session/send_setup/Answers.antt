@@ -3,7 +3,7 @@ use Rattle.client_core.specs.Owes.{AreNumbered}
 use Rattle.client_core.specs.StandsFor.{StandsFor}
 use Rattle.client_core.specs.declared.ready.Ready.{Ready}
 use Rattle.client_registry.specs.Run.{Run, at_first}
-use Rattle.client_registry.specs.Setup.{setup_of}
+use Rattle.client_registry.specs.Setup.{setup_with}
 use Rattle.sse_model.specs.Epochs.{keys_under}
 use Rattle.std.specs.Prelude.{Some}
 use Rattle.sse_client.specs.Calls.{shows}
@@ -16,7 +16,7 @@ returns-clause-sends g c = λ frames planned numbered.
 
 pub returns-clause-stands : goal.returns-clause-stands
 returns-clause-stands g c = λ f.
-    let run : Run = record { setup = setup_of c.args.docs.documents c.args.planned.b c.args.planned.big; later = [] } in
+    let run : Run = record { setup = setup_with c.args.docs.documents c.args.planned.b c.args.planned.big c.args.planned.pad; later = [] } in
     let keys = keys_under c.args.client.key (Some run) in
     subst (StandsFor f keys at_first run) (sym c.in_ok-ready.ensures.ready) (c.commit.ensures.stands f keys)
 

@@ -1,7 +1,7 @@
-use Rattle.std.proofs.Common.{◌≡◌, ℕ, [], List, refl, sym, ap, subst, ◌∙◌}
+use Rattle.std.proofs.Common.{ℕ, [], List, refl, sym, ap, subst, ◌∙◌}
 use Rattle.client_core.specs.declared.planned.Planned.{Planned}
 use Rattle.client_registry.specs.Run.{at_first}
-use Rattle.client_registry.specs.Setup.{setup_of}
+use Rattle.client_registry.specs.Setup.{setup_with}
 use Rattle.index_setup.proofs.BuildErrors.{size_accepted}
 use Rattle.index_setup.specs.Entries.{key_table}
 use Rattle.keyed_fn.specs.KeyedFn.{keyed_fn}
@@ -29,15 +29,15 @@ returns-in_ok-send_setup-in-Ok-clause-takes g c =
     let new = g.L.Link.transcript c.send_setup.new.link in
     let key = c.in-Collecting.client.key in
     let docs = c.in-Collecting.docs.documents in
-    let s = setup_of docs c.args.b c.args.big in
+    let s = setup_with docs c.args.numbers.b c.args.numbers.big c.args.numbers.pad in
     let frames : List FrameText = frames_of_setup (key_table f key s) at_first s in
     let shape = c.in-Ok.ensures.shape in
     let done = c.in_ok-send_setup-in-Ok.field-0 in
     let at : IsCollecting f key docs c.in-Collecting.docs.keys c.args.stage = λ place a.
     let here : IsAt f (Collecting c.in-Collecting.client c.in-Collecting.docs) place = subst (λ (s : Stage). IsAt f s place) c.in-Collecting.is a in
     (here.key, here.stands.0, here.stands.1, here.hashed) in
-    let ready : IsReady f key (record { setup = s; later = [] }) done.0 = subst (λ (p : ℕ × ℕ). IsReady f key (record { setup = setup_of docs p.0 p.1; later = [] }) done.0) (λ i. (shape.0 i, shape.1 i)) (c.in_ok-send_setup-in-Ok.ensures.stands f) in
-    takes_if_sent f key old new c.args.stage docs c.in-Collecting.docs.keys c.args.b c.args.big at c.in-Ok.ensures.accepted c.in-Ok.planned.words c.in-Ok.planned.blocks c.in-Ok.ensures.words c.in-Ok.ensures.blocks
+    let ready : IsReady f key (record { setup = s; later = [] }) done.0 = subst (λ (p : ℕ × ℕ × ℕ). IsReady f key (record { setup = setup_with docs p.0 p.1 p.2; later = [] }) done.0) (λ i. (shape.0 i, shape.1 i, c.in-Ok.ensures.pad i)) (c.in_ok-send_setup-in-Ok.ensures.stands f) in
+    takes_if_sent f key old new c.args.stage docs c.in-Collecting.docs.keys c.args.numbers.b c.args.numbers.big c.args.numbers.pad at c.in-Ok.ensures.accepted c.in-Ok.planned.own_words c.in-Ok.planned.own_blocks c.in-Ok.ensures.own_words c.in-Ok.ensures.own_blocks
     done.0 done.1 (c.in_ok-send_setup-in-Ok.ensures.sends frames c.in-Ok.ensures.frames (frames_of_setup-are_numbered (key_table f key s) at_first s)) c.in_ok-send_setup-in-Ok.ensures.shown c.in_ok-send_setup-in-Ok.ensures.accepted ready
     c.in_ok-send_setup-in-Ok.ensures.key c.in_ok-send_setup-in-Ok.ensures.hash_keys
 
@@ -48,14 +48,14 @@ returns-in_err-send_setup-in-Ok-clause-stops g c =
     let new = g.L.Link.transcript c.send_setup.new.link in
     let key = c.in-Collecting.client.key in
     let docs = c.in-Collecting.docs.documents in
-    let s = setup_of docs c.args.b c.args.big in
+    let s = setup_with docs c.args.numbers.b c.args.numbers.big c.args.numbers.pad in
     let frames : List FrameText = frames_of_setup (key_table f key s) at_first s in
     let stop = c.in_err-send_setup-in-Ok.field-0.0 in
     let at : IsCollecting f key docs c.in-Collecting.docs.keys c.args.stage = λ place a.
     let here : IsAt f (Collecting c.in-Collecting.client c.in-Collecting.docs) place = subst (λ (s : Stage). IsAt f s place) c.in-Collecting.is a in
     (here.key, here.stands.0, here.stands.1, here.hashed) in
-    IfErr-from c.from_residual.result (Exchange stop) (λ e. StopsWithin f c.args.stage (requests.SetupLine c.args.b c.args.big) old new (command_cause e)) c.from_residual.ensures.1
-    (stops_if_sent f key old new c.args.stage docs c.in-Collecting.docs.keys c.args.b c.args.big at c.in-Ok.ensures.accepted (peer_cause stop)
+    IfErr-from c.from_residual.result (Exchange stop) (λ e. StopsWithin f c.args.stage (requests.SetupLine c.args.numbers.b c.args.numbers.big c.args.numbers.pad) old new (command_cause e)) c.from_residual.ensures.1
+    (stops_if_sent f key old new c.args.stage docs c.in-Collecting.docs.keys c.args.numbers.b c.args.numbers.big c.args.numbers.pad at c.in-Ok.ensures.accepted (peer_cause stop)
     (c.in_err-send_setup-in-Ok.ensures.sends frames c.in-Ok.ensures.frames (frames_of_setup-are_numbered (key_table f key s) at_first s)))
 
 pub returns-in_err-setup_refusal-in-Err-clause-stops :
@@ -70,10 +70,10 @@ returns-in_err-setup_refusal-in-Err-clause-stops g c =
     let at : IsCollecting f key docs c.in-Collecting.docs.keys c.args.stage = λ place a.
     let here : IsAt f (Collecting c.in-Collecting.client c.in-Collecting.docs) place = subst (λ (s : Stage). IsAt f s place) c.in-Collecting.is a in
     (here.key, here.stands.0, here.stands.1, here.hashed) in
-    IfErr-from c.from_residual-in_err-setup_refusal-in-Err.result (Planning stop) (λ e. StopsWithin f c.args.stage (requests.SetupLine c.args.b c.args.big) old old (command_cause e)) c.from_residual-in_err-setup_refusal-in-Err.ensures.1
+    IfErr-from c.from_residual-in_err-setup_refusal-in-Err.result (Planning stop) (λ e. StopsWithin f c.args.stage (requests.SetupLine c.args.numbers.b c.args.numbers.big c.args.numbers.pad) old old (command_cause e)) c.from_residual-in_err-setup_refusal-in-Err.ensures.1
     (λ place a written.
     let p = at place a in
-    stops-plan f key docs c.args.b c.args.big place p.0 p.1 p.2 Planned c.in-Err.fault (record { refused = plan.refused; clash = plan.clash; built = plan.built }) old stop
+    stops-plan f key docs c.args.numbers.b c.args.numbers.big c.args.numbers.pad place p.0 p.1 p.2 Planned c.in-Err.fault (record { refused = plan.refused; clash = plan.clash; built = plan.built }) old stop
     (sym c.in_err-setup_refusal-in-Err.ensures) written)
 
 pub returns-in_ok-setup_refusal-in-Err-clause-takes :
@@ -88,14 +88,14 @@ returns-in_ok-setup_refusal-in-Err-clause-takes g c =
     let plan = c.in-Err.ensures in
     λ place a.
     let here : IsAt f next place = subst (λ (s : Stage). IsAt f s place) c.in-Collecting.is a in
-    takes-refused_setup f c.in-Collecting.client.key docs c.args.b c.args.big place here.key here.stands.0 here.stands.1 Planned c.in-Err.fault
+    takes-refused_setup f c.in-Collecting.client.key docs c.args.numbers.b c.args.numbers.big c.args.numbers.pad place here.key here.stands.0 here.stands.1 Planned c.in-Err.fault
     (record { refused = plan.refused; clash = plan.clash; built = plan.built }) old next came shown refl refl here (sym c.in_ok-setup_refusal-in-Err.ensures)
 
 pub returns-in-Searching-clause-takes : goal.returns-in-Searching-clause-takes
 returns-in-Searching-clause-takes g c = λ place a.
     let f = keyed_fn g.K.Keyed.prf g.K.Keyed.pad in
     let here : IsAt f (Searching c.in-Searching.client) place = subst (λ (s : Stage). IsAt f s place) c.in-Searching.is a in
-    takes-set_up_already f _ _ _ place c.args.b c.args.big (is_up f c.in-Searching.client place here) refl refl here
+    takes-set_up_already f _ _ _ place c.args.numbers.b c.args.numbers.big c.args.numbers.pad (is_up f c.in-Searching.client place here) refl refl here
 
 pub returns-in_ok-send_setup-in-Ok-clause-same_key : goal.returns-in_ok-send_setup-in-Ok-clause-same_key
 returns-in_ok-send_setup-in-Ok-clause-same_key g c = c.in_ok-send_setup-in-Ok.ensures.key ∙ ap key_of (sym c.in-Collecting.is)
@@ -103,15 +103,15 @@ returns-in_ok-send_setup-in-Ok-clause-same_key g c = c.in_ok-send_setup-in-Ok.en
 pub returns-in_err-send_setup-in-Ok-clause-may_stop :
     goal.returns-in_err-send_setup-in-Ok-clause-may_stop
 returns-in_err-send_setup-in-Ok-clause-may_stop g c =
-    may_stop c.from_residual.result (MayStop (keyed_fn g.K.Keyed.prf g.K.Keyed.pad) c.args.stage (lines.SetupLine c.args.b c.args.big))
-    (subst (λ s. MayStop (keyed_fn g.K.Keyed.prf g.K.Keyed.pad) s (lines.SetupLine c.args.b c.args.big)) (sym c.in-Collecting.is)
-    (size_accepted (keyed_fn g.K.Keyed.prf g.K.Keyed.pad) c.in-Collecting.client.key (setup_of c.in-Collecting.docs.documents c.args.b c.args.big) c.in-Ok.ensures.accepted))
+    may_stop c.from_residual.result (MayStop (keyed_fn g.K.Keyed.prf g.K.Keyed.pad) c.args.stage (lines.SetupLine c.args.numbers.b c.args.numbers.big c.args.numbers.pad))
+    (subst (λ s. MayStop (keyed_fn g.K.Keyed.prf g.K.Keyed.pad) s (lines.SetupLine c.args.numbers.b c.args.numbers.big c.args.numbers.pad)) (sym c.in-Collecting.is)
+    (size_accepted (keyed_fn g.K.Keyed.prf g.K.Keyed.pad) c.in-Collecting.client.key (setup_with c.in-Collecting.docs.documents c.args.numbers.b c.args.numbers.big c.args.numbers.pad) c.in-Ok.ensures.accepted))
 
 pub returns-in_err-setup_refusal-in-Err-clause-may_stop :
     goal.returns-in_err-setup_refusal-in-Err-clause-may_stop
 returns-in_err-setup_refusal-in-Err-clause-may_stop g c =
     let plan = c.in-Err.ensures in
-    let why = stopped_plan (keyed_fn g.K.Keyed.prf g.K.Keyed.pad) c.in-Collecting.client.key c.in-Collecting.docs.documents c.args.b c.args.big Planned c.in-Err.fault (record { refused = plan.refused; clash = plan.clash; built = plan.built })
+    let why = stopped_plan (keyed_fn g.K.Keyed.prf g.K.Keyed.pad) c.in-Collecting.client.key (setup_with c.in-Collecting.docs.documents c.args.numbers.b c.args.numbers.big c.args.numbers.pad) Planned c.in-Err.fault (record { refused = plan.refused; clash = plan.clash; built = plan.built })
     c.in_err-setup_refusal-in-Err.field-0.0 (sym c.in_err-setup_refusal-in-Err.ensures) in
-    may_stop c.from_residual-in_err-setup_refusal-in-Err.result (MayStop (keyed_fn g.K.Keyed.prf g.K.Keyed.pad) c.args.stage (lines.SetupLine c.args.b c.args.big))
-    (subst (λ s. MayStop (keyed_fn g.K.Keyed.prf g.K.Keyed.pad) s (lines.SetupLine c.args.b c.args.big)) (sym c.in-Collecting.is) why.0)
+    may_stop c.from_residual-in_err-setup_refusal-in-Err.result (MayStop (keyed_fn g.K.Keyed.prf g.K.Keyed.pad) c.args.stage (lines.SetupLine c.args.numbers.b c.args.numbers.big c.args.numbers.pad))
+    (subst (λ s. MayStop (keyed_fn g.K.Keyed.prf g.K.Keyed.pad) s (lines.SetupLine c.args.numbers.b c.args.numbers.big c.args.numbers.pad)) (sym c.in-Collecting.is) why.0)

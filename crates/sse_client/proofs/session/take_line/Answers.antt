@@ -37,12 +37,12 @@ returns-in_err-collect-in-Doc-clause-stops g c =
 
 pub returns-in-Setup-clause-takes : goal.returns-in-Setup-clause-takes
 returns-in-Setup-clause-takes g c =
-    takes_own (keyed_fn g.K.Keyed.prf g.K.Keyed.pad) c.args.stage (g.L.Link.transcript c.args.link.now) (g.L.Link.transcript c.set_up.new.link) (line_read (line_view c.args.line)) (requests.SetupLine c.in-Setup.b c.in-Setup.big)
+    takes_own (keyed_fn g.K.Keyed.prf g.K.Keyed.pad) c.args.stage (g.L.Link.transcript c.args.link.now) (g.L.Link.transcript c.set_up.new.link) (line_read (line_view c.args.line)) (requests.SetupLine c.in-Setup.b c.in-Setup.big c.in-Setup.pad)
     (ap (λ (line : Line). line_read (line_view line)) c.in-Setup.is) c.set_up.result c.set_up.ensures.takes
 
 pub returns-in-Setup-clause-stops : goal.returns-in-Setup-clause-stops
 returns-in-Setup-clause-stops g c =
-    stops_own (keyed_fn g.K.Keyed.prf g.K.Keyed.pad) c.args.stage (g.L.Link.transcript c.args.link.now) (g.L.Link.transcript c.set_up.new.link) (line_read (line_view c.args.line)) (requests.SetupLine c.in-Setup.b c.in-Setup.big)
+    stops_own (keyed_fn g.K.Keyed.prf g.K.Keyed.pad) c.args.stage (g.L.Link.transcript c.args.link.now) (g.L.Link.transcript c.set_up.new.link) (line_read (line_view c.args.line)) (requests.SetupLine c.in-Setup.b c.in-Setup.big c.in-Setup.pad)
     (ap (λ (line : Line). line_read (line_view line)) c.in-Setup.is) c.set_up.result c.set_up.ensures.stops
 
 pub returns-in-Find-clause-takes : goal.returns-in-Find-clause-takes
