@@ -1,1 +1,6 @@
+pub mod ExchangeLaws
+pub mod Gathering
+pub mod PageLaws
+pub mod RunLaws
+pub mod UpdateLaws
 pub mod ViewLaws

@@ -1,1 +1,4 @@
+pub mod Making
+pub mod Steps
+pub mod Texts
 pub mod Views
