@@ -1,0 +1,4 @@
+pub mod Records
+pub mod RecordView
+pub mod Faults
+pub mod Reading
