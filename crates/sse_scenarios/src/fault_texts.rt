@@ -128,6 +128,7 @@ fn faults_of_commands(rt: HostRuntime) -> Result<(), Fail> {
         which: 1,
         value: 257,
     };
+    let bad_pad = SizeFault::BadParameter { which: 2, value: 3 };
     let label_clash = BuildFault::LabelClash {
         first: 0,
         second: 1,
@@ -142,6 +143,10 @@ fn faults_of_commands(rt: HostRuntime) -> Result<(), Fail> {
             "a list of 9 identifiers is longer than two levels of blocks can hold",
         ),
         (bad_parameter.to_string(alloc)?, "B is 1 to 256, not 257"),
+        (
+            bad_pad.to_string(alloc)?,
+            "Q is a power of two from 1 to 4096, not 3",
+        ),
         (
             label_clash.to_string(alloc)?,
             "the labels of the words 0 and 1 are equal",

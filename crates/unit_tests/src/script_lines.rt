@@ -29,6 +29,12 @@ doc\t1 a
 setup 4 4
 setup 4
 setup 4 4 1
+setup  4 8  18446744073709551615 
+setup 4 4 18446744073709551616
+setup 4 4 0
+setup 4 4 01
+setup 4 4 1 1
+setup 4 4 x
 setup 04 4
 setup 0 65536
 add 5 c
@@ -71,11 +77,17 @@ bad 7
 bad 7
 doc 1 61 61
 bad 7
-setup 4 4
+setup 4 4 1
+bad 7
+setup 4 4 1
+setup 4 8 18446744073709551615
+bad 7
+setup 4 4 0
 bad 7
 bad 7
 bad 7
-setup 0 65536
+bad 7
+setup 0 65536 1
 add 5 63
 add 5
 bad 7
@@ -120,7 +132,7 @@ fn said(alloc: Global, line: &[u8]) -> Result<String, AllocError> {
             format!(in alloc; "key {digits}")
         }
         Ok(Line::Doc { id, words }) => with_words(alloc, "doc", id, words),
-        Ok(Line::Setup { b, big }) => format!(in alloc; "setup {b} {big}"),
+        Ok(Line::Setup { b, big, pad }) => format!(in alloc; "setup {b} {big} {pad}"),
         Ok(Line::Add { id, words }) => with_words(alloc, "add", id, words),
         Ok(Line::Del { id }) => format!(in alloc; "del {id}"),
         Ok(Line::Find { word }) => {
@@ -176,7 +188,7 @@ resumed 4294967295 frames
 ";
 
 /// Refusals.
-const REFUSALS: [Refusal; 17] = [
+const REFUSALS: [Refusal; 18] = [
     Refusal::NotSetUp,
     Refusal::SetUpAlready,
     Refusal::Zero,
@@ -196,6 +208,10 @@ const REFUSALS: [Refusal; 17] = [
     Refusal::BadParameter {
         which: 1,
         value: 257,
+    },
+    Refusal::BadParameter {
+        which: 2,
+        value: u64::MAX,
     },
     Refusal::ListTooLong { word: 0, n: 9 },
     Refusal::CounterFull { position: 2 },
@@ -217,6 +233,7 @@ refused: too many pairs: 1048577
 refused: too many bytes: 268435457
 refused: b is 0
 refused: B is 257
+refused: Q is 18446744073709551615
 refused: list of word 0 has 9 identifiers
 refused: counter of word 2 is full
 refused: history is full
