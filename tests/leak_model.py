@@ -62,6 +62,7 @@ class ListedLeak:
 
 @dataclass(frozen=True)
 class SetupLeak:
+    """The counts are those with the dummies."""
     b: int
     B: int
     words: int
@@ -246,10 +247,12 @@ def simulated(leaks, drawn):
 
 @dataclass(frozen=True)
 class Setup:
-    """Documents, each an identifier with its words, and the sizes of cells and blocks."""
+    """Documents, each an identifier with its words, the sizes of cells and blocks, and the number up to a multiple of which words and
+    blocks are filled with dummies."""
     documents: tuple
     b: int
     B: int
+    Q: int = 1
 
 
 @dataclass(frozen=True)
@@ -326,6 +329,13 @@ def setup_list(s, word):
 
 def word_blocks(s, word):
     return script_model.blocks_of(len(setup_list(s, word)), s.b, s.B)
+
+
+def padded_counts(s):
+    """How many words and how many blocks a setup has, dummies included."""
+    words = setup_words(s)
+    counts = len(words), sum(word_blocks(s, word) for word in words)
+    return [script_model.padded(s.Q, count) for count in counts]
 
 
 def live(s, past):
@@ -431,8 +441,7 @@ def pair_leak(s, past, word, id, origin):
 
 
 def leak_of_setup(s):
-    words = setup_words(s)
-    return SetupLeak(s.b, s.B, len(words), sum(word_blocks(s, word) for word in words))
+    return SetupLeak(s.b, s.B, *padded_counts(s))
 
 
 def leak_by(s, past, command):
@@ -455,6 +464,10 @@ def leak(s, later):
 # the parts of a word's keys, and those of them that a token has
 LIST_LABEL, LIST_PAD, ADDED_LABEL, ADDED_PAD, NUMBER, TAG = range(1, 7)
 TOKEN_PARTS = (LIST_LABEL, LIST_PAD, ADDED_LABEL, ADDED_PAD, NUMBER)
+# those of the keys of dummies, which are of no word; a dummy block has a number of its own, behind those of all dummy entries
+DUMMY, DUMMY_PAD = 8, 9
+NO_WORD = b""
+FIRST_DUMMY_BLOCK = 2**32
 
 
 def word_key(key, part, word):
@@ -511,16 +524,32 @@ def laid(ids, b, B, ranks):
     return bytes([kind]) + numbers_text(cell, b), [numbers_text(block, B) for block in blocks]
 
 
+def block_tags(key, s):
+    """The tag of each block, by its word and its number there, then those of the dummies."""
+    tags = {(word, i): value(key, TAG, word, i) for word in setup_words(s) for i in range(word_blocks(s, word))}
+    dummies = range(FIRST_DUMMY_BLOCK, FIRST_DUMMY_BLOCK + padded_counts(s)[1] - len(tags))
+    return tags | {(NO_WORD, j): value(key, DUMMY, NO_WORD, j) for j in dummies}
+
+
+def ranks_of(tags):
+    """The place of each block in the array, which stands by rising tag."""
+    return {block: rank for rank, block in enumerate(sorted(tags, key=tags.get))}
+
+
 def draws_of_setup(key, s):
-    positions = [(word, i) for word in setup_words(s) for i in range(word_blocks(s, word))]
-    tags = {(word, i): value(key, TAG, word, i) for word, i in positions}
-    ranks = {position: rank for rank, position in enumerate(sorted(positions, key=tags.get))}
+    words, tags = setup_words(s), block_tags(key, s)
+    ranks = ranks_of(tags)
     entries, blocks = [], []
-    for word in setup_words(s):
+    for word in words:
         own = [ranks[word, i] for i in range(word_blocks(s, word))]
         cell, texts = laid(setup_list(s, word), s.b, s.B, own)
         entries.append(EntryDraw(value(key, LIST_LABEL, word, 0), sealed(cell, key, LIST_PAD, word, 0)))
         blocks += [BlockDraw(tags[word, i], sealed(text, key, LIST_PAD, word, i + 1)) for i, text in enumerate(texts)]
+    for i in range(padded_counts(s)[0] - len(words)):
+        entries.append(EntryDraw(value(key, DUMMY, NO_WORD, i), sealed(bytes(1 + 8 * s.b), key, DUMMY_PAD, NO_WORD, i)))
+    for word, j in tags:
+        if word == NO_WORD:
+            blocks.append(BlockDraw(tags[word, j], sealed(bytes(8 * s.B), key, DUMMY_PAD, NO_WORD, j)))
     return entries + blocks
 
 

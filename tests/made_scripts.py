@@ -6,10 +6,12 @@ WORDS = [word.encode() for word in ("a", "b", "ab", "w0", "w1", "w2", "A", "ä",
 # each is no word, for a fault of its own
 BAD_WORDS = [b"x" * 65, b"y" * 300, b"\x7f", b"a\tb", b"ab\r", b"\x01" * 65, b"\xff", b"a\xc3", b"\xc0\x80",
              b"b\xed\xa0\x80", b"\xf4\x90\x80\x80"]
+PADS = [1, 2, 2, 4, 8, 16, 64, 1024, 4096]
+BAD_PADS = [0, 3, 6, 4095, 8192, 2**32, 2**64 - 1]
 IDENTIFIERS = [2**64 - 1, 2**63, 2**32, 256, 255]
 BAD_LINES = [b"add", b"add 01 a", b"add +1", b"add a", b"add 18446744073709551616 a", b"add\t1 a", b"ADD 1 a",
              b"del", b"del 1 2", b"del a", b"delete 1", b"find", b"find a b", b"\tfind a", b"setup 1",
-             b"setup 1 1 1", b"doc", b"key", b"key " + b"0" * 64, b"twin"]
+             b"setup 1 1 01", b"setup 1 1 1 1", b"setup 1 1 18446744073709551616", b"doc", b"key", b"key " + b"0" * 64, b"twin"]
 
 
 def key_line(draw):
@@ -91,12 +93,14 @@ class RandomScript:
     def setup(self, is_spoilt=False):
         sizes = [1, 2, 3, 4, 8, 64]
         b, B = self.draw.choice(sizes), self.draw.choice(sizes + [256])
+        Q = [self.draw.choice(PADS)] if self.chance(1 / 3) else []
         if is_spoilt:
-            b = self.draw.choice([0, 65, b, 2**64 - 1])
-            B = self.draw.choice([0, 257, B, 2**64 - 1])
+            b = self.draw.choice([0, 65, b, b, b, 2**64 - 1])
+            B = self.draw.choice([0, 257, B, B, B, 2**64 - 1])
+            Q = self.draw.choice([Q, [self.draw.choice(BAD_PADS)]])
         elif not self.spoils:
             b = 64
-        self.put(b"setup", b, B)
+        self.put(b"setup", b, B, *Q)
 
     def misplaced(self, others):
         """At times a line that belongs to the other stage."""

@@ -12,6 +12,7 @@ SETUP_DOCUMENTS = 2**18
 SETUP_PAIRS = 2**20
 CELL_NUMBERS = 64
 BLOCK_NUMBERS = 256
+PADS = [2**k for k in range(13)]
 INDEX_BYTES = 2**28
 
 KEY = re.compile(rb"[0-9A-Fa-f]{64}")
@@ -43,7 +44,7 @@ def command_in(line):
         return "key", [], []
     if name in (b"doc", b"add") and fields:
         return name.decode(), [number_in(fields[0])], fields[1:]
-    if name == b"setup" and len(fields) == 2 or name == b"del" and len(fields) == 1:
+    if name == b"setup" and len(fields) in (2, 3) or name == b"del" and len(fields) == 1:
         return name.decode(), [number_in(field) for field in fields], []
     if name == b"find" and len(fields) == 1:
         return "find", [], fields
@@ -86,6 +87,11 @@ def blocks_of(count, b, B):
         return blocks
     pointer_blocks = -(-blocks // B)
     return blocks + pointer_blocks if pointer_blocks <= b else None
+
+
+def padded(Q, count):
+    """The next multiple of Q that is at least the count, up to which a setup is filled with dummies; zero stays zero."""
+    return -(-count // Q) * Q
 
 
 class Store:
@@ -135,9 +141,9 @@ class Store:
         for word in self.live.pop(identifier):
             self.holders[word].remove(identifier)
 
-    def set_up(self, b, B):
-        for name, value, most in (("b", b, CELL_NUMBERS), ("B", B, BLOCK_NUMBERS)):
-            if not 1 <= value <= most:
+    def set_up(self, b, B, Q=1):
+        for name, value, fitting in (("b", b, range(1, CELL_NUMBERS + 1)), ("B", B, range(1, BLOCK_NUMBERS + 1)), ("Q", Q, PADS)):
+            if value not in fitting:
                 raise Refused(f"{name} is {value}")
         blocks = 0
         for number, holders in enumerate(self.holders.values()):
@@ -145,7 +151,7 @@ class Store:
             if taken is None:
                 raise Refused(f"list of word {number} has {len(holders)} identifiers")
             blocks += taken
-        size = len(self.holders) * (17 + 8 * b) + blocks * 8 * B
+        size = padded(Q, len(self.holders)) * (17 + 8 * b) + padded(Q, blocks) * 8 * B
         if size > INDEX_BYTES:
             raise Refused(f"too many bytes: {size}")
         self.is_set_up = True
