@@ -30,7 +30,7 @@ const PASSED: [&[u8]; 8] = [
 /// What is drawn for the first entries of them.
 fn drawn(alloc: Global, count: usize) -> Result<Items<Items<Draw>>, AllocError> {
     let mut draws = Items::new(alloc);
-    for (label, bytes) in &DRAWN[..count] {
+    for (label, bytes) in DRAWN.iter().take(count) {
         let mut cell = Items::new(alloc);
         for byte in *bytes {
             cell.push(*byte)?;
