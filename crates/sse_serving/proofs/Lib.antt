@@ -1,0 +1,7 @@
+mod Ranges
+mod Goings
+mod Pages
+mod Servings
+mod Lasting
+mod OneGiven
+mod DiskCauses

@@ -1,0 +1,10 @@
+pub mod Turns
+pub mod Disks
+pub mod Handled
+pub mod Connections
+pub mod Going
+pub mod Saying
+pub mod Served
+pub mod Waiting
+pub mod Scripts
+pub mod MemConns
