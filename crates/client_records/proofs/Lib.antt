@@ -5,3 +5,4 @@ pub mod RecordOnce
 pub mod Sizes
 pub mod Rows
 pub mod RecordReads
+pub mod OpeningLaws

@@ -2,3 +2,4 @@ pub mod Records
 pub mod RecordView
 pub mod Faults
 pub mod Reading
+pub mod Openings
