@@ -1,0 +1,17 @@
+-- What the fields of a history stand for.
+use Rattle.std.specs.Prelude.{map}
+use Rattle.client_registry.specs.Registered.{Represents}
+use Rattle.client_registry.specs.Run.{Run}
+use Rattle.client_registry.specs.Setup.{setup_with}
+use Rattle.command_history.specs.Commands.{command_of}
+use Rattle.command_history.specs.Refusal.{AreAccepted}
+use Rattle.command_history.specs.declared.history.History.TheInside.{Inside}
+
+-- what contracts see of a history
+abbrev pub run_of : Inside → Run
+run_of h = record { setup = setup_with h.docs.documents h.b h.big h.pad; later = map command_of h.commands.items }
+
+-- the commands are accepted, and the registry tells what is live, listed and counted after them
+pub record IsRegistered (h : Inside) : Type 0 where
+  pub accepted : AreAccepted (run_of h)
+  pub registry : Represents h.registry (run_of h).setup (run_of h).later

@@ -1,0 +1,3 @@
+pub mod Commands
+pub mod Refusal
+pub mod HistoryView

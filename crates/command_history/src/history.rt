@@ -1,0 +1,187 @@
+ghost use Rattle.std.specs.Prelude.{◌≡◌, ◌+◌, ◌++◌, ◌∷◌, [], IfOk, IfSome, IsOkUnless, None, OnErr, OnOk, length, map};
+
+use crate::command::Command;
+use crate::copies::copy_docs;
+use crate::fault::HistoryFault;
+use crate::registering::register;
+use client_registry::{Doc, DocId, Docs, HashKeys, Registry};
+use std::alloc::{AllocError, Global};
+use std::marker::Model;
+
+/// A setup, and the commands that were accepted after it.
+#[derive(Drop)]
+pub struct History {
+    docs: Docs,
+    keys: HashKeys,
+    b: u16,
+    big: u16,
+    pad: u16,
+    /// What is live, listed and counted after the commands.
+    registry: Registry,
+    commands: Vec<Command>,
+}
+
+impl Model for History {
+    ghost use Rattle.client_registry.specs.Run.{Run};
+
+    ghost Value = { Run };
+
+    ghost use Rattle.command_history.specs.HistoryView.{IsRegistered, run_of};
+
+    ghost view = { run_of };
+
+    ghost invariant = { IsRegistered };
+}
+
+impl History {
+    ghost use Rattle.client_registry.specs.Command.{Add, Delete};
+    ghost use Rattle.client_registry.specs.IdNumber.{id_number};
+    ghost use Rattle.client_registry.specs.Registered.{Represents, known_words};
+    ghost use Rattle.client_registry.specs.Setup.{setup_with, setup_words};
+    ghost use Rattle.client_registry.specs.DocumentRule.{IsDocument};
+    ghost use Rattle.client_registry.specs.Sized.{IsSizedCommand};
+    ghost use Rattle.command_history.specs.Commands.{command_of};
+    ghost use Rattle.command_history.specs.Refusal.{AreAccepted, push_refusal};
+
+    /// The history of a setup of these documents alone, with `b` numbers in a cell and `big` in a block, filled with dummies up
+    /// to multiples of `pad`. Its tables hash under these keys. Whether there is an index of these parameters,
+    /// `client_registry::size_of` says.
+    pub fn new(
+        alloc: Global,
+        docs: Docs,
+        keys: HashKeys,
+        b: u16,
+        big: u16,
+        pad: u16,
+    ) -> Result<History, AllocError>
+        ensures { IfOk result (λ h. h ≡ record { setup = setup_with docs.documents b big pad; later = [] }) }
+    {
+        let registry = Registry::from_docs(copy_docs(alloc, &docs, keys)?);
+        Ok(History {
+            docs,
+            keys,
+            b,
+            big,
+            pad,
+            registry,
+            commands: Vec::new(alloc),
+        })
+    }
+
+    /// Takes a command after the others.
+    ///
+    /// Errors, the first that stands: `AlreadyLive(id)` where the document of an addition has the identifier of a live one;
+    /// `UnknownDocument(id)` where none is live of the identifier to be deleted; `CounterFull(position)` at the least position,
+    /// from 0, of a word of an addition whose pair would be new and that has no counter left. With none of these, `NoMemory`
+    /// where there is no memory. After an error the history is as before, and the command is dropped.
+    pub fn push(&mut self, command: Command) -> Result<(), HistoryFault>
+        ensures ok { OnOk result (self.new ≡ record { setup = self.old.setup; later = self.old.later ++ command_of command ∷ [] }) }
+        ensures err { OnErr result (self.new ≡ self.old) }
+        ensures refused { IfSome (push_refusal self.old (command_of command)) (λ fault. result ≡ Err fault) }
+        ensures accepted { push_refusal self.old (command_of command) ≡ None → IsOkUnless result HistoryFault.NoMemory }
+    {
+        if let Some(fault) = self.refusal(&command) {
+            return Err(fault);
+        }
+        // All memory is taken first, so that nothing fails once something has changed.
+        self.commands.reserve(1)?;
+        register(&mut self.registry, &command)?;
+        self.commands.push_reserved(command);
+        Ok(())
+    }
+
+    /// Why a command isn't accepted after the others; none says that only memory may be wanting.
+    pub fn refusal(&self, command: &Command) -> Option<HistoryFault>
+        ensures refusal { result ≡ push_refusal self.now (command_of command.now) }
+        ensures valid { IsSizedCommand (command_of command.now) }
+    {
+        match command {
+            Command::Add(doc) => self.addition_refusal(doc),
+            Command::Delete(id) => self.deletion_refusal(*id),
+            Command::Search(_) => None,
+        }
+    }
+
+    /// Why a document isn't added.
+    fn addition_refusal(&self, doc: &Doc) -> Option<HistoryFault>
+        ensures refusal { result ≡ push_refusal self.now (Add doc.now) }
+        ensures valid { IsDocument doc.now }
+    {
+        // Its contract says that the document keeps its limits.
+        let _words = doc.words();
+        if self.registry.is_live(doc.id()) {
+            return Some(HistoryFault::AlreadyLive(doc.id().get()));
+        }
+        match self.registry.full_counter(doc) {
+            Some(position) => Some(HistoryFault::CounterFull(position)),
+            None => None,
+        }
+    }
+
+    /// Why the document of an identifier isn't deleted.
+    fn deletion_refusal(&self, id: DocId) -> Option<HistoryFault>
+        ensures { result ≡ push_refusal self.now (Delete (id_number id)) }
+    {
+        if self.registry.is_live(id) {
+            return None;
+        }
+        Some(HistoryFault::UnknownDocument(id.get()))
+    }
+
+    /// How many commands, the setup included.
+    pub fn len(&self) -> usize
+        ensures len { result ≡ length self.now.later + 1 }
+        ensures valid { AreAccepted self.now }
+    {
+        self.commands.len() + 1
+    }
+
+    /// The commands after the setup, in their order.
+    pub fn commands(&self) -> &[Command]
+        ensures commands { map command_of result.now ≡ self.now.later }
+        ensures valid { AreAccepted self.now }
+    {
+        self.commands.as_slice()
+    }
+
+    /// The documents of the setup.
+    pub fn docs(&self) -> &Docs
+        ensures { result.now.documents ≡ self.now.setup.documents }
+    {
+        &self.docs
+    }
+
+    /// How many numbers a cell of the setup has.
+    pub fn b(&self) -> u16
+        ensures { result ≡ self.now.setup.shape.b }
+    {
+        self.b
+    }
+
+    /// How many numbers a block of the setup has.
+    pub fn big(&self) -> u16
+        ensures { result ≡ self.now.setup.shape.big }
+    {
+        self.big
+    }
+
+    /// Up to multiples of which number dummies are added at the setup.
+    pub fn pad(&self) -> u16
+        ensures { result ≡ self.now.setup.pad }
+    {
+        self.pad
+    }
+
+    /// The keys under which its tables hash.
+    pub fn keys(&self) -> HashKeys {
+        self.keys
+    }
+
+    /// A registry that was told the setup alone: [`register`] tells it a command after the others.
+    pub fn begun_registry(&self, alloc: Global) -> Result<Registry, AllocError>
+        ensures setup { IfOk result (λ registry. Represents registry self.now.setup []) }
+        ensures words { IfOk result (λ registry. known_words registry ≡ setup_words self.now.setup) }
+    {
+        Ok(Registry::from_docs(copy_docs(alloc, &self.docs, self.keys)?))
+    }
+}
