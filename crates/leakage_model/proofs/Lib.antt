@@ -1,0 +1,7 @@
+pub mod PairLaws
+pub mod StepLaws
+pub mod EntryLaws
+pub mod PairEntries
+pub mod LeakLaws
+pub mod SetupLaws
+pub mod ListLaws

@@ -1,0 +1,15 @@
+use Rattle.std.proofs.Common.{map, nat_eq, refl, subst, ◌∙◌}
+use Rattle.std.specs.List.{IsDistinct}
+use Rattle.client_registry.proofs.OrderLaws.{AreApart-from_IsDistinct}
+use Rattle.leakage_model.proofs.LeakLaws.{word_facts-setup}
+use Rattle.leakage_model.proofs.trail.Trail.begin.Goals as goal
+
+pub returns : goal.returns
+returns c =
+    let s = c.args.history.now.setup in
+    record {
+      words = λ w. c.in_ok-set_up_documents.ensures w ∙ word_facts-setup s c.docs-docs.result.now.documents c.size_of_setup-size.result.shape c.docs-docs.ensures c.size_of_setup-size.ensures.shape w;
+      registry = c.in_ok-registry.ensures.setup;
+      next = refl;
+      apart = AreApart-from_IsDistinct (map (λ d. d.id) s.documents) (subst (λ docs. IsDistinct nat_eq (map (λ d. d.id) docs)) c.docs-docs.ensures c.place_words.ensures.collected.different);
+    }

@@ -1,0 +1,16 @@
+use Rattle.std.proofs.Common.{◌≡◌, List, map, take}
+use Rattle.client_registry.specs.Command.{Command}
+use Rattle.client_registry.specs.IdNumber.{id_number}
+use Rattle.client_registry.specs.Numbered.{words_by_number}
+use Rattle.client_registry.specs.Registered.{known_words}
+use Rattle.client_registry.specs.Run.{at_first}
+use Rattle.client_registry.specs.Setup.{Setup}
+use Rattle.simulated_frames.specs.Views.{word_view}
+use Rattle.sse_leakage.specs.Leaking.{word_deleted}
+use Rattle.leakage_model.specs.Following.{Follows}
+use Rattle.leakage_model.proofs.trail.Trail.words_deleted.Given as goal
+
+abbrev pub invariant-loop-number : goal.invariant-loop-number
+invariant-loop-number l =
+    (s : Setup) (past : List Command) → Follows l.self s past
+    → map word_view l.leaks ≡ map (word_deleted at_first s past (id_number l.id)) (words_by_number (known_words l.self.registry) (take l.number-index l.numbers))

@@ -1,0 +1,9 @@
+use Rattle.std.proofs.Common.{◌≡◌, ℕ, List, take}
+use Rattle.client_registry.specs.Setup.{setup_of}
+use Rattle.leakage_model.proofs.SetupLaws.{told_of}
+use Rattle.leakage_model.specs.Following.{facts_in}
+use Rattle.leakage_model.proofs.trail_setup.set_up_documents.Given as goal
+
+abbrev pub invariant-loop-i : goal.invariant-loop-i
+invariant-loop-i l =
+    (word : List ℕ) → facts_in l.words.entries word ≡ told_of (setup_of l.docs.documents l.fn.shape.b l.fn.shape.big) (take l.i l.docs.documents) word

@@ -1,0 +1,20 @@
+use Rattle.std.proofs.Common.{sym, ap, ◌∙◌}
+use Rattle.std.specs.Option.{option_and_then, option_map}
+use Rattle.client_registry.specs.IdNumber.{id_number}
+use Rattle.simulated_frames.specs.Views.{origin_view}
+use Rattle.leakage_model.proofs.PairEntries.{number-lookup}
+use Rattle.leakage_model.specs.WordFacts.{number_among}
+use Rattle.leakage_model.specs.declared.pair.Pair.{Pair}
+use Rattle.leakage_model.proofs.word_trail.WordTrail.number_origin.Goals as goal
+
+pub returns-in-Some : goal.returns-in-Some
+returns-in-Some c =
+    ap (option_and_then (λ (v : Pair). option_map origin_view v.number)) c.in-Some.ensures.value
+    ∙ sym (number-lookup (id_number c.args.id) c.self.inside.pairs.entries)
+    ∙ ap (λ f. number_among (id_number c.args.id) f.listed) c.self.view_is
+
+pub returns-in-None : goal.returns-in-None
+returns-in-None c =
+    ap (option_and_then (λ (v : Pair). option_map origin_view v.number)) c.in-None.ensures.value
+    ∙ sym (number-lookup (id_number c.args.id) c.self.inside.pairs.entries)
+    ∙ ap (λ f. number_among (id_number c.args.id) f.listed) c.self.view_is

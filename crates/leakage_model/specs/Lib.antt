@@ -1,0 +1,4 @@
+pub mod WordFacts
+pub mod Pairs
+pub mod WordView
+pub mod Following

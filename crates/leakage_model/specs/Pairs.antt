@@ -1,0 +1,21 @@
+-- What a pair of the table of a word is.
+use Rattle.std.specs.Prelude.{◌-◌, List, map, option_map}
+use Rattle.std.specs.List.{range_with_len}
+use Rattle.client_registry.specs.IdNumber.{id_number}
+use Rattle.client_registry.specs.declared.doc_id.DocId.{DocId}
+use Rattle.simulated_frames.specs.Views.{origin_view}
+use Rattle.sse_simulator.specs.Leaks.{Home, ListedLeak}
+use Rattle.leakage_model.specs.declared.pair.Pair.{Pair}
+use Rattle.leakage_model.specs.declared.pair.HomeAt.{HomeAt}
+
+-- a pair, by its identifier
+abbrev pub pair_view : DocId × Pair → ListedLeak
+pair_view e = record { id = id_number e.0; origin = origin_view e.1.origin; number = option_map origin_view e.1.number; revoked = e.1.revoked }
+
+-- the pairs of a table
+abbrev pub pairs_in : List (DocId × Pair) → List ListedLeak
+pairs_in entries = map pair_view entries
+
+-- the entry of a word, and the positions of its blocks
+abbrev pub home_view : HomeAt → Home
+home_view home = record { entry = home.entry; blocks = range_with_len home.first (home.end - home.first) }

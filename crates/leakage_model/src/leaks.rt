@@ -1,0 +1,135 @@
+ghost use Rattle.std.specs.Prelude.{◌≡◌, ◌+◌, ◌<◌, ◌^◌, ℕ, All, IfOk, List, None, length, map};
+ghost use Rattle.client_registry.specs.Acceptance.{size_refusal};
+ghost use Rattle.client_registry.specs.Command.{Command as Meant, Delete as deletes, Search as searches};
+ghost use Rattle.client_registry.specs.IdNumber.{id_number};
+ghost use Rattle.client_registry.specs.Numbered.{words_by_number};
+ghost use Rattle.client_registry.specs.Registered.{known_words};
+ghost use Rattle.client_registry.specs.Run.{at_first};
+ghost use Rattle.client_registry.specs.Setup.{Setup};
+ghost use Rattle.client_registry.specs.WordBytes.{word_bytes};
+ghost use Rattle.command_history.specs.Commands.{command_of};
+ghost use Rattle.leakage_model.specs.Following.{Follows};
+ghost use Rattle.simulated_frames.specs.Views.{leak_view, word_view};
+ghost use Rattle.sse_leakage.specs.Leaking as leakage;
+ghost use Rattle.sse_simulator.specs.Leaks.{DeleteLeak};
+
+use crate::setup_size::size_of_setup;
+use crate::trail::Trail;
+use client_registry::{DocId, Word};
+use command_history::{Command, History};
+use simulated_frames::{Leak, WordLeak};
+use sse_frames::Items;
+use std::alloc::{AllocError, Global};
+
+/// What the setup of a history leaks.
+fn setup_leak(history: &History) -> Leak
+    requires { size_refusal history.now.setup ≡ None }
+    ensures { leak_view result ≡ leakage.leak_of_setup 0 history.now.setup }
+{
+    let size = size_of_setup(history);
+    Leak::Setup {
+        b: history.b(),
+        big: history.big(),
+        words: size.padded_words,
+        blocks: size.padded_blocks,
+    }
+}
+
+impl Trail {
+    /// What the next command would leak.
+    pub fn leak(&self, alloc: Global, command: &Command) -> Result<Leak, AllocError>
+        ensures { (s : Setup) (past : List Meant) → Follows self.now s past → IfOk result (λ leak. leak_view leak ≡ leakage.leak_by at_first s past (command_of command.now)) }
+    {
+        match command {
+            Command::Add(doc) => {
+                let words = self.words_added(alloc, doc.words(), doc.id())?;
+                Ok(Leak::Add { words })
+            }
+            Command::Delete(id) => {
+                let words = self.document_deleted(alloc, *id)?;
+                Ok(Leak::Delete { words })
+            }
+            Command::Search(word) => self.search_leak(alloc, word),
+        }
+    }
+
+    /// What an addition with this identifier would show of each of these words.
+    fn words_added(
+        &self,
+        alloc: Global,
+        words: &[Word],
+        id: DocId,
+    ) -> Result<Items<WordLeak>, AllocError>
+        ensures { (s : Setup) (past : List Meant) → Follows self.now s past → IfOk result (λ leaks. map word_view leaks ≡ map (leakage.word_added at_first s past (id_number id)) (map word_bytes words.now)) }
+    {
+        let mut leaks = Items::new(alloc);
+        for word in words {
+            leaks.push(self.word_added(word, id))?;
+        }
+        Ok(leaks)
+    }
+
+    /// What a deletion of this identifier would show of each word of its live document.
+    fn document_deleted(&self, alloc: Global, id: DocId) -> Result<Items<WordLeak>, AllocError>
+        ensures { (s : Setup) (past : List Meant) → Follows self.now s past → IfOk result (λ leaks. DeleteLeak (map word_view leaks) ≡ leakage.leak_by at_first s past (deletes (id_number id))) }
+    {
+        match self.registry.get(id) {
+            Some(doc) => self.words_deleted(alloc, doc.numbers, id),
+            None => Ok(Items::new(alloc)),
+        }
+    }
+
+    /// What a deletion of this identifier would show of the words of these numbers.
+    fn words_deleted(
+        &self,
+        alloc: Global,
+        numbers: &[u32],
+        id: DocId,
+    ) -> Result<Items<WordLeak>, AllocError>
+        requires { All (λ n. n < length (known_words self.now.registry)) numbers.now }
+        ensures { (s : Setup) (past : List Meant) → Follows self.now s past → IfOk result (λ leaks. map word_view leaks ≡ map (leakage.word_deleted at_first s past (id_number id)) (words_by_number (known_words self.now.registry) numbers.now)) }
+    {
+        let mut leaks = Items::new(alloc);
+        for number in numbers {
+            let word = self.registry.word(*number as usize);
+            leaks.push(self.word_deleted(word, id))?;
+        }
+        Ok(leaks)
+    }
+
+    /// What a search of this word would show.
+    fn search_leak(&self, alloc: Global, word: &Word) -> Result<Leak, AllocError>
+        ensures { (s : Setup) (past : List Meant) → Follows self.now s past → IfOk result (λ leak. leak_view leak ≡ leakage.leak_by at_first s past (searches (word_bytes word.now))) }
+    {
+        match self.words.get(word) {
+            Some(trail) => trail.search_leak(alloc),
+            None => Ok(Leak::Search {
+                earlier: None,
+                home: None,
+                listed: Items::new(alloc),
+                found: Items::new(alloc),
+            }),
+        }
+    }
+}
+
+/// What each command of a history leaks, the setup first: the shape of the index and its counts; of each word of an update
+/// what is sent for it and whether it was searched before; of a search the first search of its word, where the setup holds it, and
+/// what is listed with it and found. The history's setup has an index, and its commands can be numbered in 32 bits. It takes time in
+/// proportion to the commands and to the pairs that they name or find.
+///
+/// Error: where there is no memory.
+pub fn leak(alloc: Global, history: &History) -> Result<Items<Leak>, AllocError>
+    requires sized { size_refusal history.now.setup ≡ None }
+    requires numbered { length history.now.later + 1 < 2 ^ 32 }
+    ensures { IfOk result (λ leaks. map leak_view leaks ≡ leakage.leak at_first history.now) }
+{
+    let mut leaks = Items::new(alloc);
+    leaks.push(setup_leak(history))?;
+    let mut trail = Trail::begin(alloc, history)?;
+    for command in history.commands() {
+        leaks.push(trail.leak(alloc, command)?)?;
+        trail.take(command)?;
+    }
+    Ok(leaks)
+}

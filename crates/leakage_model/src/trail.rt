@@ -1,0 +1,126 @@
+ghost use Rattle.std.specs.Prelude.{◌≡◌, ◌+◌, ◌<◌, ◌^◌, ◌++◌, ◌∷◌, [], IfOk, List, None, OnOk, option_map, true};
+ghost use Rattle.client_registry.specs.Acceptance.{size_refusal};
+ghost use Rattle.client_registry.specs.Command.{Command as Meant};
+ghost use Rattle.client_registry.specs.IdNumber.{id_number};
+ghost use Rattle.client_registry.specs.Live.{is_listed};
+ghost use Rattle.client_registry.specs.Registered.{Represents, facts};
+ghost use Rattle.client_registry.specs.Run.{at_first};
+ghost use Rattle.client_registry.specs.Setup.{Setup};
+ghost use Rattle.client_registry.specs.WordBytes.{word_bytes};
+ghost use Rattle.command_history.specs.Commands.{command_of};
+ghost use Rattle.command_history.specs.Refusal.{is_accepted_by};
+ghost use Rattle.leakage_model.specs.Following.{Follows};
+ghost use Rattle.simulated_frames.specs.Views.{origin_view, word_view};
+ghost use Rattle.sse_leakage.specs.Firsts.{first_search, number_origin};
+ghost use Rattle.sse_leakage.specs.Leaking.{word_added, word_deleted};
+
+use crate::setup_size::size_of_setup;
+use crate::trail_setup::{place_words, set_up_documents};
+use crate::trail_table::{Table, take};
+use client_registry::{DocId, Registry, Word};
+use command_history::{Command, History, register};
+use indexmap::IndexMap;
+use simulated_frames::{Origin, Sent, WordLeak};
+use std::alloc::{AllocError, Global};
+
+/// What a server can know after the commands of a history so far: of each word that one of them named its first search, where
+/// the setup holds it, and the pairs that are listed with it; and what a registry tells of them.
+#[derive(Drop)]
+pub struct Trail {
+    pub(crate) words: Table,
+    pub(crate) registry: Registry,
+    /// The number of the next command, the setup being command 0.
+    pub(crate) next: u32,
+}
+
+impl Trail {
+    /// The trail of the setup of a history alone, which has an index.
+    pub fn begin(alloc: Global, history: &History) -> Result<Trail, AllocError>
+        requires { size_refusal history.now.setup ≡ None }
+        ensures { IfOk result (λ trail. Follows trail history.now.setup []) }
+    {
+        let size = size_of_setup(history);
+        let docs = history.docs();
+        let mut words = IndexMap::with_hasher(alloc, history.keys());
+        place_words(&mut words, docs, size.shape)?;
+        set_up_documents(&mut words, docs, size.shape)?;
+        let registry = history.begun_registry(alloc)?;
+        Ok(Trail {
+            words,
+            registry,
+            next: 1,
+        })
+    }
+
+    /// Takes the next command of the history. Error: where there is no memory; then the trail is of no use.
+    pub fn take(&mut self, command: &Command) -> Result<(), AllocError>
+        requires accepted { is_accepted_by (facts self.old.registry) (command_of command.now) ≡ true }
+        requires numbered { self.old.next + 1 < 2 ^ 32 }
+        ensures { (s : Setup) (past : List Meant) → Follows self.old s past → OnOk result (Follows self.new s (past ++ command_of command.now ∷ [])) }
+    {
+        take(&mut self.words, &self.registry, command, self.next)?;
+        register(&mut self.registry, command)?;
+        self.next += 1;
+        Ok(())
+    }
+
+    /// The first search of a word, where there was one.
+    pub fn first_search(&self, word: &Word) -> Option<u32>
+        ensures { (s : Setup) (past : List Meant) → Follows self.now s past → result ≡ first_search at_first past (word_bytes word.now) }
+    {
+        self.words.get(word)?.first_search()
+    }
+
+    /// Whether the pair of a word and an identifier was ever listed.
+    pub fn is_listed(&self, word: &Word, id: DocId) -> bool
+        ensures { (s : Setup) (past : List Meant) → Follows self.now s past → result ≡ is_listed s past (word_bytes word.now) (id_number id) }
+    {
+        match self.words.get(word) {
+            Some(trail) => trail.is_listed(id),
+            None => false,
+        }
+    }
+
+    /// Where the revocation number of a pair was first sent, where it was.
+    pub fn number_origin(&self, word: &Word, id: DocId) -> Option<Origin>
+        ensures { (s : Setup) (past : List Meant) → Follows self.now s past → option_map origin_view result ≡ number_origin at_first s past (word_bytes word.now) (id_number id) }
+    {
+        match self.words.get(word) {
+            Some(trail) => trail.number_origin(id),
+            None => None,
+        }
+    }
+
+    /// What the commands so far make live, list and count.
+    pub fn registry(&self) -> &Registry
+        ensures { (s : Setup) (past : List Meant) → Follows self.now s past → Represents result.now s past }
+    {
+        &self.registry
+    }
+
+    /// What an addition of a document with this identifier and this word would show of the word.
+    pub(crate) fn word_added(&self, word: &Word, id: DocId) -> WordLeak
+        ensures { (s : Setup) (past : List Meant) → Follows self.now s past → word_view result ≡ word_added at_first s past (id_number id) (word_bytes word.now) }
+    {
+        match self.words.get(word) {
+            Some(trail) => trail.added_leak(id),
+            None => WordLeak {
+                sent: Sent::Entry,
+                seen: None,
+            },
+        }
+    }
+
+    /// What a deletion of the document with this identifier, which holds this word, would show of the word.
+    pub(crate) fn word_deleted(&self, word: &Word, id: DocId) -> WordLeak
+        ensures { (s : Setup) (past : List Meant) → Follows self.now s past → word_view result ≡ word_deleted at_first s past (id_number id) (word_bytes word.now) }
+    {
+        match self.words.get(word) {
+            Some(trail) => trail.deleted_leak(id),
+            None => WordLeak {
+                sent: Sent::Fresh,
+                seen: None,
+            },
+        }
+    }
+}
