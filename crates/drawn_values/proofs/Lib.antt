@@ -1,0 +1,10 @@
+pub mod Marked
+pub mod More
+pub mod SetupLaws
+pub mod CommandLaws
+pub mod FrontLaws
+pub mod NameLaws
+pub mod ListedLaws
+pub mod ProbedLaws
+pub mod OwnNames
+pub mod OnceLaws
