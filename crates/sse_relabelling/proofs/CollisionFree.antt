@@ -40,7 +40,8 @@ pub record AreOfOneClass (a b : Use) : Type 0 where
   pub epoch : a.name.epoch ≡ b.name.epoch
   pub no_pad : is_compared (class_of a.name) ≡ true → a.text ≡ None
 
-record IsOf (epoch : ℕ) (label pad : Class) (p : Position) : Type 0 where
+-- the names of a position are of these classes and of this epoch
+pub record IsOf (epoch : ℕ) (label pad : Class) (p : Position) : Type 0 where
   pub label_is : class_of p.label ≡ label
   pub pad_is : class_of p.pad ≡ pad
   pub label_epoch : p.label.epoch ≡ epoch
@@ -69,13 +70,13 @@ blocks_are epoch s first (w ∷ ws) =
     AllByRecursion-append (IsOf epoch PlaceTags BlockPads) (map (block_position epoch s first w) (range_with_len 0 (word_blocks s w))) (blocks_from epoch s (first + word_blocks s w) ws)
     (each_is epoch s first w (range_with_len 0 (word_blocks s w))) (blocks_are epoch s (first + word_blocks s w) ws)
 
-entry_positions_are : (epoch : ℕ) (s : Setup) → AllByRecursion (IsOf epoch ListLabels CellPads) (entry_positions epoch s)
+pub entry_positions_are : (epoch : ℕ) (s : Setup) → AllByRecursion (IsOf epoch ListLabels CellPads) (entry_positions epoch s)
 entry_positions_are epoch s =
     AllByRecursion-append (IsOf epoch ListLabels CellPads) (entries_from epoch s 0 (setup_words s)) (map (dummy_entry epoch s) (range_with_len 0 (dummy_entries s)))
     (entries_are epoch s 0 (setup_words s))
     (AllByRecursion-each (IsOf epoch ListLabels CellPads) (dummy_entry epoch s) (λ i. record { label_is = refl; pad_is = refl; label_epoch = refl; pad_epoch = refl }) (range_with_len 0 (dummy_entries s)))
 
-block_positions_are : (epoch : ℕ) (s : Setup) → AllByRecursion (IsOf epoch PlaceTags BlockPads) (block_positions epoch s)
+pub block_positions_are : (epoch : ℕ) (s : Setup) → AllByRecursion (IsOf epoch PlaceTags BlockPads) (block_positions epoch s)
 block_positions_are epoch s =
     AllByRecursion-append (IsOf epoch PlaceTags BlockPads) (blocks_from epoch s 0 (setup_words s)) (map (dummy_block epoch s) (range_with_len 0 (dummy_blocks s)))
     (blocks_are epoch s 0 (setup_words s))
@@ -155,7 +156,8 @@ module _ (o : Offsets) (run other : Run) (t : Table) (history : IsHistory run) (
           (even_additions o run.setup other.setup past past2 d d2 same)
           (λ w w2. (record { class = refl; epoch = refl; no_pad = λ compared. refl }, (record { class = refl; epoch = refl; no_pad = λ compared. absurd (true≢false (sym compared)) }, tt))))
 
-  classes : Paired AreOfOneClass us vs
+  -- at each place the two names are of one class
+  pub classes : Paired AreOfOneClass us vs
   classes =
       paired-append AreOfOneClass (drawn_uses o run ranks) (probed_uses o run) (drawn_uses o other ranks) (probed_uses o other)
       (paired-flat_map AreOfOneClass (flat_map (uses_in ranks)) (flat_map (uses_in ranks)) (drawings o run) (drawings o other)
@@ -180,7 +182,7 @@ module _ (o : Offsets) (run other : Run) (t : Table) (history : IsHistory run) (
       (λ a b each searched. each (a.name.word, searched_together o run other leaks a.name.word searched) refl)
 
   -- any two names: those that are drawn differ, and those that are looked up are of searched words
-  matched : Paired (λ a b. Paired (AreMatched a b) us vs) us vs
+  pub matched : Paired (λ a b. Paired (AreMatched a b) us vs) us vs
   matched =
       let drawn1 = drawn_uses o run ranks in
       let drawn2 = drawn_uses o other ranks in

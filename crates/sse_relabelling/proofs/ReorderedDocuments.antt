@@ -7,7 +7,7 @@ use Rattle.client_registry.proofs.DistinctLaws.{list_any-first_seen}
 use Rattle.client_registry.specs.Command.{Command, Add, Delete, Search, is_update}
 use Rattle.client_registry.specs.Document.{Document}
 use Rattle.client_registry.specs.Documents.{all_words, has_word, ids_with}
-use Rattle.client_registry.specs.Live.{after, live, holds_pair, adds_pair, is_listed, newly_listed, counter}
+use Rattle.client_registry.specs.Live.{after, live, holds_pair, adds_pair, is_listed, newly_listed, added_list, counter, shown}
 use Rattle.client_registry.specs.Over.{over}
 use Rattle.client_registry.specs.Setup.{Setup, setup_words, setup_list}
 use Rattle.sse_model.specs.Wire.{words_live}
@@ -144,5 +144,12 @@ module _ (s s2 : Setup) (documents : Paired HasSameWords s.documents s2.document
   newly_same word past past2 (Search v) (Add d) before same = absurd same
   newly_same word past past2 (Search v) (Delete id) before same = absurd same
 
+  pub added_list_same : (past past2 : List Command) → Paired IsSameCommand past past2 → (word : List ℕ) → added_list s past word ≡ added_list s2 past2 word
+  added_list_same past past2 same word = ap (flat_map (λ ids. ids)) (over_same (newly_listed s word) (newly_listed s2 word) (newly_same word) [] [] past past2 tt same)
+
   pub counter_same : (past past2 : List Command) → Paired IsSameCommand past past2 → (word : List ℕ) → counter s past word ≡ counter s2 past2 word
-  counter_same past past2 same word = ap (λ lists. length (flat_map (λ ids. ids) lists)) (over_same (newly_listed s word) (newly_listed s2 word) (newly_same word) [] [] past past2 tt same)
+  counter_same past past2 same word = ap length (added_list_same past past2 same word)
+
+  pub shown_same : (past past2 : List Command) → Paired IsSameCommand past past2 → (word : List ℕ) → shown s past word ≡ shown s2 past2 word
+  shown_same past past2 same word =
+      λ i. filter (λ id. holds_same (live s.documents past) (live s2.documents past2) (live_same s.documents s2.documents documents past past2 same) word id i) (setup_list_same word i ++ added_list_same past past2 same word i)

@@ -49,7 +49,7 @@ pub record Fits (t : Table) (ranks : List ℕ) (p q : Position) : Type 0 where
   pub own : length (t p.pad) ≡ length (p.clear ranks)
   pub other : length (q.clear ranks) ≡ length (p.clear ranks)
 
-abbrev AreFitting : Table → List ℕ → Drawing → Drawing → Type 0
+abbrev pub AreFitting : Table → List ℕ → Drawing → Drawing → Type 0
 AreFitting t ranks (ForEntry p) (ForEntry q) = Fits t ranks p q
 AreFitting t ranks (ForBlock p) (ForBlock q) = Fits t ranks p q
 AreFitting t ranks _ _ = Unit {0}
@@ -250,7 +250,7 @@ module _ (o : Offsets) (run other : Run) (t : Table) (history2 : IsHistory other
         (AllByRecursion-from_members (IsValue run.setup.shape t) names
         (λ n within. values n (Contains-append_right names_of_setup names_later n (contains_over (drawn_by o.epoch run.setup) run.later past (Add d) beside.rest n beside.parts within))))
 
-    fitting : Paired (Paired (AreFitting t ranks)) (drawings o run) (drawings o other)
+    pub fitting : Paired (Paired (AreFitting t ranks)) (drawings o run) (drawings o other)
     fitting =
         let e = entry_positions o.epoch run.setup in
         let e2 = entry_positions o.epoch other.setup in
