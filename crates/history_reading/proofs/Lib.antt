@@ -1,0 +1,3 @@
+mod CommandRefused
+pub mod Meaning
+mod LinesTaken

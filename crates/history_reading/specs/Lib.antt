@@ -1,0 +1,4 @@
+pub mod Reads
+pub mod Meant
+pub mod Numbered
+pub mod Stages
