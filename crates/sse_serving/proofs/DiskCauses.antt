@@ -88,9 +88,6 @@ module _ (sound mid sound2 : Type 0) (faults middle now : ℕ) where
   steady-fell : IsSteady sound mid faults middle → HasFallen mid middle now → HasFallen sound faults now
   steady-fell a b = record { later = omega (arith, a.count, b.later); rose = λ s. subst (λ k. Rose k now) a.count (b.rose (a.stays s)) }
 
-  fell-later : HasFallen sound faults middle → middle ≤ now → HasFallen sound faults now
-  fell-later a later = record { later = omega (arith, a.later, later); rose = λ s. omega (arith, a.rose s, later) }
-
   steady-far : IsSteady sound mid faults middle → SoFar mid sound2 middle now → SoFar sound sound2 faults now
   steady-far a (inl b) = inl (steady-steady a b)
   steady-far a (inr b) = inr (steady-fell a b)
@@ -103,26 +100,3 @@ module _ (sound mid sound2 : Type 0) (faults middle now : ℕ) where
   ends-after OutOfMemory a b = steady-far a b
   ends-after BadFrame a b = steady-steady a b
   ends-after StoreFault a b = steady-fell a b
-
-  pub far-far : SoFar sound mid faults middle → SoFar mid sound2 middle now → SoFar sound sound2 faults now
-  far-far (inl a) b = steady-far a b
-  far-far (inr a) (inl b) = inr (fell-later a (omega (arith, b.count)))
-  far-far (inr a) (inr b) = inr (fell-later a b.later)
-
-  pub far-end : (end : ConnEnd) → SoFar sound mid faults middle → EndsDisk mid sound2 middle now end → SoFar sound sound2 faults now
-  far-end Closed a b = far-far a (inl b)
-  far-end CutShort a b = far-far a (inl b)
-  far-end ReadFault a b = far-far a (inl b)
-  far-end WriteFault a b = far-far a b
-  far-end OutOfMemory a b = far-far a b
-  far-end BadFrame a b = far-far a (inl b)
-  far-end StoreFault a b = far-far a (inr b)
-
-  pub far-fell : SoFar sound mid faults middle → HasFallen mid middle now → HasFallen sound faults now
-  far-fell (inl a) b = steady-fell a b
-  far-fell (inr a) b = fell-later a b.later
-
--- the count never falls
-pub far-later : (sound sound2 : Type 0) (faults now : ℕ) → SoFar sound sound2 faults now → faults ≤ now
-far-later sound sound2 faults now (inl a) = omega (arith, a.count)
-far-later sound sound2 faults now (inr a) = a.later

@@ -1,18 +1,18 @@
 -- The pages of a search, one after the other.
-use Rattle.std.proofs.Common.{◌≡◌, ◌≢◌, ℕ, ◌<◌, Bool, true, false, List, [], ◌∷◌, ◌++◌, length, take, drop, map, None, Some, Ok, Err, refl, sym, ap, subst, ◌∙◌, arith, append_assoc, length-append}
+use Rattle.std.proofs.Common.{◌≡◌, ℕ, Bool, true, false, List, [], ◌∷◌, ◌++◌, length, take, drop, map, Ok, Err, refl, sym, ap, subst, ◌∙◌, arith, append_assoc, length-append}
 use Rattle.std.specs.Prelude.{flat_map, if◌then◌else◌, IsErrAnd}
 use Rattle.std.specs.declared.result.Result.{Result}
 use Rattle.std.specs.declared.option.Option.{Option}
 use Rattle.std.specs.Io.KnownBytes.{append_known}
 use Rattle.std.proofs.Math.Seq.{take-append_seam}
-use Rattle.std.proofs.lemmas.List.{append-nil, length-take-le, take-append-le}
+use Rattle.std.proofs.lemmas.List.{append-nil, take-append-le}
 use Rattle.keyed_fn.specs.KeyedFn.{KeyedFn}
 use Rattle.sse_outside.proofs.Known.{append_known-twice}
 use Rattle.sse_outside.specs.Fronts.{TookFront}
 use Rattle.sse_frames.specs.Replies.{ReplyText, Page, reply_bytes}
 use Rattle.sse_frames.specs.Sending.{pages}
 use Rattle.server_core.specs.State.{ServerState}
-use Rattle.server_core.specs.Walk.{HasPage, IsWalk, contents_of, rest_of}
+use Rattle.server_core.specs.Walk.{HasPage, contents_of, rest_of}
 use Rattle.server_core.specs.declared.walk.Walk.{Walk}
 use Rattle.sse_link.specs.declared.due.Due.TheVariants as dues
 use Rattle.sse_link.proofs.Pages.{waiting-first}
@@ -52,13 +52,6 @@ pages_said f s count walk page has long =
     ∙ ap (λ l. reply_bytes (Page walk.is_over (take count page)) ++ l) (joined-reply_bytes (behind_page f s walk))
 
 -- Replies that are written piece by piece.
-
-pub append_known-none : (known : Option (List ℕ)) → known ≡ append_known known []
-append_known-none None = refl
-append_known-none (Some l) = ap Some (sym (append-nil l))
-
-pub saying-first : (written : Option (List ℕ)) (all : List ℕ) → IsSaying written written all all
-saying-first written all = record { said = []; all_is = refl; written_is = append_known-none written }
 
 pub saying-next : (written0 written written2 : Option (List ℕ)) (all rest piece behind : List ℕ) → IsSaying written0 written all rest → rest ≡ piece ++ behind → written2 ≡ append_known written piece
     → IsSaying written0 written2 all behind
@@ -125,18 +118,3 @@ module _ (f : KeyedFn) (s : ServerState) (count : ℕ) (walk : Walk) (page : Lis
   next-page ids more grown handed =
       subst (λ l. IsSaying written0 written2 all (bytes_of (pages l))) handed
       (subst (λ b. IsSaying written0 written2 all (bytes_of (if b then [] else pages (rest_of f (contents_of s) walk)))) more (said-page grown))
-
--- A walk that goes on gives less from then on.
-
-less_left : (before piece behind : List ℕ) (over : Bool) → before ≢ [] → before ≡ piece ++ behind → (over ≡ true → behind ≡ []) → (over ≡ false → 0 < length piece) → length behind < length before
-less_left [] piece behind over some is over_is full = absurd (some refl)
-less_left (x ∷ xs) piece behind true some is over_is full = omega (arith, ap length (over_is refl))
-less_left (x ∷ xs) piece behind false some is over_is full = omega (arith, ap length is, length-append piece behind, full refl)
-
--- the identifiers that a walk still gives after it handed out a page
-pub walk-less : (f : KeyedFn) (s : ServerState) (walk walk2 : Walk) (count : ℕ) (page : List ℕ) → IsWalk f (contents_of s) walk → walk.is_over ≡ false → IsWalk f (contents_of s) walk2
-    → rest_of f (contents_of s) walk ≡ take count page ++ rest_of f (contents_of s) walk2 → (walk2.is_over ≡ false → count ≡ length page) → length page ≡ 8192
-    → length (rest_of f (contents_of s) walk2) < length (rest_of f (contents_of s) walk)
-walk-less f s walk walk2 count page is goes_on is2 handed full long =
-    less_left (rest_of f (contents_of s) walk) (take count page) (rest_of f (contents_of s) walk2) walk2.is_over (is.more goes_on) handed is2.over
-    (λ more. omega (arith, length-take-le count page (omega (arith, full more)), full more, long))

@@ -18,6 +18,7 @@ mod outgoing;
 mod saying;
 mod script;
 mod serving;
+mod tcp_conns;
 
 pub use conn_end::ConnEnd;
 pub use connection::serve_connection;
@@ -29,3 +30,4 @@ pub use mem_conns::MemConns;
 pub use outgoing::Outgoing;
 pub use script::Script;
 pub use serving::{ServeFault, serve};
+pub use tcp_conns::TcpConns;
