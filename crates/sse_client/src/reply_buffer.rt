@@ -1,4 +1,4 @@
-ghost use Rattle.std.specs.Prelude.{◌≡◌, ◌≢◌, ◌↔◌, ◌++◌, ◌∷◌, [], true, IsTrue, IfErr, OnErr, OnOk};
+ghost use Rattle.std.specs.Prelude.{◌≡◌, ◌≢◌, ◌↔◌, ◌++◌, ◌∷◌, [], true, IsTrue, IfErr, IfOk, OnErr, OnOk};
 ghost use Rattle.std.specs.Option.{option_map};
 ghost use Rattle.link_events.specs.Events.{Received};
 ghost use Rattle.run_texts.specs.Causes.{PeerCause};
@@ -34,7 +34,9 @@ impl Model for ReplyBuffer {
 
 impl ReplyBuffer {
     /// A buffer into which nothing was received.
-    pub(crate) fn new(alloc: Global) -> Result<ReplyBuffer, AllocError> {
+    pub(crate) fn new(alloc: Global) -> Result<ReplyBuffer, AllocError>
+        ensures { IfOk result (λ received. received ≡ []) }
+    {
         Ok(ReplyBuffer {
             bytes: vec![in alloc; 0; REPLY_ROOM]?,
             size: 0,

@@ -264,6 +264,7 @@ pub fn run_on_bytes<K: Keyed + Copy>(
     source: &mut SteadySource,
     sink: &mut SteadySink,
 ) -> u8
+    ensures words_source { asks.mode_of (map (λ word. string_bytes word) words.now) ≡ None → source.new ≡ source.old }
     ensures words_status { asks.mode_of (map (λ word. string_bytes word) words.now) ≡ None → result ≡ 2 }
     ensures words_line { (asks.mode_of (map (λ word. string_bytes word) words.now) ≡ Some asks.Run → ⊥) →
         TookOrRose (⟦<SteadySink as Sink>⟧.written sink.old) (⟦<SteadySink as Sink>⟧.written sink.new) (text_of (Stopped BadWords))
@@ -272,6 +273,7 @@ pub fn run_on_bytes<K: Keyed + Copy>(
         PrintsAsRun (keyed_fn K.prf K.pad) bytes (⟦<SteadySink as Sink>⟧.written sink.old) (⟦<SteadySink as Sink>⟧.written sink.new) result) }
     ensures headline { asks.mode_of (map (λ word. string_bytes word) words.now) ≡ Some asks.Run → result ≢ 7 → IfSome (⟦<SteadySource as Source>⟧.remaining source.old) (λ bytes.
         PrintsAsMeant (keyed_fn K.prf K.pad) bytes (⟦<SteadySink as Sink>⟧.written sink.old) (⟦<SteadySink as Sink>⟧.written sink.new) result) }
+    ensures at_end { result ≤ 1 → IsAtEnd (⟦<SteadySource as Source>⟧.remaining source.new) }
     ensures no_fault { (result ≢ 3) × (result ≢ 4) × (result ≢ 5) }
     ensures known { (result ≤ 9) × (result ≢ 6) }
 {
