@@ -1,69 +1,90 @@
-ghost use Rattle.std.specs.Prelude.{◌≡◌, ◌≤◌, IfOk, IfSome, OnOk, length, true, vec_len};
+ghost use Rattle.std.specs.Prelude.{◌≡◌, ◌≤◌, IfOk, IfSome, length};
 ghost use Rattle.sse_frames.specs.Frames.{InGrammar, frame_bytes};
 ghost use Rattle.sse_frames.specs.FrameViews.{frame_view};
 
+use crate::frames::{BEGIN, DICT, END, HELLO, SEARCH};
 use keyed_fn::Toy;
 use server_core::Server;
 use server_tables::BucketTables;
 use sse_frames::{Frame, REPLY_ROOM, read_frame, write_reply};
 use sse_link::{
-    Due, FULL_PAGE, Fail, Link, LinkFault, Loopback, Mark, NoMemory, Passed, ScriptedLink,
-    SteadyLoopback, answer_bytes,
+    Due, FULL_PAGE, Fail, Link, Loopback, Mark, Passed, ScriptedLink, SteadyLoopback, answer_bytes,
 };
-use std::alloc::Global;
+use std::alloc::{AllocError, Global};
 use std::test::Fail as Failed;
 
-// The frames of a setup of the document `1 a` with cells of one identifier and blocks of one, under the key of
-// 32 zero bytes and the toy keyed function, and of a search for `a`: computed by hand.
+/// What is sent in a row to a new server: a search before there is a setup, a setup, and a search.
+const SENT: [&[u8]; 7] = [SEARCH, HELLO, BEGIN, DICT, END, BEGIN, SEARCH];
 
-const HELLO: &[u8] = b"\x00\x00\x00\x01\x01";
+/// What comes back, and then all that passed: the mark of each frame before its bytes.
+const ANSWERED: &str = "\
+000000018a
+000000058100000000
+000000058200000000
+000000058200000001
+000000058200000002
+000000058300000003
+0000000c850100010000000000000001
+stepped 000000a108c3c4c5c6c7c8c9cacbcccdcecfd0d1d2d3d4d5d6d7d8d9dadbdcdddedfe0e1e2c4c5c6c7c8c9cacbcccdcecfd0d1d2d3d4d5d6d7d8d9dadbdcdddedfe0e1e2e3c5c6c7c8c9cacbcccdcecfd0d1d2d3d4d5d6d7d8d9dadbdcdddedfe0e1e2e3e4c6c7c8c9cacbcccdcecfd0d1d2d3d4d5d6d7d8d9dadbdcdddedfe0e1e2e3e4e5c7c8c9cacbcccdcecfd0d1d2d3d4d5d6d7d8d9dadbdcdddedfe0e1e2e3e4e5e6
+received 000000018a
+stepped 0000000101
+received 000000058100000000
+stepped 000000110200000000000100010000000100000000
+received 000000058200000000
+stepped 00000022030000000100090001c3c5c7c9cbcdcfd1d3d5d7d9dbdddfe1c4c5c6c7c8c9cacbcd
+received 000000058200000001
+stepped 000000050500000002
+received 000000058200000002
+stepped 000000110200000000000100010000000100000000
+received 000000058300000003
+stepped 000000a108c3c4c5c6c7c8c9cacbcccdcecfd0d1d2d3d4d5d6d7d8d9dadbdcdddedfe0e1e2c4c5c6c7c8c9cacbcccdcecfd0d1d2d3d4d5d6d7d8d9dadbdcdddedfe0e1e2e3c5c6c7c8c9cacbcccdcecfd0d1d2d3d4d5d6d7d8d9dadbdcdddedfe0e1e2e3e4c6c7c8c9cacbcccdcecfd0d1d2d3d4d5d6d7d8d9dadbdcdddedfe0e1e2e3e4e5c7c8c9cacbcccdcecfd0d1d2d3d4d5d6d7d8d9dadbdcdddedfe0e1e2e3e4e5e6
+received 0000000c850100010000000000000001
+";
 
-const BEGIN: &[u8] =
-    b"\x00\x00\x00\x11\x02\x00\x00\x00\x00\x00\x01\x00\x01\x00\x00\x00\x01\x00\x00\x00\x00";
+/// Bytes that are no frame: an unknown kind, a length of 0, a byte after a field, one after a frame, and a frame cut short.
+const BAD_BYTES: [&[u8]; 5] = [
+    b"\x00\x00\x00\x01\x09",
+    b"\x00\x00\x00\x00",
+    b"\x00\x00\x00\x02\x01\x00",
+    b"\x00\x00\x00\x01\x01\x00",
+    b"\x00\x00\x00\x05\x05\x00",
+];
 
-const DICT: &[u8] =
-    b"\x00\x00\x00\x22\x03\x00\x00\x00\x01\x00\x09\x00\x01\xc3\xc5\xc7\xc9\xcb\xcd\xcf\xd1\xd3\xd5\xd7\xd9\xdb\xdd\xdf\xe1\xc4\xc5\xc6\xc7\xc8\xc9\xca\xcb\xcd";
+/// The reply to each.
+const REFUSED: &str = "\
+000000028902
+000000028901
+000000028903
+000000028901
+000000028901
+";
 
-const END: &[u8] = b"\x00\x00\x00\x05\x05\x00\x00\x00\x02";
-
-const SEARCH: &[u8] =
-    b"\x00\x00\x00\xa1\x08\xc3\xc4\xc5\xc6\xc7\xc8\xc9\xca\xcb\xcc\xcd\xce\xcf\xd0\xd1\xd2\xd3\xd4\xd5\xd6\xd7\xd8\xd9\xda\xdb\xdc\xdd\xde\xdf\xe0\xe1\xe2\xc4\xc5\xc6\xc7\xc8\xc9\xca\xcb\xcc\xcd\xce\xcf\xd0\xd1\xd2\xd3\xd4\xd5\xd6\xd7\xd8\xd9\xda\xdb\xdc\xdd\xde\xdf\xe0\xe1\xe2\xe3\xc5\xc6\xc7\xc8\xc9\xca\xcb\xcc\xcd\xce\xcf\xd0\xd1\xd2\xd3\xd4\xd5\xd6\xd7\xd8\xd9\xda\xdb\xdc\xdd\xde\xdf\xe0\xe1\xe2\xe3\xe4\xc6\xc7\xc8\xc9\xca\xcb\xcc\xcd\xce\xcf\xd0\xd1\xd2\xd3\xd4\xd5\xd6\xd7\xd8\xd9\xda\xdb\xdc\xdd\xde\xdf\xe0\xe1\xe2\xe3\xe4\xe5\xc7\xc8\xc9\xca\xcb\xcc\xcd\xce\xcf\xd0\xd1\xd2\xd3\xd4\xd5\xd6\xd7\xd8\xd9\xda\xdb\xdc\xdd\xde\xdf\xe0\xe1\xe2\xe3\xe4\xe5\xe6";
-
-/// The reply to a server's next number 0, and to 1.
-const NEXT_0: &[u8] = b"\x00\x00\x00\x05\x81\x00\x00\x00\x00";
-
-const NEXT_1: &[u8] = b"\x00\x00\x00\x05\x81\x00\x00\x00\x01";
-
-/// What is sent in a row, and the reply to it.
-const REPLIES: [(&[u8], &[u8]); 7] = [
-    (SEARCH, b"\x00\x00\x00\x01\x8a"),
-    (HELLO, NEXT_0),
-    (BEGIN, b"\x00\x00\x00\x05\x82\x00\x00\x00\x00"),
-    (DICT, b"\x00\x00\x00\x05\x82\x00\x00\x00\x01"),
-    (END, b"\x00\x00\x00\x05\x82\x00\x00\x00\x02"),
-    (BEGIN, b"\x00\x00\x00\x05\x83\x00\x00\x00\x03"),
+/// What comes back over links whose second send and second receive fail, the server having taken the frame or not.
+const CUT: [(bool, &str); 2] = [
     (
-        SEARCH,
-        b"\x00\x00\x00\x0c\x85\x01\x00\x01\x00\x00\x00\x00\x00\x00\x00\x01",
+        false,
+        "000000058100000000\nnot sent\nnot received\n000000058100000000\n",
+    ),
+    (
+        true,
+        "000000058100000000\nnot sent\nnot received\n000000058100000001\n",
     ),
 ];
 
-/// Bytes that are no frame, and the reply to them: an unknown kind, a length of 0, a byte after a field, one after a
-/// frame, and a frame cut short.
-const BAD_BYTES: [(&[u8], &[u8]); 5] = [
-    (b"\x00\x00\x00\x01\x09", b"\x00\x00\x00\x02\x89\x02"),
-    (b"\x00\x00\x00\x00", b"\x00\x00\x00\x02\x89\x01"),
-    (b"\x00\x00\x00\x02\x01\x00", b"\x00\x00\x00\x02\x89\x03"),
-    (b"\x00\x00\x00\x01\x01\x00", b"\x00\x00\x00\x02\x89\x01"),
-    (b"\x00\x00\x00\x05\x05\x00", b"\x00\x00\x00\x02\x89\x01"),
-];
+/// Replies to be played back: one, the four bytes of a length out of range, and the end inside a reply.
+const PLAYED: &[u8] = b"\x00\x00\x00\x05\x81\x00\x00\x00\x09\x00\x01\x00\x05\x00\x00\x00\x02\x89";
 
-/// Room for a reply, in bytes.
-fn zeros(alloc: Global, len: usize) -> Result<Vec<u8>, NoMemory>
-    ensures { IfOk result (λ v. vec_len v ≡ len) }
-{
-    vec![in alloc; 0u8; len]
-}
+/// What comes back, and then all that passed.
+const PLAYED_BACK: &str = "\
+000000058100000009
+00010005
+not received
+sent 0000000101
+received 000000058100000009
+sent 0000000101
+received 00010005
+sent 0000000101
+";
 
 /// The frame that all of the bytes are.
 fn whole(bytes: &[u8]) -> Option<Frame<'_>>
@@ -82,35 +103,78 @@ fn whole(bytes: &[u8]) -> Option<Frame<'_>>
     }
 }
 
-/// Sends bytes that are a frame.
-fn send<L: Link>(link: &mut L, bytes: &[u8]) -> Result<(), LinkFault>
-    ensures { OnOk result (L.reply_due link.new ≡ true) }
+/// Sends bytes that are a frame and receives the reply, whose length it says; else which of the calls failed.
+fn exchange<L: Link>(link: &mut L, bytes: &[u8], out: &mut [u8]) -> Result<usize, &'static str>
+    requires { 65544 ≤ length out.old }
+    ensures { IfOk result (λ n. n ≤ 65544) }
 {
-    match whole(bytes) {
-        Some(_frame) => link.send(bytes),
-        None => Err(LinkFault::Cut),
+    let Some(_frame) = whole(bytes) else {
+        return Err("no frame");
+    };
+    match link.send(bytes) {
+        Ok(()) => {}
+        Err(_) => return Err("not sent"),
+    }
+    match link.recv(out) {
+        Ok(n) => Ok(n),
+        Err(_) => Err("not received"),
     }
 }
 
-/// A setup and two searches: each reply, and what is told of the first frame.
-#[test]
-fn a_steady_loopback_answers(rt: HostRuntime) -> Result<(), Failed> {
-    let mut link = SteadyLoopback::new(rt.alloc(), Toy, Server::new(BucketTables::new(rt.alloc())));
-    let mut out = zeros(rt.alloc(), REPLY_ROOM)?;
-    for (frame, reply) in REPLIES {
-        send(&mut link, frame)?;
-        let n = link.recv(&mut out)?;
-        assert_eq!(rt; &out[..n], reply);
+/// What comes back to a frame over a link: the reply in hexadecimal digits.
+fn reply<L: Link>(alloc: Global, link: &mut L, bytes: &[u8]) -> Result<String, AllocError> {
+    let mut out = [0; REPLY_ROOM];
+    match exchange(link, bytes, &mut out) {
+        Ok(n) => hex::encode(alloc, &out[..n]),
+        Err(why) => String::from_str(alloc, why),
     }
-    let passed = link.transcript();
-    assert_eq!(rt; passed.len(), 2 * REPLIES.len());
-    assert!(rt;
-        matches!(&passed[0], Passed::Sent { bytes, mark: Mark::Stepped } if bytes.as_slice() == SEARCH)
-    );
-    assert!(rt;
-        matches!(&passed[1], Passed::Received(bytes) if bytes.as_slice() == b"\x00\x00\x00\x01\x8a".as_slice())
-    );
-    Ok(())
+}
+
+/// The same of frames in a row, a line for each.
+fn replies<L: Link>(alloc: Global, link: &mut L, frames: &[&[u8]]) -> Result<String, AllocError> {
+    let mut lines = String::new(alloc);
+    for bytes in frames {
+        lines.push_str(reply(alloc, link, *bytes)?.as_str())?;
+        lines.push_str("\n")?;
+    }
+    Ok(lines)
+}
+
+/// What passed, a line for each frame and each reply.
+fn passed_lines(alloc: Global, passed: &[Passed]) -> Result<String, AllocError> {
+    let mut lines = String::new(alloc);
+    for event in passed {
+        let (way, bytes) = match event {
+            Passed::Sent { bytes, mark } => (way_of(*mark), bytes),
+            Passed::Received(bytes) => ("received ", bytes),
+        };
+        lines.push_str(way)?;
+        lines.push_str(hex::encode(alloc, bytes.as_slice())?.as_str())?;
+        lines.push_str("\n")?;
+    }
+    Ok(lines)
+}
+
+/// What is told of a frame that was sent.
+fn way_of(mark: Mark) -> &'static str {
+    match mark {
+        Mark::Unknown => "sent ",
+        Mark::Stepped => "stepped ",
+        Mark::LackedMemory => "lacked memory ",
+    }
+}
+
+/// A new server, which has taken nothing.
+fn server(alloc: Global) -> Server<BucketTables> {
+    Server::new(BucketTables::new(alloc))
+}
+
+/// A setup and two searches over a link that never fails, and all that passed.
+fn over_a_steady_link(alloc: Global) -> Result<String, AllocError> {
+    let mut link = SteadyLoopback::new(alloc, Toy, server(alloc));
+    let mut lines = replies(alloc, &mut link, &SENT)?;
+    lines.push_str(passed_lines(alloc, link.transcript())?.as_str())?;
+    Ok(lines)
 }
 
 /// The first reply of a server to bytes.
@@ -118,85 +182,65 @@ fn reply_to(
     alloc: Global,
     server: &mut Server<BucketTables>,
     bytes: &[u8],
-) -> Result<Vec<u8>, NoMemory> {
+) -> Result<String, AllocError> {
     let mut page = [0; FULL_PAGE];
-    let mut out = zeros(alloc, REPLY_ROOM)?;
+    let mut out = [0; REPLY_ROOM];
     let n = match answer_bytes(&Toy, server, bytes, &mut page) {
         Due::Single(reply) => write_reply(&reply, &mut out),
         due => due.write_first(&page, &mut out),
     };
-    out.truncate(n);
-    Ok(out)
+    hex::encode(alloc, &out[..n])
 }
 
-/// Each row by a server that stays as it is.
-#[test]
-fn bytes_that_are_no_frame_are_answered(rt: HostRuntime) -> Result<(), Failed> {
-    let mut server = Server::new(BucketTables::new(rt.alloc()));
-    for (bytes, reply) in BAD_BYTES {
-        let answer = reply_to(rt.alloc(), &mut server, bytes)?;
-        assert_eq!(rt; answer.as_slice(), reply);
+/// The first reply of one server to each of the bytes, a line each.
+fn replies_to(alloc: Global, texts: &[&[u8]]) -> Result<String, AllocError> {
+    let mut server = server(alloc);
+    let mut lines = String::new(alloc);
+    for bytes in texts {
+        lines.push_str(reply_to(alloc, &mut server, *bytes)?.as_str())?;
+        lines.push_str("\n")?;
     }
-    Ok(())
+    Ok(lines)
 }
 
-/// The server has taken one frame before the link is made.
-#[test]
-fn a_loopback_begins_where_its_server_stands(rt: HostRuntime) -> Result<(), Failed> {
-    let mut server = Server::new(BucketTables::new(rt.alloc()));
-    reply_to(rt.alloc(), &mut server, BEGIN)?;
-    let mut link = SteadyLoopback::new(rt.alloc(), Toy, server);
-    assert_eq!(rt; link.transcript().len(), 0);
-    let mut out = zeros(rt.alloc(), REPLY_ROOM)?;
-    send(&mut link, HELLO)?;
-    let n = link.recv(&mut out)?;
-    assert_eq!(rt; &out[..n], NEXT_1);
-    Ok(())
+/// What passed over a link whose server had taken one frame before, and what comes back over it to a greeting.
+fn over_a_link_that_begins_later(alloc: Global) -> Result<String, AllocError> {
+    let mut server = server(alloc);
+    reply_to(alloc, &mut server, BEGIN)?;
+    let mut link = SteadyLoopback::new(alloc, Toy, server);
+    let mut lines = passed_lines(alloc, link.transcript())?;
+    lines.push_str(replies(alloc, &mut link, &[HELLO])?.as_str())?;
+    Ok(lines)
 }
 
 /// The send and the receive of the first frame work, the second send and the next receive fail.
-#[test]
-fn a_loopback_fails_where_it_is_told_to(rt: HostRuntime) -> Result<(), Failed> {
-    for (delivered, next) in [(false, NEXT_0), (true, NEXT_1)] {
-        let fails = vec![in rt.alloc(); Fail { call: 2, delivered }, Fail { call: 4, delivered }]?;
-        let mut link = Loopback::new(
-            rt.alloc(),
-            Toy,
-            Server::new(BucketTables::new(rt.alloc())),
-            fails,
-        );
-        let mut out = zeros(rt.alloc(), REPLY_ROOM)?;
-        send(&mut link, HELLO)?;
-        link.recv(&mut out)?;
-        assert_eq!(rt; send(&mut link, BEGIN), Err(LinkFault::Cut));
-        send(&mut link, HELLO)?;
-        assert_eq!(rt; link.recv(&mut out), Err(LinkFault::Cut));
-        send(&mut link, HELLO)?;
-        let n = link.recv(&mut out)?;
-        assert_eq!(rt; &out[..n], next);
-    }
-    Ok(())
+fn over_a_failing_link(alloc: Global, delivered: bool) -> Result<String, AllocError> {
+    let fails = vec![in alloc; Fail { call: 2, delivered }, Fail { call: 4, delivered }]?;
+    let mut link = Loopback::new(alloc, Toy, server(alloc), fails);
+    replies(alloc, &mut link, &[HELLO, BEGIN, HELLO, HELLO])
 }
 
-/// A reply, the four bytes of a length out of range, and then the end inside a reply.
+/// What is played back, and all that passed.
+fn over_a_script(alloc: Global) -> Result<String, AllocError> {
+    let mut link = ScriptedLink::new(alloc, Vec::from_slice(alloc, PLAYED)?);
+    let mut lines = replies(alloc, &mut link, &[HELLO, HELLO, HELLO])?;
+    lines.push_str(passed_lines(alloc, link.transcript())?.as_str())?;
+    Ok(lines)
+}
+
+/// Each link in memory, and bytes that are no frame.
 #[test]
-fn a_script_is_played_back(rt: HostRuntime) -> Result<(), Failed> {
-    let replies = b"\x00\x00\x00\x05\x81\x00\x00\x00\x09\x00\x01\x00\x05\x00\x00\x00\x02\x89";
-    let replies = Vec::from_slice(rt.alloc(), replies.as_slice())?;
-    let mut link = ScriptedLink::new(rt.alloc(), replies);
-    let mut out = zeros(rt.alloc(), REPLY_ROOM)?;
-    for reply in [
-        b"\x00\x00\x00\x05\x81\x00\x00\x00\x09".as_slice(),
-        b"\x00\x01\x00\x05".as_slice(),
-    ] {
-        send(&mut link, HELLO)?;
-        let n = link.recv(&mut out)?;
-        assert_eq!(rt; &out[..n], reply);
-    }
-    send(&mut link, HELLO)?;
-    assert_eq!(rt; link.recv(&mut out), Err(LinkFault::Cut));
-    assert!(rt;
-        matches!(link.transcript().first(), Some(Passed::Sent { bytes, mark: Mark::Unknown }) if bytes.as_slice() == HELLO)
+fn links_in_memory(rt: HostRuntime) -> Result<(), Failed> {
+    let alloc = rt.alloc();
+    assert_eq!(rt; over_a_steady_link(alloc)?.as_str(), ANSWERED);
+    assert_eq!(rt; replies_to(alloc, &BAD_BYTES)?.as_str(), REFUSED);
+    assert_eq!(rt;
+        over_a_link_that_begins_later(alloc)?.as_str(),
+        "000000058100000001\n"
     );
+    for (delivered, lines) in CUT {
+        assert_eq!(rt; over_a_failing_link(alloc, delivered)?.as_str(), lines);
+    }
+    assert_eq!(rt; over_a_script(alloc)?.as_str(), PLAYED_BACK);
     Ok(())
 }

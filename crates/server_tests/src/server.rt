@@ -1,25 +1,10 @@
+use crate::frames::{BEGIN, DICT, END, HELLO, SEARCH};
 use keyed_fn::Toy;
 use server_core::{Answer, Server};
 use server_tables::SortedTables;
 use sse_frames::read_frame;
 use std::alloc::{AllocError, Global};
 use std::test::Fail;
-
-// The frames of a setup of the document `1 a` with cells of one identifier and blocks of one, under the key of
-// 32 zero bytes and the toy keyed function, and of a search for `a`: computed by an independent model.
-
-const HELLO: &[u8] = b"\x00\x00\x00\x01\x01";
-
-const BEGIN: &[u8] =
-    b"\x00\x00\x00\x11\x02\x00\x00\x00\x00\x00\x01\x00\x01\x00\x00\x00\x01\x00\x00\x00\x00";
-
-const DICT: &[u8] =
-    b"\x00\x00\x00\x22\x03\x00\x00\x00\x01\x00\x09\x00\x01\xc3\xc5\xc7\xc9\xcb\xcd\xcf\xd1\xd3\xd5\xd7\xd9\xdb\xdd\xdf\xe1\xc4\xc5\xc6\xc7\xc8\xc9\xca\xcb\xcd";
-
-const END: &[u8] = b"\x00\x00\x00\x05\x05\x00\x00\x00\x02";
-
-const SEARCH: &[u8] =
-    b"\x00\x00\x00\xa1\x08\xc3\xc4\xc5\xc6\xc7\xc8\xc9\xca\xcb\xcc\xcd\xce\xcf\xd0\xd1\xd2\xd3\xd4\xd5\xd6\xd7\xd8\xd9\xda\xdb\xdc\xdd\xde\xdf\xe0\xe1\xe2\xc4\xc5\xc6\xc7\xc8\xc9\xca\xcb\xcc\xcd\xce\xcf\xd0\xd1\xd2\xd3\xd4\xd5\xd6\xd7\xd8\xd9\xda\xdb\xdc\xdd\xde\xdf\xe0\xe1\xe2\xe3\xc5\xc6\xc7\xc8\xc9\xca\xcb\xcc\xcd\xce\xcf\xd0\xd1\xd2\xd3\xd4\xd5\xd6\xd7\xd8\xd9\xda\xdb\xdc\xdd\xde\xdf\xe0\xe1\xe2\xe3\xe4\xc6\xc7\xc8\xc9\xca\xcb\xcc\xcd\xce\xcf\xd0\xd1\xd2\xd3\xd4\xd5\xd6\xd7\xd8\xd9\xda\xdb\xdc\xdd\xde\xdf\xe0\xe1\xe2\xe3\xe4\xe5\xc7\xc8\xc9\xca\xcb\xcc\xcd\xce\xcf\xd0\xd1\xd2\xd3\xd4\xd5\xd6\xd7\xd8\xd9\xda\xdb\xdc\xdd\xde\xdf\xe0\xe1\xe2\xe3\xe4\xe5\xe6";
 
 // Document 5 of `a` is added, deleted, and added again with `c` too.
 const ADD: &[u8] =
@@ -105,22 +90,34 @@ const NOTHING: &[u8] =
 const TO_ITSELF: &[u8] =
     b"\x00\x00\x00\x22\x03\x00\x00\x00\x01\x00\x09\x00\x01\xc3\xc5\xc7\xc9\xcb\xcd\xcf\xd1\xd3\xd5\xd7\xd9\xdb\xdd\xdf\xe1\xc6\xc5\xc6\xc7\xc8\xc9\xca\xcb\xcd";
 
-/// A setup of this dictionary frame, and a search.
-fn setup(dict: &'static [u8]) -> [&'static [u8]; 4] {
-    [BEGIN, dict, END, SEARCH]
-}
-
-/// Cells with a search for each, and what is answered to it.
-const CELLS: [(&[u8], &str); 3] = [
-    (UNKNOWN, "took 0\ntook 1\ntook 2\nno list\n"),
-    (NO_BLOCK, "took 0\ntook 1\ntook 2\nno list\n"),
-    (NOTHING, "took 0\ntook 1\ntook 2\nfound\n"),
+/// Cells that no client makes, with a search for each, and a block that points to itself.
+const CELLS: [&[&[u8]]; 4] = [
+    &[BEGIN, UNKNOWN, END, SEARCH],
+    &[BEGIN, NO_BLOCK, END, SEARCH],
+    &[BEGIN, NOTHING, END, SEARCH],
+    &[BEGIN_BLOCK, TO_ITSELF, ARRAY, END_BLOCK, SEARCH],
 ];
 
-/// A block that points to itself; the identifier is 03010f0103010700 in hexadecimal digits.
-const SELF: [&[u8]; 5] = [BEGIN_BLOCK, TO_ITSELF, ARRAY, END_BLOCK, SEARCH];
-
-const SELF_ANSWERED: &str = "took 0\ntook 1\ntook 2\ntook 3\nfound 216470754110277376\n";
+/// The identifier in the block is 03010f0103010700 in hexadecimal digits.
+const CELLS_ANSWERED: &str = "\
+took 0
+took 1
+took 2
+no list
+took 0
+took 1
+took 2
+no list
+took 0
+took 1
+took 2
+found
+took 0
+took 1
+took 2
+took 3
+found 216470754110277376
+";
 
 /// The identifiers of a page, as a line.
 fn found(alloc: Global, ids: &[u64]) -> Result<String, AllocError> {
@@ -170,19 +167,16 @@ fn answered(alloc: Global, frames: &[&[u8]]) -> Result<String, AllocError> {
     Ok(lines)
 }
 
-/// A setup, a search, an addition and a deletion, and what is refused between them.
+/// A setup, a search, an addition and a deletion, and what is refused between them; then cells of an unknown kind, of a
+/// block that is not there, of nothing, and of a block that points to itself.
 #[test]
-fn a_whole_connection_is_answered(rt: HostRuntime) -> Result<(), Fail> {
-    assert_eq!(rt; answered(rt.alloc(), &WHOLE)?.as_str(), WHOLE_ANSWERED);
-    Ok(())
-}
-
-/// Cells of an unknown kind, of a block that is not there, of nothing, and of a block that points to itself.
-#[test]
-fn cells_that_nobody_made_are_answered(rt: HostRuntime) -> Result<(), Fail> {
-    for (dict, lines) in CELLS {
-        assert_eq!(rt; answered(rt.alloc(), &setup(dict))?.as_str(), lines);
+fn frames_in_a_row_are_answered(rt: HostRuntime) -> Result<(), Fail> {
+    let alloc = rt.alloc();
+    assert_eq!(rt; answered(alloc, &WHOLE)?.as_str(), WHOLE_ANSWERED);
+    let mut lines = String::new(alloc);
+    for frames in CELLS {
+        lines.push_str(answered(alloc, frames)?.as_str())?;
     }
-    assert_eq!(rt; answered(rt.alloc(), &SELF)?.as_str(), SELF_ANSWERED);
+    assert_eq!(rt; lines.as_str(), CELLS_ANSWERED);
     Ok(())
 }

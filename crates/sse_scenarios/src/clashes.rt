@@ -1,15 +1,15 @@
-use crate::running::run_over;
+use crate::running::{row_of, run_over};
 use keyed_fn::Toy;
 use server_core::Server;
 use server_tables::BucketTables;
 use sse_link::SteadyLoopback;
+use std::alloc::{AllocError, Global};
 use std::test::Fail;
 
-/// Scripts with two equal values under the toy function, each with its name, what they print, and how many frames and replies pass before the
-/// run stops: nothing of the command with the equal values. The weighed sums of two words are equal: 2 * 100 + 3 * 97 =
-/// 2 * 97 + 3 * 99. The lists of two others take a block each, at equal places. In the last row the server finds the clash,
-/// since two additions have the equal labels.
-const ROWS: [(&str, &[u8], &[u8], usize); 5] = [
+/// Scripts with two equal values under the toy function, each with its name. The weighed sums of two words are equal:
+/// 2 * 100 + 3 * 97 = 2 * 97 + 3 * 99. The lists of two others take a block each, at equal places. In the last row the server
+/// finds the clash, since two additions have the equal labels.
+const ROWS: [(&str, &[u8]); 5] = [
     (
         "labels of two words",
         b"key 0000000000000000000000000000000000000000000000000000000000000000
@@ -17,8 +17,6 @@ doc 1 da ac
 setup 1 1
 find da
 ",
-        b"stopped: labels of words 0 and 1 are equal\n",
-        2,
     ),
     (
         "places of two blocks",
@@ -29,8 +27,6 @@ doc 3 a e
 setup 2 2
 find a
 ",
-        b"stopped: places of blocks 1 and 2 are equal\n",
-        2,
     ),
     (
         "labels of an addition",
@@ -40,8 +36,6 @@ setup 1 1
 add 2 da ac
 find a
 ",
-        b"set up 1 words 0 blocks\nstopped: labels of words 0 and 1 are equal\n",
-        8,
     ),
     (
         "numbers of a deletion",
@@ -53,8 +47,6 @@ add 5 da ac
 del 5
 find da
 ",
-        b"set up 1 words 0 blocks\ndeleted 5\nadded 5\nstopped: numbers of words 0 and 1 are equal\n",
-        12,
     ),
     (
         "labels of two additions",
@@ -65,21 +57,50 @@ add 2 ac
 add 3 da
 find da
 ",
-        b"set up 1 words 0 blocks\nadded 2\nstopped: clash 2 at 0\n",
-        12,
     ),
 ];
 
-/// Each row over a link that never fails ends with 8.
+/// The status of each, what it prints, and how many frames and replies pass before the run stops: nothing of the command with
+/// the equal values.
+const TABLE: &str = "\
+labels of two words: 8
+stopped: labels of words 0 and 1 are equal
+2 passed
+places of two blocks: 8
+stopped: places of blocks 1 and 2 are equal
+2 passed
+labels of an addition: 8
+set up 1 words 0 blocks
+stopped: labels of words 0 and 1 are equal
+8 passed
+numbers of a deletion: 8
+set up 1 words 0 blocks
+deleted 5
+added 5
+stopped: numbers of words 0 and 1 are equal
+12 passed
+labels of two additions: 8
+set up 1 words 0 blocks
+added 2
+stopped: clash 2 at 0
+12 passed
+";
+
+/// A script over a link that never fails, as a row.
+fn row(alloc: Global, name: &str, script: &[u8]) -> Result<String, AllocError> {
+    let mut link = SteadyLoopback::new(alloc, Toy, Server::new(BucketTables::new(alloc)));
+    let ended = run_over(alloc, &Toy, &mut link, script, &[], &[])?;
+    let row = row_of(alloc, name, &ended)?;
+    format!(in alloc; "{row}{} passed\n", link.transcript().len())
+}
+
+/// Each row ends with 8.
 #[test]
 fn equal_values_stop_the_run(rt: HostRuntime) -> Result<(), Fail> {
-    let alloc = rt.alloc();
-    for (name, script, printed, passed) in ROWS {
-        let mut link = SteadyLoopback::new(alloc, Toy, Server::new(BucketTables::new(alloc)));
-        let ended = run_over(alloc, &Toy, &mut link, script, &[], &[])?;
-        assert_eq!(rt; ended.printed.as_slice(), printed, "{name}");
-        assert_eq!(rt; ended.status, 8, "{name}");
-        assert_eq!(rt; link.transcript().len(), passed, "{name}");
+    let mut table = String::new(rt.alloc());
+    for (name, script) in ROWS {
+        table.push_str(row(rt.alloc(), name, script)?.as_str())?;
     }
+    assert_eq!(rt; table.as_str(), TABLE);
     Ok(())
 }

@@ -73,7 +73,7 @@ fn encrypted<K: Keyed>(
 /// What each call gives for the word `archive`.
 #[test]
 fn keys_and_pads_of_a_word(rt: HostRuntime) -> Result<(), Fail> {
-    let word = Word::read(b"archive")?;
+    let word = Word::read(b"archive").ok().ok_or("no word")?;
     let master = MasterKey::new(*MASTER).prepare(&Real);
     assert_eq!(rt; master.token(&Real, &word).to_bytes(), *TOKEN);
     assert!(rt; master.hash_keys(&Real) == HashKeys::new(HASHING[0], HASHING[1]));
@@ -85,7 +85,7 @@ fn keys_and_pads_of_a_word(rt: HostRuntime) -> Result<(), Fail> {
 /// Of the toy function under the key of 32 zero bytes, and the word `a`: computed by hand.
 #[test]
 fn toy_keys_and_pads_of_a_word(rt: HostRuntime) -> Result<(), Fail> {
-    let word = Word::read(b"a")?;
+    let word = Word::read(b"a").ok().ok_or("no word")?;
     let master = MasterKey::new([0; 32]).prepare(&Toy);
     let plus_keys = master.plus_keys(&Toy, &word);
     assert_eq!(rt;

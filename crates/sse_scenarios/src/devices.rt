@@ -1,29 +1,16 @@
-use crate::running::{SCRIPT, run_over};
+use crate::running::{SCRIPT, row_of, run_over};
 use keyed_fn::Real;
 use server_core::Server;
 use server_tables::BucketTables;
 use sse_link::{Fail as FailingCall, Loopback};
+use std::alloc::{AllocError, Global};
 use std::test::Fail;
 
-/// A row's name, the failing calls of the source, of the sink and of the link, the status, and the lines.
-const ROWS: [(&str, &[u64], &[u64], &[FailingCall], u8, &[u8]); 5] = [
-    (
-        "nothing fails",
-        &[],
-        &[],
-        &[],
-        0,
-        b"set up 2 words 0 blocks\nfound 2: 3 9\n",
-    ),
-    ("the first read", &[0], &[], &[], 3, b"stopped: source\n"),
-    (
-        "the second write",
-        &[],
-        &[1],
-        &[],
-        4,
-        b"set up 2 words 0 blocks\n",
-    ),
+/// A row's name, and the failing calls of the source, of the sink and of the link.
+const ROWS: [(&str, &[u64], &[u64], &[FailingCall]); 5] = [
+    ("nothing fails", &[], &[], &[]),
+    ("the first read", &[0], &[], &[]),
+    ("the second write", &[], &[1], &[]),
     (
         "the first send",
         &[],
@@ -32,8 +19,6 @@ const ROWS: [(&str, &[u64], &[u64], &[FailingCall], u8, &[u8]); 5] = [
             call: 0,
             delivered: false,
         }],
-        5,
-        b"stopped: link\n",
     ),
     (
         "the receive of the page, which the server sent",
@@ -43,25 +28,46 @@ const ROWS: [(&str, &[u64], &[u64], &[FailingCall], u8, &[u8]); 5] = [
             call: 9,
             delivered: true,
         }],
-        5,
-        b"set up 2 words 0 blocks\nstopped: link\n",
     ),
 ];
+
+/// The status of each, and what it prints.
+const TABLE: &str = "\
+nothing fails: 0
+set up 2 words 0 blocks
+found 2: 3 9
+the first read: 3
+stopped: source
+the second write: 4
+set up 2 words 0 blocks
+the first send: 5
+stopped: link
+the receive of the page, which the server sent: 5
+set up 2 words 0 blocks
+stopped: link
+";
+
+/// The script over devices and a link that fail at these calls, as a row.
+fn row(
+    alloc: Global,
+    name: &str,
+    source: &[u64],
+    sink: &[u64],
+    link: &[FailingCall],
+) -> Result<String, AllocError> {
+    let fails = Vec::from_slice(alloc, link)?;
+    let mut link = Loopback::new(alloc, Real, Server::new(BucketTables::new(alloc)), fails);
+    let ended = run_over(alloc, &Real, &mut link, SCRIPT, source, sink)?;
+    row_of(alloc, name, &ended)
+}
 
 /// The same script over devices and links that fail at chosen calls.
 #[test]
 fn failing_devices(rt: HostRuntime) -> Result<(), Fail> {
-    let alloc = rt.alloc();
-    for (name, source, sink, link, status, printed) in ROWS {
-        let mut link = Loopback::new(
-            alloc,
-            Real,
-            Server::new(BucketTables::new(alloc)),
-            Vec::from_slice(alloc, link)?,
-        );
-        let ended = run_over(alloc, &Real, &mut link, SCRIPT, source, sink)?;
-        assert_eq!(rt; ended.printed.as_slice(), printed, "{name}");
-        assert_eq!(rt; ended.status, status, "{name}");
+    let mut table = String::new(rt.alloc());
+    for (name, source, sink, link) in ROWS {
+        table.push_str(row(rt.alloc(), name, source, sink, link)?.as_str())?;
     }
+    assert_eq!(rt; table.as_str(), TABLE);
     Ok(())
 }

@@ -4,6 +4,7 @@ use sse_client::sse_run;
 use sse_link::{Link, Passed};
 use sse_outside::{MemSink, MemSource};
 use std::alloc::{AllocError, Global};
+use std::str;
 
 /// Two documents, their setup, and a search: examples/first.sse.
 pub const SCRIPT: &[u8] = b"key 0000000000000000000000000000000000000000000000000000000000000000
@@ -45,6 +46,12 @@ pub(crate) fn run_over<K: Keyed, L: Link>(
     );
     let printed = Vec::from_slice(alloc, sink.bytes())?;
     Ok(Ended { status, printed })
+}
+
+/// A run as a row of a table: its name, its status, and the lines that it printed.
+pub(crate) fn row_of(alloc: Global, name: &str, ended: &Ended) -> Result<String, AllocError> {
+    let lines = str::from_utf8(&ended.printed).unwrap_or("no text\n");
+    format!(in alloc; "{name}: {}\n{lines}", ended.status)
 }
 
 /// What passed, as a line: which way, and the bytes in hexadecimal digits.

@@ -56,7 +56,9 @@ fn a_setup_is_simulated(rt: HostRuntime) -> Result<(), Fail> {
         words: 2,
         blocks: 0,
     })?;
-    let texts = simulate(alloc, &leaks, &drawn(alloc, 2)?)?;
+    let texts = simulate(alloc, &leaks, &drawn(alloc, 2)?)
+        .ok()
+        .ok_or("not simulated")?;
     assert_eq!(rt; texts.as_slice().len(), PASSED.len());
     for (text, passed) in texts.as_slice().iter().zip(PASSED) {
         assert_eq!(rt; text.as_slice(), passed);

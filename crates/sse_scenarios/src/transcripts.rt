@@ -169,25 +169,27 @@ fn transcript<K: Keyed>(
     }
 }
 
-/// Each row's transcript.
-#[test]
-fn transcripts_by_the_real_function(rt: HostRuntime) -> Result<(), Fail> {
-    let alloc = rt.alloc();
-    for (script, before, lines) in BY_THE_REAL_FUNCTION {
-        let mut link = SteadyLoopback::new(alloc, Real, Server::new(BucketTables::new(alloc)));
-        let passed = transcript(alloc, &Real, &mut link, script, before)?;
-        assert_eq!(rt; passed.as_str(), lines);
-    }
-    Ok(())
+/// The same over a link to a new server.
+fn transcript_of<K: Keyed + Copy>(
+    alloc: Global,
+    keyed: K,
+    script: &[u8],
+    before: usize,
+) -> Result<String, AllocError> {
+    let mut link = SteadyLoopback::new(alloc, keyed, Server::new(BucketTables::new(alloc)));
+    transcript(alloc, &keyed, &mut link, script, before)
 }
 
-/// Each row's transcript.
+/// Each row of both tables.
 #[test]
-fn transcripts_by_the_toy_function(rt: HostRuntime) -> Result<(), Fail> {
+fn transcripts_by_both_functions(rt: HostRuntime) -> Result<(), Fail> {
     let alloc = rt.alloc();
+    for (script, before, lines) in BY_THE_REAL_FUNCTION {
+        let passed = transcript_of(alloc, Real, script, before)?;
+        assert_eq!(rt; passed.as_str(), lines);
+    }
     for (script, before, lines) in BY_THE_TOY_FUNCTION {
-        let mut link = SteadyLoopback::new(alloc, Toy, Server::new(BucketTables::new(alloc)));
-        let passed = transcript(alloc, &Toy, &mut link, script, before)?;
+        let passed = transcript_of(alloc, Toy, script, before)?;
         assert_eq!(rt; passed.as_str(), lines);
     }
     Ok(())

@@ -84,14 +84,14 @@ pub struct Stored {
 
 impl Stored {
     /// Starts a store on a disk.
-    pub fn start(alloc: Global, disk: MemDisk) -> Result<Stored, Fail> {
+    pub(crate) fn start(alloc: Global, disk: MemDisk) -> Result<Stored, Fail> {
         let mut disk = disk;
         let store = Store::start(alloc, SortedTables::new(alloc), &mut disk)?;
         Ok(Stored { alloc, store, disk })
     }
 
     /// Starts a store on the journal of the first frames of `UPDATES`.
-    pub fn after(alloc: Global, count: usize) -> Result<Stored, Fail>
+    pub(crate) fn after(alloc: Global, count: usize) -> Result<Stored, Fail>
         requires { count ≤ 6 }
     {
         let (frames, _) = UPDATES.split_at(count);
@@ -100,23 +100,23 @@ impl Stored {
     }
 
     /// The file of its disk.
-    pub fn bytes(&self) -> &[u8] {
+    pub(crate) fn bytes(&self) -> &[u8] {
         self.disk.bytes()
     }
 
-    pub fn disk(&self) -> &MemDisk {
+    pub(crate) fn disk(&self) -> &MemDisk {
         &self.disk
     }
 
     /// Makes the call of the disk with this number from now, counted from 1, fail.
-    pub fn fail_after(&mut self, call: u64)
+    pub(crate) fn fail_after(&mut self, call: u64)
         requires { 1 ≤ call }
     {
         self.disk.fail_after(call);
     }
 
     /// What it answers to a frame; to Hello the number alone.
-    pub fn answer(&mut self, bytes: &[u8]) -> Result<String, AllocError> {
+    pub(crate) fn answer(&mut self, bytes: &[u8]) -> Result<String, AllocError> {
         let alloc = self.alloc;
         let Ok(Some((frame, _))) = read_frame(bytes) else {
             return String::from_str(alloc, "no frame");
@@ -136,7 +136,7 @@ impl Stored {
     }
 
     /// What a search hands out first and then, by pages of one identifier: how many, and which.
-    pub fn found(&self, keys: &[u8; 160]) -> Result<String, AllocError> {
+    pub(crate) fn found(&self, keys: &[u8; 160]) -> Result<String, AllocError> {
         let alloc = self.alloc;
         let mut buffers = Buffers::new(alloc)?;
         let (page, _) = buffers.page.split_at_mut(1);
@@ -150,7 +150,7 @@ impl Stored {
     }
 
     /// What it answers to frames in a row, each with a comma after it.
-    pub fn answers(&mut self, frames: &[&[u8]]) -> Result<String, AllocError> {
+    pub(crate) fn answers(&mut self, frames: &[&[u8]]) -> Result<String, AllocError> {
         let mut line = String::new(self.alloc);
         for frame in frames {
             line.push_str(self.answer(*frame)?.as_str())?;

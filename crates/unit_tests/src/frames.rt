@@ -1,10 +1,9 @@
-use crate::line_reader::read_all;
+use crate::line_reader::lines_of;
 use sse_frames::{
     FRAME_ROOM, FrameFault, Items, LABEL_LEN, NoMemory, REPLY_ROOM, TOKEN_LEN, read_body,
     read_frame, read_reply, read_whole_reply, search_frame, write_frame, write_frame_into,
     write_page, write_reply,
 };
-use sse_outside::SteadySource;
 use sse_script::Fields;
 use std::alloc::Global;
 use std::test::Fail;
@@ -158,38 +157,37 @@ fn taken(bytes: &[u8], is_reply: bool) -> Result<Option<usize>, FrameFault> {
 }
 
 /// Appends a row of a table, with the answer that reading its bytes gives.
-fn push_row(alloc: Global, table: &mut Vec<u8>, row: &[u8], is_reply: bool) -> Result<(), Fail> {
+fn push_row(alloc: Global, table: &mut Vec<u8>, row: &[u8], is_reply: bool) -> Option<()> {
     let mut fields = Fields::new(row);
     let digits = fields.next().unwrap_or(b"");
     if digits == b"#".as_slice() {
-        table.extend_from_slice(row)?;
+        table.extend_from_slice(row).ok()?;
     } else {
-        let bytes = hex::decode(alloc, digits)?;
-        let answer = answer(alloc, taken(&bytes, is_reply))?;
-        table.extend_from_slice(digits)?;
-        table.push(b' ')?;
-        table.extend_from_slice(answer.as_bytes())?;
+        let bytes = hex::decode(alloc, digits).ok()?;
+        let answer = answer(alloc, taken(&bytes, is_reply)).ok()?;
+        table.extend_from_slice(digits).ok()?;
+        table.push(b' ').ok()?;
+        table.extend_from_slice(answer.as_bytes()).ok()?;
     }
-    table.push(b'\n')?;
-    Ok(())
+    table.push(b'\n').ok()
 }
 
 /// A table, with the answers that reading gives in the place of its own.
-fn answered(alloc: Global, table: &[u8], is_reply: bool) -> Result<Vec<u8>, Fail> {
-    let rows = read_all(alloc, &mut SteadySource::new(table.to_vec(alloc)?))?;
+fn answered(alloc: Global, table: &[u8], is_reply: bool) -> Option<Vec<u8>> {
     let mut answered = Vec::new(alloc);
-    for (_, row) in rows.iter() {
+    for (_, row) in lines_of(alloc, table)?.iter() {
         push_row(alloc, &mut answered, row, is_reply)?;
     }
-    Ok(answered)
+    Some(answered)
 }
 
 /// Each row of the two tables, read.
 #[test]
 fn reads_what_the_formats_say(rt: HostRuntime) -> Result<(), Fail> {
-    let alloc = rt.alloc();
-    assert_eq!(rt; answered(alloc, FRAMES, false)?.as_slice(), FRAMES);
-    assert_eq!(rt; answered(alloc, REPLIES, true)?.as_slice(), REPLIES);
+    let frames = answered(rt.alloc(), FRAMES, false).ok_or("no frames")?;
+    let replies = answered(rt.alloc(), REPLIES, true).ok_or("no replies")?;
+    assert_eq!(rt; frames.as_slice(), FRAMES);
+    assert_eq!(rt; replies.as_slice(), REPLIES);
     assert!(rt; read_body(&[1]).is_ok());
     Ok(())
 }
@@ -204,48 +202,59 @@ fn is_part_before_its_end(bytes: &[u8]) -> bool {
     true
 }
 
-/// Whether a frame, all of the bytes, is written as these bytes in both ways.
-fn is_written_again(alloc: Global, bytes: &[u8]) -> Result<bool, NoMemory> {
+/// Whether a frame, all of the bytes, is written as these bytes in both ways; not where memory is wanting.
+fn is_written_again(alloc: Global, bytes: &[u8]) -> bool {
     let Ok(Some((frame, count))) = read_frame(bytes) else {
-        return Ok(false);
+        return false;
     };
     let mut appended = Vec::new(alloc);
-    write_frame(&frame, &mut appended)?;
-    let mut room = vec![in alloc; 0u8; count]?;
+    if write_frame(&frame, &mut appended).is_err() {
+        return false;
+    }
+    let Ok(mut room) = vec![in alloc; 0u8; count] else {
+        return false;
+    };
     let written = write_frame_into(&frame, &mut room);
-    Ok(appended.as_slice() == bytes && written == count && room.as_slice() == bytes)
+    appended.as_slice() == bytes && written == count && room.as_slice() == bytes
 }
 
 /// Whether a reply, all of the bytes, is written as these bytes.
-fn is_answered_again(alloc: Global, bytes: &[u8]) -> Result<bool, NoMemory> {
+fn is_answered_again(alloc: Global, bytes: &[u8]) -> bool {
     let Some(reply) = read_whole_reply(bytes) else {
-        return Ok(false);
+        return false;
     };
-    let mut room = vec![in alloc; 0u8; REPLY_ROOM]?;
+    let Ok(mut room) = vec![in alloc; 0u8; REPLY_ROOM] else {
+        return false;
+    };
     let count = write_reply(&reply, &mut room);
-    Ok(&room[..count] == bytes)
+    &room[..count] == bytes
 }
 
-/// Each frame of the sessions: read and written, and no front of it is whole.
-#[test]
-fn frames_are_written_as_they_are_read(rt: HostRuntime) -> Result<(), Fail> {
-    let alloc = rt.alloc();
-    for (_, line) in read_all(alloc, &mut SteadySource::new(SENT.to_vec(alloc)?))?.iter() {
-        let bytes = hex::decode(alloc, line.as_slice())?;
-        let holds = is_part_before_its_end(&bytes) && is_written_again(alloc, &bytes)?;
-        assert!(rt; holds, "at {bytes:?}");
+/// The rows whose bytes are written as they are read: of frames, where no front of them is whole either.
+fn written_again(alloc: Global, table: &[u8], is_reply: bool) -> Option<Vec<u8>> {
+    let mut rows = Vec::new(alloc);
+    for (_, row) in lines_of(alloc, table)?.iter() {
+        let bytes = hex::decode(alloc, row.as_slice()).ok()?;
+        let holds = if is_reply {
+            is_answered_again(alloc, &bytes)
+        } else {
+            is_part_before_its_end(&bytes) && is_written_again(alloc, &bytes)
+        };
+        if holds {
+            rows.extend_from_slice(row).ok()?;
+            rows.push(b'\n').ok()?;
+        }
     }
-    Ok(())
+    Some(rows)
 }
 
-/// Each reply of the sessions.
+/// Each frame and each reply of the sessions.
 #[test]
-fn replies_are_written_as_they_are_read(rt: HostRuntime) -> Result<(), Fail> {
-    let alloc = rt.alloc();
-    for (_, line) in read_all(alloc, &mut SteadySource::new(ANSWERED.to_vec(alloc)?))?.iter() {
-        let bytes = hex::decode(alloc, line.as_slice())?;
-        assert!(rt; is_answered_again(alloc, &bytes)?, "at {bytes:?}");
-    }
+fn frames_and_replies_are_written_as_they_are_read(rt: HostRuntime) -> Result<(), Fail> {
+    let sent = written_again(rt.alloc(), SENT, false).ok_or("no frames")?;
+    let received = written_again(rt.alloc(), ANSWERED, true).ok_or("no replies")?;
+    assert_eq!(rt; sent.as_slice(), SENT);
+    assert_eq!(rt; received.as_slice(), ANSWERED);
     Ok(())
 }
 
@@ -276,8 +285,8 @@ fn frames_of_more_than_500_000_bytes_are_read_and_written(rt: HostRuntime) -> Re
     let alloc = rt.alloc();
     let dict = longest_dict(alloc)?;
     assert_eq!(rt; dict.len(), FRAME_ROOM);
-    assert!(rt; is_written_again(alloc, &dict)?);
-    assert!(rt; is_written_again(alloc, &longest_array(alloc)?)?);
+    assert!(rt; is_written_again(alloc, &dict));
+    assert!(rt; is_written_again(alloc, &longest_array(alloc)?));
     Ok(())
 }
 

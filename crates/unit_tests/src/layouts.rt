@@ -20,11 +20,7 @@ fn five_identifiers_in_two_levels(rt: HostRuntime) {
     for (i, numbers) in wanted.iter().enumerate() {
         let mut block = [0xff; 16];
         lay_block(&ids, &ranks, shape, i as u32, &mut block);
-        assert_eq!(rt;
-            [number_at(&block, 0), number_at(&block, 1)],
-            *numbers,
-            "block {i}"
-        );
+        assert_eq!(rt; [number_at(&block, 0), number_at(&block, 1)], *numbers);
         assert!(rt; read_block(&block, None).is_ok());
     }
 }
@@ -53,7 +49,7 @@ fn cells_that_are_none(rt: HostRuntime) {
     for (kind, numbers, fault) in rows {
         let mut cell = [kind; 17];
         write_numbers(&numbers, &mut cell[1..]);
-        assert_eq!(rt; read_cell(&cell, 5), Err(fault), "{kind} {numbers:?}");
+        assert_eq!(rt; read_cell(&cell, 5), Err(fault));
     }
     let block = [0, 0, 0, 0, 0, 0, 0, 6, 0, 0, 0, 0, 0, 0, 0, 0];
     assert_eq!(rt; read_block(&block, None), Ok(1));
@@ -83,7 +79,7 @@ fn blocks_of_the_worked_lists(rt: HostRuntime) {
             data_blocks,
         };
         assert!(rt; n >= 1 && b >= 1 && b <= 64 && big >= 1 && big <= 256);
-        assert_eq!(rt; plan(n, b, big), Ok(wanted), "{n} identifiers");
+        assert_eq!(rt; plan(n, b, big), Ok(wanted));
     }
     assert_eq!(rt; plan(9, 2, 2), Err(ListTooLong(9)));
 }

@@ -12,7 +12,7 @@ fn five_numbers_in_blocks_of_two(rt: HostRuntime) {
     for (i, block) in wanted.iter().enumerate() {
         let mut bytes = [0xff; 16];
         pack(&numbers, 2, i, &mut bytes);
-        assert_eq!(rt; &bytes, block, "block {i}");
+        assert_eq!(rt; &bytes, block);
     }
     assert_eq!(rt; part(&numbers, 2, 1), [3, 4].as_slice());
     assert_eq!(rt; part(&numbers, 2, 2).len(), 1);
@@ -31,6 +31,6 @@ fn numbers_before_the_zeros(rt: HostRuntime) {
     for (numbers, wanted) in rows {
         let mut bytes = [0; 16];
         write_numbers(&numbers, &mut bytes);
-        assert_eq!(rt; unpack(&bytes), wanted, "{numbers:?}");
+        assert_eq!(rt; unpack(&bytes), wanted);
     }
 }

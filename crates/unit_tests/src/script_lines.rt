@@ -1,5 +1,5 @@
-use crate::line_reader::read_all;
-use sse_outside::{DeviceFault, MemSink, SteadySink, SteadySource};
+use crate::line_reader::lines_of;
+use sse_outside::{DeviceFault, MemSink, SteadySink};
 use sse_script::{BadLine, Cause, Fields, Line, Refusal, Shown, print, print_stop, read_line};
 use std::alloc::{AllocError, Global};
 use std::test::Fail;
@@ -147,7 +147,7 @@ fn said(alloc: Global, line: &[u8]) -> Result<String, AllocError> {
 fn lines_of_a_script(rt: HostRuntime) -> Result<(), Fail> {
     let alloc = rt.alloc();
     let mut says = String::new(alloc);
-    for (_, line) in read_all(alloc, &mut SteadySource::new(LINES.to_vec(alloc)?))?.iter() {
+    for (_, line) in lines_of(alloc, LINES).ok_or("no lines")?.iter() {
         says.push_str(said(alloc, line)?.as_str())?;
         says.push_str("\n")?;
     }
@@ -297,37 +297,42 @@ stopped: record 0
 stopped: key
 ";
 
-#[test]
-fn lines_of_commands(rt: HostRuntime) -> Result<(), Fail> {
-    let mut sink = SteadySink::new(rt.alloc());
-    for shown in COMMANDS {
-        print(rt.alloc(), &mut sink, &shown)?;
+/// All that is printed, in memory.
+fn printed(alloc: Global, rows: &[Shown<'_>]) -> Option<SteadySink> {
+    let mut sink = SteadySink::new(alloc);
+    for shown in rows {
+        print(alloc, &mut sink, shown).ok()?;
     }
-    assert_eq!(rt; sink.bytes(), COMMANDS_PRINTED.as_bytes());
-    Ok(())
+    Some(sink)
 }
 
 #[test]
-fn lines_of_refusals(rt: HostRuntime) -> Result<(), Fail> {
-    let mut sink = SteadySink::new(rt.alloc());
-    for refusal in REFUSALS {
-        print(rt.alloc(), &mut sink, &Shown::Refused(refusal))?;
-    }
-    assert_eq!(rt; sink.bytes(), REFUSALS_PRINTED.as_bytes());
+fn lines_of_commands_and_refusals(rt: HostRuntime) -> Result<(), Fail> {
+    let commands = printed(rt.alloc(), &COMMANDS).ok_or("not printed")?;
+    let refusals = printed(rt.alloc(), &REFUSALS.map(|refusal| Shown::Refused(refusal))).ok_or(
+        "not printed",
+    )?;
+    assert_eq!(rt; commands.bytes(), COMMANDS_PRINTED.as_bytes());
+    assert_eq!(rt; refusals.bytes(), REFUSALS_PRINTED.as_bytes());
     Ok(())
+}
+
+/// The last lines of runs without memory.
+fn stops(alloc: Global) -> Option<SteadySink> {
+    let mut sink = SteadySink::new(alloc);
+    for cause in STOPS {
+        print_stop(&mut sink, &cause).ok()?;
+    }
+    Some(sink)
 }
 
 /// With memory and without.
 #[test]
 fn lines_of_stops(rt: HostRuntime) -> Result<(), Fail> {
-    let mut sink = SteadySink::new(rt.alloc());
-    let mut other = SteadySink::new(rt.alloc());
-    for cause in STOPS {
-        print(rt.alloc(), &mut sink, &Shown::Stopped(cause))?;
-        print_stop(&mut other, &cause)?;
-    }
-    assert_eq!(rt; sink.bytes(), STOPS_PRINTED.as_bytes());
-    assert_eq!(rt; other.bytes(), STOPS_PRINTED.as_bytes());
+    let with = printed(rt.alloc(), &STOPS.map(|cause| Shown::Stopped(cause))).ok_or("not printed")?;
+    let without = stops(rt.alloc()).ok_or("not printed")?;
+    assert_eq!(rt; with.bytes(), STOPS_PRINTED.as_bytes());
+    assert_eq!(rt; without.bytes(), STOPS_PRINTED.as_bytes());
     Ok(())
 }
 
@@ -336,8 +341,7 @@ fn a_search_that_finds_every_document_of_a_full_setup_is_printed(
     rt: HostRuntime,
 ) -> Result<(), Fail> {
     let ids = vec![in rt.alloc(); 7; 1 << 18]?;
-    let mut sink = SteadySink::new(rt.alloc());
-    print(rt.alloc(), &mut sink, &Shown::Found { ids: &ids })?;
+    let sink = printed(rt.alloc(), &[Shown::Found { ids: &ids }]).ok_or("not printed")?;
     assert!(rt; sink.bytes().starts_with(b"found 262144: 7 7 7"));
     assert_eq!(rt; sink.bytes().len(), 13 + 2 * (1 << 18) + 1);
     Ok(())
