@@ -27,10 +27,7 @@ fn main(rt: HostRuntime) -> io::Result<ExitCode> {
         return Ok(ExitCode::SUCCESS);
     }
     let Some((row, turns)) = row_of(&words) else {
-        println!(rt;
-            "usage: sse_bench ROW TURNS, where ROW is one of: {} colliding",
-            row::NAMES
-        )?;
+        print_usage(rt)?;
         return Ok(ExitCode::from(NO_ROW));
     };
     let Ok(sum) = row.run(rt.alloc(), turns) else {
@@ -38,6 +35,15 @@ fn main(rt: HostRuntime) -> io::Result<ExitCode> {
     };
     println!(rt; "{sum}")?;
     Ok(ExitCode::SUCCESS)
+}
+
+/// Prints what the words may be.
+fn print_usage(rt: HostRuntime) -> io::Result<()> {
+    print!(rt; "usage: sse_bench ROW TURNS, where ROW is one of:")?;
+    for (name, _) in &row::ROWS {
+        print!(rt; " {name}")?;
+    }
+    println!(rt; " colliding")
 }
 
 /// The row and the count of turns that the words name.

@@ -6,16 +6,35 @@ use server_tables::{BucketTables, SortedTables, TableFault};
 use sha2::{Digest, Sha256};
 use std::alloc::Global;
 
-/// The names of all rows.
-pub(crate) const NAMES: &str =
-    "prepared raw digests short_pads cell_pads block_pads sorted buckets alike plain searches revoked calls revoked_calls \
-    pages revoked_pages page_calls revoked_page_calls behind_few behind_many";
+/// Each row, with the word that names it.
+pub(crate) const ROWS: [(&str, Row); 20] = [
+    ("prepared", Row::Prepared),
+    ("raw", Row::Raw),
+    ("digests", Row::Digests),
+    ("short_pads", Row::ShortPads),
+    ("cell_pads", Row::CellPads),
+    ("block_pads", Row::BlockPads),
+    ("sorted", Row::Sorted),
+    ("buckets", Row::Buckets),
+    ("alike", Row::Alike),
+    ("plain", Row::Plain),
+    ("searches", Row::Searches),
+    ("revoked", Row::Revoked),
+    ("calls", Row::Calls),
+    ("revoked_calls", Row::RevokedCalls),
+    ("pages", Row::Pages),
+    ("revoked_pages", Row::RevokedPages),
+    ("page_calls", Row::PageCalls),
+    ("revoked_page_calls", Row::RevokedPageCalls),
+    ("behind_few", Row::BehindFew),
+    ("behind_many", Row::BehindMany),
+];
 
 /// The key of the rows of keyed calls, 32 bytes.
 const KEY: [u8; 32] = [7; 32];
 
 /// What is done in each turn.
-#[derive(Debug, Clone, Copy, PartialEq, Eq)]
+#[derive(Clone, Copy)]
 pub(crate) enum Row {
     /// A value of the function under a key that was prepared once, at an input of 8 bytes: two blocks of SHA-256.
     Prepared,
@@ -62,49 +81,12 @@ pub(crate) enum Row {
 impl Row {
     /// The row of this name.
     pub(crate) fn named(name: &str) -> Option<Row> {
-        if name == "prepared" {
-            Some(Row::Prepared)
-        } else if name == "raw" {
-            Some(Row::Raw)
-        } else if name == "digests" {
-            Some(Row::Digests)
-        } else if name == "short_pads" {
-            Some(Row::ShortPads)
-        } else if name == "cell_pads" {
-            Some(Row::CellPads)
-        } else if name == "block_pads" {
-            Some(Row::BlockPads)
-        } else if name == "sorted" {
-            Some(Row::Sorted)
-        } else if name == "buckets" {
-            Some(Row::Buckets)
-        } else if name == "alike" {
-            Some(Row::Alike)
-        } else if name == "plain" {
-            Some(Row::Plain)
-        } else if name == "searches" {
-            Some(Row::Searches)
-        } else if name == "revoked" {
-            Some(Row::Revoked)
-        } else if name == "calls" {
-            Some(Row::Calls)
-        } else if name == "revoked_calls" {
-            Some(Row::RevokedCalls)
-        } else if name == "pages" {
-            Some(Row::Pages)
-        } else if name == "revoked_pages" {
-            Some(Row::RevokedPages)
-        } else if name == "page_calls" {
-            Some(Row::PageCalls)
-        } else if name == "revoked_page_calls" {
-            Some(Row::RevokedPageCalls)
-        } else if name == "behind_few" {
-            Some(Row::BehindFew)
-        } else if name == "behind_many" {
-            Some(Row::BehindMany)
-        } else {
-            None
+        for (own, row) in &ROWS {
+            if *own == name {
+                return Some(*row);
+            }
         }
+        None
     }
 
     /// Makes so many turns, and answers a sum of what came, modulo 2^64.
