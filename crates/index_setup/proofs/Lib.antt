@@ -1,8 +1,8 @@
 mod ListsWithin
 mod KeyTags
-mod Ranks
-mod RankWrites
-mod TagLists
+mod RankLaws
+pub mod RankWrites
+pub mod TagLists
 mod FlatLists
 mod WrittenBack
 mod PlacedLaws

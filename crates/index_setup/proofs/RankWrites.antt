@@ -10,7 +10,7 @@ use Rattle.tag_order.specs.declared.tagged.Tagged.{Tagged}
 use Rattle.tag_order.proofs.FoundClash.{at, nothing}
 use Rattle.tag_order.proofs.Neighbours.{sorted_place, length-order}
 use Rattle.tag_order.proofs.InOrder.{key, pos, make, length-tagged_from, get_or-tagged_from, IsPlaced, sorted-IsPlaced, all_at}
-use Rattle.index_setup.proofs.Ranks.{rank_of_place}
+use Rattle.index_setup.proofs.RankLaws.{rank_of_place}
 
 pub length-ranks_of : (tags : List (List ℕ)) → length (ranks_of tags) ≡ length tags
 length-ranks_of tags = length-map-range_with_len _ 0 (length tags)

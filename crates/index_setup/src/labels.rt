@@ -95,7 +95,7 @@ fn push_under<K: Keyed>(
 }
 
 /// How many blocks a list of n identifiers takes, which isn't too long.
-pub(crate) fn blocks_in(n: u32, shape: Shape) -> u32
+pub fn blocks_in(n: u32, shape: Shape) -> u32
     requires some { 1 ≤ n }
     requires planned { IsSome (layout.plan shape n) }
     ensures { result ≡ layout.block_count (layout.plan shape n) }

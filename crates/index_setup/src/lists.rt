@@ -7,7 +7,7 @@ use std::alloc::{AllocError, Global};
 
 /// For each word, by word number, the identifiers of the documents with that word, in the documents' order: one list
 /// after the other. How long each is the documents know, so one pass over them fills all.
-pub(crate) fn lists_of(alloc: Global, docs: &Docs) -> Result<Vec<u64>, AllocError>
+pub fn lists_of(alloc: Global, docs: &Docs) -> Result<Vec<u64>, AllocError>
     ensures valid { IfOk result (λ _. IsCollected docs.now.documents) }
     ensures lists { IfOk result (λ ids. ids.items ≡ flat_map (ids_with docs.now.documents) (words_of docs.now.documents)) }
 {

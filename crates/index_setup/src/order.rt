@@ -5,8 +5,8 @@ ghost use Rattle.tag_order.specs.Tagged.{IsOrderOf};
 use std::alloc::{AllocError, Global};
 use tag_order::Tagged;
 
-/// The place of each position among the sorted.
-pub(crate) fn ranks(alloc: Global, sorted: &[Tagged]) -> Result<Vec<u32>, AllocError>
+/// The place of each position among the sorted. Error: where there is no memory.
+pub fn ranks(alloc: Global, sorted: &[Tagged]) -> Result<Vec<u32>, AllocError>
     requires most { length sorted.now ≤ 2 ^ 32 }
     requires positions { All (λ e. e.position < length sorted.now) sorted.now }
     ensures { IfOk result (λ ranks. (tags : List (List ℕ)) → IsOrderOf tags sorted.now → ranks.items ≡ ranks_of tags) }
