@@ -9,10 +9,19 @@ tail : (q : ℕ) (fs : List (ℕ → FrameText)) → map frame_bytes (numbered (
 tail q [] = refl
 tail q (f ∷ fs) = refl
 
+tail_behind : (n q : ℕ) (fs : List (ℕ → FrameText)) → map frame_bytes (numbered (q + n) (drop n fs)) ≡ drop n (map frame_bytes (numbered q fs))
+tail_behind zero q fs = let same : q + 0 ≡ q = omega arith in ap (λ m. map frame_bytes (numbered m fs)) same
+tail_behind (suc n) q [] = refl
+tail_behind (suc n) q (f ∷ fs) = let same : q + suc n ≡ q + 1 + n = omega arith in ap (λ m. map frame_bytes (numbered m (drop n fs))) same ∙ tail_behind n (q + 1) fs
+
 module _ (next place : ℕ) (fs : List (ℕ → FrameText)) where
   -- one frame less is left
   pub one_less : map frame_bytes (numbered (next + 1) (drop (place + 1) fs)) ≡ drop 1 (map frame_bytes (numbered next (drop place fs)))
   one_less = ap (λ gs. map frame_bytes (numbered (next + 1) gs)) (sym (drop-drop 1 place fs)) ∙ tail next (drop place fs)
+
+  -- so many less are left
+  pub some_less : (n : ℕ) → map frame_bytes (numbered (next + n) (drop (place + n) fs)) ≡ drop n (map frame_bytes (numbered next (drop place fs)))
+  some_less n = ap (λ gs. map frame_bytes (numbered (next + n) gs)) (sym (drop-drop n place fs)) ∙ tail_behind n next (drop place fs)
 
   -- after the last frame none is left
   pub none_left : length fs ≤ place + 1 → drop 1 (map frame_bytes (numbered next (drop place fs))) ≡ []

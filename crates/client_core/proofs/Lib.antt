@@ -11,4 +11,6 @@ mod DifferLaws
 mod PlanLaws
 mod StandsForLaws
 pub mod OwesLaws
+mod ResumeLaws
+mod ReplannedSetup
 mod Rows

@@ -80,7 +80,7 @@ Owes-setup f keys s behind stands sent first = record {
 -- After a reply.
 
 -- as many frames are sent as are left
-length-setup_left : (setup : OwedSetup) → length (setup_left setup) ≡ frames_in setup.index - setup.place
+pub length-setup_left : (setup : OwedSetup) → length (setup_left setup) ≡ frames_in setup.index - setup.place
 length-setup_left setup =
     let left = drop setup.place (index_frames setup.index) in
     length-map (numbered setup.next left) frame_bytes

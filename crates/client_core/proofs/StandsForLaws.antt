@@ -166,7 +166,7 @@ module _ (f : KeyedFn) (keys : ℕ → List ℕ) (o : Offsets) (run : Run) (key 
     pub refusal : refusal_to_add (facts state.registry) state.frames d ≡ add_refusal o run d
     refusal = refusal_is o run state s.registry s.number d
 
-    collision_is : option_map clash_fault (add_collision f key (facts state.registry) d) ≡ option_map clash_fault (collision_next f keys o run (Add d))
+    pub collision_is : option_map clash_fault (add_collision f key (facts state.registry) d) ≡ option_map clash_fault (collision_next f keys o run (Add d))
     collision_is =
         ap (λ x. option_map clash_fault (add_collision f key x d)) s.registry
         ∙ ap (λ k. option_map clash_fault (add_collision f k (facts_of run.setup run.later) d)) (sym under)
@@ -199,12 +199,16 @@ module _ (f : KeyedFn) (keys : ℕ → List ℕ) (o : Offsets) (run : Run) (key 
         ∙ sym (words_live-apart (live run.setup.documents run.later) id
         (live_apart run.setup (AreApart-from_IsDistinct (map (λ (d : Document). d.id) run.setup.documents) s.kept.0.collected.different) run.later s.kept.0.accepted))
 
+    pub collision_is-delete : option_map clash_fault (delete_collision f key id (unwrap_or ((facts state.registry).live id) [])) ≡ option_map clash_fault (collision_next f keys o run (Delete id))
+    collision_is-delete =
+        ap (λ words. option_map clash_fault (delete_collision f key id words)) live_words
+        ∙ ap (λ k. option_map clash_fault (delete_collision f k id (words_live (live run.setup.documents run.later) id))) (sym under)
+
     pub fault_is-delete : (x : Option CommandFault) → refusal_to_delete (facts state.registry) state.frames id ≡ None
         → x ≡ option_map clash_fault (delete_collision f key id (unwrap_or ((facts state.registry).live id) [])) → x ≡ delete_fault f keys o run id
     fault_is-delete x none is =
         is
-        ∙ ap (λ words. option_map clash_fault (delete_collision f key id words)) live_words
-        ∙ ap (λ k. option_map clash_fault (delete_collision f k id (words_live (live run.setup.documents run.later) id))) (sym under)
+        ∙ collision_is-delete
         ∙ ap (λ r. option_or r (option_map clash_fault (collision_next f keys o run (Delete id)))) (sym none ∙ refusal-delete)
 
     pub fault_refused-delete : (x : CommandFault) → refusal_to_delete (facts state.registry) state.frames id ≡ Some x → Some x ≡ delete_fault f keys o run id

@@ -11,4 +11,7 @@ pub mod UpdateParts
 pub mod Updates
 pub mod StandsFor
 pub mod Owes
+pub mod Restores
+pub mod ResumeFaults
+pub mod Resumes
 pub mod Texts

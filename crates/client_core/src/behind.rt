@@ -1,4 +1,4 @@
-ghost use Rattle.std.specs.Prelude.{◌≡◌, ◌+◌, ◌≤◌, ◌∷◌, [], drop, length, take, IfSome, None};
+ghost use Rattle.std.specs.Prelude.{◌≡◌, ◌+◌, ◌<◌, ◌≤◌, ◌∷◌, [], drop, length, take, IfSome, None};
 ghost use Rattle.sse_frames.specs.Frames.{IsNumber};
 ghost use Rattle.client_core.specs.Owed.{number_of_first, owed_frames};
 
@@ -69,6 +69,17 @@ impl Owed {
                 None => None,
             },
             Owed::Update(_) => None,
+        }
+    }
+    /// The frames after so many, fewer than there are. It takes no memory.
+    pub(crate) fn behind(self, count: u32) -> Owed
+        requires { count < length (owed_frames self) }
+        ensures left { owed_frames result ≡ drop count (owed_frames self) }
+        ensures next { number_of_first result ≡ number_of_first self + count }
+    {
+        match self {
+            Owed::Setup(setup) => Owed::Setup(setup.behind(count)),
+            Owed::Update(update) => Owed::Update(update),
         }
     }
 }

@@ -79,4 +79,20 @@ impl OwedSetup {
             None
         }
     }
+    /// The frames after so many, fewer than there are. It takes no memory.
+    pub(crate) fn behind(self, count: u32) -> OwedSetup
+        requires { count < length (setup_left self) }
+        ensures left { setup_left result ≡ drop count (setup_left self) }
+        ensures next { result.next ≡ self.next + count }
+    {
+        let OwedSetup {
+            index,
+            room,
+            place,
+            next,
+            size: _,
+        } = self;
+        prove!(place < frame_count(&index));
+        OwedSetup::at(index, room, place + count, next + count)
+    }
 }

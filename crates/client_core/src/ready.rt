@@ -73,6 +73,20 @@ impl Ready {
         }
     }
 
+    /// What a client keeps of this registry, with no key derived yet, where so many update frames were planned. It takes no
+    /// memory.
+    pub(crate) fn of_registry(alloc: Global, registry: Registry, frames: u32) -> Ready
+        ensures registry { result.registry ≡ registry }
+        ensures frames { result.frames ≡ frames }
+        ensures keeps { (f : KeyedFn) (master : List ℕ) → Keeps f master (known_words result.registry) result.keys }
+    {
+        Ready {
+            registry,
+            keys: KeptKeys::new(alloc),
+            frames,
+        }
+    }
+
     /// The frame of an addition that nothing refuses, its memory taken, and the numbers of the document's words. Errors: as
     /// `add_update`.
     pub(crate) fn addition<K: Keyed>(

@@ -1,11 +1,11 @@
-ghost use Rattle.std.specs.Prelude.{◌≡◌, ◌≢◌, ◌<◌, ◌∷◌, [], ℕ, List, true, false, take, Some};
+ghost use Rattle.std.specs.Prelude.{◌≡◌, ◌≢◌, ◌+◌, ◌<◌, ◌∷◌, [], ℕ, List, true, false, take, Some};
 ghost use Rattle.client_registry.specs.Run.{Offsets, Run};
 ghost use Rattle.keyed_fn.specs.KeyedFn.{KeyedFn};
 ghost use Rattle.sse_frames.specs.Frames.{IsNumber};
 ghost use Rattle.sse_frames.specs.Replies.{reply_bytes, Took, StoreFault};
 ghost use Rattle.sse_frames.specs.FrameViews.{reply_view};
 ghost use Rattle.client_core.specs.Owes.{Owes, OwesBehind};
-ghost use Rattle.client_core.specs.Sending.{frames_left, to_send, left_behind, stopped_by, AfterReply, is_took};
+ghost use Rattle.client_core.specs.Sending.{first_number, frames_left, to_send, left_behind, stopped_by, AfterReply, is_took};
 
 use crate::behind::Behind;
 use crate::client::{Client, Spent};
@@ -51,6 +51,27 @@ impl Client<Behind> {
                 state: Behind { ready, owed },
             }),
             None => Taken::Ready(Client { key, state: ready }),
+        }
+    }
+}
+
+impl Client<Behind> {
+    /// Passes over so many of the frames, fewer than there are, which the server has. It takes no memory.
+    pub(crate) fn skip(self, count: u32) -> Client<Behind>
+        requires { count < frames_left self.state }
+        ensures key { result.key ≡ self.key }
+        ensures ready { result.state.ready ≡ self.state.ready }
+        ensures first { first_number result.state ≡ first_number self.state + count }
+        ensures owes { (f : KeyedFn) (keys : ℕ → List ℕ) (o : Offsets) (run : Run) (k : ℕ) → Owes f keys o run k self.state → Owes f keys o run (k + count) result.state }
+    {
+        let Client { key, state } = self;
+        let Behind { ready, owed } = state;
+        Client {
+            key,
+            state: Behind {
+                ready,
+                owed: owed.behind(count),
+            },
         }
     }
 }

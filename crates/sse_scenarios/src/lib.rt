@@ -1,8 +1,8 @@
 //! Whole runs of the client as tests, which stand above every crate: over an honest link with the bytes that pass, those
 //! of the worked examples of docs/LEAKAGE.md among them, over links that play back made-up replies, and over devices and
 //! links that fail at chosen calls. Beside them the tests of the client's crates above level 3 whose values no run shows:
-//! of a word's keys, of the last counter, of a reply that is no page, of a client's records; and what is simulated of a
-//! setup. It exports nothing; what it shows is tested and not proved.
+//! of a word's keys, of the last counter, of a reply that is no page, of a client's records and the history that they make;
+//! and what is simulated of a setup. It exports nothing; what it shows is tested and not proved.
 #![tactic(auto)]
 
 #[cfg(test)]
@@ -20,9 +20,13 @@ mod made_up_links;
 #[cfg(test)]
 mod printed;
 #[cfg(test)]
+mod rebuilds;
+#[cfg(test)]
 mod records;
 #[cfg(test)]
 mod reply_pages;
+#[cfg(test)]
+mod resumed;
 #[cfg(test)]
 mod running;
 #[cfg(test)]

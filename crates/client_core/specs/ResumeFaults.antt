@@ -1,0 +1,34 @@
+-- What the faults of a command that is planned again mean to a client that goes on.
+use Rattle.std.specs.Prelude.{Option, None, Some}
+use Rattle.index_setup.specs.declared.fault.BuildFault.{BuildFault}
+use Rattle.index_setup.specs.declared.fault.BuildFault.TheVariants as builds
+use Rattle.sse_model.specs.Compared.{Collision, Labels, Numbers, Places}
+use Rattle.client_core.specs.declared.command_fault.CommandFault.{CommandFault}
+use Rattle.client_core.specs.declared.command_fault.CommandFault.TheVariants as commands
+use Rattle.client_core.specs.declared.resume_fault.ResumeFault.{ResumeFault}
+use Rattle.client_core.specs.declared.resume_fault.ResumeFault.TheVariants.{LabelClash, NoMemory, NumberClash, PlaceClash}
+
+-- how two equal values are named
+abbrev pub collision_fault : Collision → ResumeFault
+collision_fault (Labels first second) = LabelClash first second
+collision_fault (Places first second) = PlaceClash first second
+collision_fault (Numbers first second) = NumberClash first second
+
+-- the fault of a setup's plan; a size that was accepted isn't refused
+abbrev pub setup_fault : BuildFault → Option ResumeFault
+setup_fault (builds.LabelClash first second) = Some (LabelClash first second)
+setup_fault (builds.PlaceClash first second) = Some (PlaceClash first second)
+setup_fault builds.NoMemory = Some NoMemory
+setup_fault (builds.BadParameter which value) = None
+setup_fault (builds.ListTooLong word n) = None
+setup_fault (builds.TooManyBytes n) = None
+
+-- and of an update's plan; one that was accepted isn't refused
+abbrev pub update_fault : CommandFault → Option ResumeFault
+update_fault (commands.LabelClash first second) = Some (LabelClash first second)
+update_fault (commands.NumberClash first second) = Some (NumberClash first second)
+update_fault commands.NoMemory = Some NoMemory
+update_fault (commands.AlreadyLive id) = None
+update_fault (commands.UnknownDocument id) = None
+update_fault (commands.CounterFull position) = None
+update_fault commands.HistoryFull = None
