@@ -1,0 +1,11 @@
+//! What a history draws and looks up, and the values of these names, as tests: histories with what an independent model of the store
+//! says of them. They stand in a crate of their own, since a crate with a test is proved twice. It exports nothing; what it shows is
+//! tested and not proved.
+#![tactic(auto)]
+
+#[cfg(test)]
+mod histories;
+#[cfg(test)]
+mod texts;
+#[cfg(test)]
+mod values;

@@ -1,0 +1,4 @@
+pub mod Zeros
+pub mod ValueLaws
+pub mod HeldLaws
+pub mod ShapeLaws
