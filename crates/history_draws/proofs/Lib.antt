@@ -1,0 +1,4 @@
+pub mod BesideLaws
+pub mod GivenLaws
+pub mod SheetDraws
+pub mod SentLaws

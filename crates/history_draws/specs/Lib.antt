@@ -1,0 +1,5 @@
+pub mod Beside
+pub mod Clears
+pub mod Given
+pub mod SheetOf
+pub mod Sides

@@ -1,0 +1,4 @@
+pub mod ListWalk
+pub mod ClearLaws
+pub mod MoreTexts
+pub mod SetupParts
