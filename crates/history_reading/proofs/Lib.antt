@@ -1,3 +1,4 @@
 mod CommandRefused
 pub mod Meaning
 mod LinesTaken
+pub mod ReadingGoesOn

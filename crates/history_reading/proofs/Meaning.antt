@@ -18,8 +18,8 @@ use Rattle.script_meaning.specs.Outcome.{Place, Refuses, Does, opened, outcome, 
 use Rattle.sse_script.specs.Shown.{Shown}
 use Rattle.sse_script.specs.Texts.{text_of}
 use Rattle.sse_script.specs.declared.refusal.Refusal.TheVariants.{HistoryFull}
-use Rattle.history_reading.specs.Reads.{ReadEnd, EndsSo, StopsUnread, StopsPrinting, Reads, ReadsFirst, is_full, numbered, read_outcome, refusal_in, refused_text}
-use Rattle.history_reading.specs.Meant.{IsCalm, IsReadAs, is_refused_line}
+use Rattle.history_reading.specs.Reads.{ReadEnd, Whole, EndsSo, StopsUnread, StopsPrinting, Reads, ReadsFirst, is_full, numbered, read_outcome, refusal_in, refused_text}
+use Rattle.history_reading.specs.Meant.{IsCalm, IsReadAs, end_of, is_refused_line}
 
 -- Where nothing disturbs a reading.
 
@@ -87,17 +87,26 @@ same_outcome place line = by_cases place line (λ o. IfSome (after o place).hist
 
 -- Readings.
 
+-- the number behind one line and those after it
+next-line : {X : Type 0} (number : ℕ) (line : X) (lines : List X) → number + 1 + length lines ≡ number + length (line ∷ lines)
+next-line number line lines = omega arith
+
+-- and behind none
+no-line : (number : ℕ) → number ≡ number + 0
+no-line number = omega arith
+
 -- from a place
 pub reads-follow : (place : Place) (number : ℕ) (lines : List (Option Line)) (refused : Bool) (now last : Option (List ℕ)) (end : ReadEnd) → Reads place number lines refused now last end → IsCalm end
-    → IfSome (follow place number lines refused).history IsSized → IsReadAs (follow place number lines refused) now last end
+    → IfSome (follow place number lines refused).history IsSized → IsReadAs (follow place number lines refused) (number + length lines) now last end
 reads-follow place number [] refused now last end reads calm sized =
-    let so = ends_so now last end calm _ reads in record { ends = so.1; printed = so.0 ∙ sym (known-nil now) }
+    let so = ends_so now last end calm _ reads in record { ends = so.1 ∙ ap (Whole place.key place.history refused) (no-line number); printed = so.0 ∙ sym (known-nil now) }
 reads-follow place number (None ∷ lines) refused now last end reads calm sized =
     let so = ends_so now last end calm _ reads in record { ends = so.1; printed = so.0 ∙ sym (known-nil now) }
 reads-follow place number (Some Empty ∷ lines) refused now last end reads calm sized =
     elim reads [
       | inl unread ↦ absurd (goes_on now last end calm unread)
-      | inr rest ↦ reads-follow place (number + 1) lines refused now last end rest calm sized
+      | inr rest ↦
+          subst (λ next. IsReadAs (follow place (number + 1) lines refused) next now last end) (next-line number (Some Empty) lines) (reads-follow place (number + 1) lines refused now last end rest calm sized)
     ]
 reads-follow place number (Some (Key key) ∷ lines) refused now last end reads calm sized =
     let so = ends_so now last end calm _ reads in record { ends = so.1; printed = so.0 ∙ sym (known-nil now) }
@@ -114,7 +123,7 @@ reads-follow place number (Some (Command line) ∷ lines) refused now last end r
             let after_it = reads-follow next (number + 1) lines (refused || is_refusal o) (append_known now (refused_text (refusal_in o))) last end
             (subst (λ r. Reads (after r place) (number + 1) lines (refused || is_refusal r) (append_known now (refused_text (refusal_in r))) last end) same rest) calm sized in
             record {
-              ends = after_it.ends;
+              ends = after_it.ends ∙ ap (λ n. end_of m.key m.history n m.end) (next-line number (Some (Command line)) lines);
               printed = after_it.printed ∙ known-append now (refused_text (refusal_in o)) (refusals_text m.shown) ∙ ap (append_known now) (sym (text_first place line m.shown));
             }
       ]
@@ -122,7 +131,7 @@ reads-follow place number (Some (Command line) ∷ lines) refused now last end r
 
 -- from before the key line
 pub reads-meant : (number : ℕ) (lines : List (Option Line)) (now last : Option (List ℕ)) (end : ReadEnd) → ReadsFirst number lines now last end → IsCalm end
-    → IfSome (meant_from number lines).history IsSized → IsReadAs (meant_from number lines) now last end
+    → IfSome (meant_from number lines).history IsSized → IsReadAs (meant_from number lines) (number + length lines) now last end
 reads-meant number [] now last end reads calm sized =
     let so = ends_so now last end calm _ reads in record { ends = so.1; printed = so.0 ∙ sym (known-nil now) }
 reads-meant number (None ∷ lines) now last end reads calm sized =
@@ -130,17 +139,22 @@ reads-meant number (None ∷ lines) now last end reads calm sized =
 reads-meant number (Some Empty ∷ lines) now last end reads calm sized =
     elim reads [
       | inl unread ↦ absurd (goes_on now last end calm unread)
-      | inr rest ↦ reads-meant (number + 1) lines now last end rest calm sized
+      | inr rest ↦ subst (λ next. IsReadAs (meant_from (number + 1) lines) next now last end) (next-line number (Some Empty) lines) (reads-meant (number + 1) lines now last end rest calm sized)
     ]
 reads-meant number (Some (Key key) ∷ lines) now last end reads calm sized =
     elim reads [
       | inl unread ↦ absurd (goes_on now last end calm unread)
-      | inr rest ↦ reads-follow (opened key) (number + 1) lines false now last end rest calm sized
+      | inr rest ↦
+          subst (λ next. IsReadAs (follow (opened key) (number + 1) lines false) next now last end) (next-line number (Some (Key key)) lines) (reads-follow (opened key) (number + 1) lines false now last end rest calm sized)
     ]
 reads-meant number (Some (Command line) ∷ lines) now last end reads calm sized =
     let so = ends_so now last end calm _ reads in record { ends = so.1; printed = so.0 ∙ sym (known-nil now) }
 
 -- of a script's bytes
 pub reads-meaning : (bytes : List ℕ) (now last : Option (List ℕ)) (end : ReadEnd) → ReadsFirst 1 (script_lines bytes) now last end → IsCalm end
-    → IfSome (meaning bytes).history IsSized → IsReadAs (meaning bytes) now last end
-reads-meaning bytes now last end reads calm sized = reads-meant 1 (script_lines bytes) now last end reads calm sized
+    → IfSome (meaning bytes).history IsSized → IsReadAs (meaning bytes) (length (script_lines bytes) + 1) now last end
+reads-meaning bytes now last end reads calm sized =
+    subst (λ next. IsReadAs (meaning bytes) next now last end) (number-behind (length (script_lines bytes))) (reads-meant 1 (script_lines bytes) now last end reads calm sized)
+  where
+    number-behind : (n : ℕ) → 1 + n ≡ n + 1
+    number-behind n = omega arith

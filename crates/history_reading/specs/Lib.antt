@@ -2,3 +2,4 @@ pub mod Reads
 pub mod Meant
 pub mod Numbered
 pub mod Stages
+pub mod Turns

@@ -25,14 +25,16 @@ pub record IsCalm (end : ReadEnd) : Type 0 where
   pub source : end ≢ Stopped (Some SourceFault)
   pub memory : end ≢ Stopped (Some NoMemory)
 
--- the script's end, by its key and its history: its lines are all read, or its first bad line is told
-abbrev pub end_of : Option (List ℕ) → History → Stop → ReadEnd
-end_of (Some key) history (ends.AtEnd refused) = Whole key history refused
-end_of None history (ends.AtEnd refused) = Stopped None
-end_of key history ends.SinkFault = Stopped None
-end_of key history (ends.At cause) = Stopped (Some cause)
+-- the script's end, by its key, its history and the number behind its last line: its lines are all read, or its first bad line is
+-- told
+abbrev pub end_of : Option (List ℕ) → History → (next : ℕ) → Stop → ReadEnd
+end_of (Some key) history next (ends.AtEnd refused) = Whole key history refused next
+end_of None history next (ends.AtEnd refused) = Stopped None
+end_of key history next ends.SinkFault = Stopped None
+end_of key history next (ends.At cause) = Stopped (Some cause)
 
--- a reading did what a script of this meaning means: its history is made, and of its lines the refusals are printed, in their order
-pub record IsReadAs (m : Meaning) (now last : Option (List ℕ)) (end : ReadEnd) : Type 0 where
-  pub ends : end ≡ end_of m.key m.history m.end
+-- a reading did what a script of this meaning means, which ends before a line of this number: its history is made, and of its
+-- lines the refusals are printed, in their order
+pub record IsReadAs (m : Meaning) (next : ℕ) (now last : Option (List ℕ)) (end : ReadEnd) : Type 0 where
+  pub ends : end ≡ end_of m.key m.history next m.end
   pub printed : last ≡ append_known now (flat_map text_of (filter is_refused_line m.shown))

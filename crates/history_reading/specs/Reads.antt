@@ -14,10 +14,10 @@ use Rattle.sse_script.specs.declared.refusal.Refusal.TheVariants.{HistoryFull}
 use Rattle.sse_script.specs.Shown.{Cause, BadLine, SourceFault, NoMemory, Refused}
 use Rattle.sse_script.specs.Texts.{text_of}
 
--- how a reading ends: at the end of the script, with its key, its history, and whether a command was refused; or before it, for
--- a cause, and for none where the sink is what failed
+-- how a reading ends: at the end of the script, with its key, its history, whether a command was refused, and the number that one
+-- more line would have; or before it, for a cause, and for none where the sink is what failed
 pub data ReadEnd : Type 0 where
-  Whole : (key : List ℕ) (history : History) (refused : Bool) → ReadEnd
+  Whole : (key : List ℕ) (history : History) (refused : Bool) (next : ℕ) → ReadEnd
   Stopped : Option Cause → ReadEnd
 
 -- the commands, the setup among them, or the words can't be numbered in 32 bits
@@ -69,7 +69,7 @@ pub record StopsPrinting (text : List ℕ) (now last : Option (List ℕ)) (end :
 -- a reading of these lines, which begins at a place when this was printed and ends so when that was: the first line has this
 -- number, and a command was refused before it or none
 abbrev pub Reads : Place → (number : ℕ) → List (Option Line) → (refused : Bool) → (now last : Option (List ℕ)) → ReadEnd → Type 0
-Reads place number [] refused now last end = EndsSo (Whole place.key place.history refused) now last end
+Reads place number [] refused now last end = EndsSo (Whole place.key place.history refused number) now last end
 Reads place number (None ∷ lines) refused now last end = EndsSo (Stopped (Some (BadLine number))) now last end
 Reads place number (Some Empty ∷ lines) refused now last end = StopsUnread now last end ⊎ Reads place (number + 1) lines refused now last end
 Reads place number (Some (Key key) ∷ lines) refused now last end = EndsSo (Stopped (Some (BadLine number))) now last end

@@ -1,0 +1,89 @@
+-- What the loop over the lines of a script that is read does: one line of it, one turn, and where a reading stands after it.
+use Rattle.std.specs.Prelude.{◌≡◌, ◌⊎◌, ℕ, ◌+◌, Bool, ◌||◌, List, Option, None, Some, Result, Ok, Err}
+use Rattle.std.specs.Io.KnownBytes.{append_known}
+use Rattle.client_registry.specs.Run.{History}
+use Rattle.run_texts.specs.Causes.{SourceCause}
+use Rattle.run_texts.specs.Stops.{stop_cause}
+use Rattle.run_texts.specs.declared.stop_cause.StopCause.{StopCause}
+use Rattle.script_meaning.specs.Lines.{Request}
+use Rattle.script_meaning.specs.Outcome.{Place, after, is_refusal}
+use Rattle.history_reading.specs.Reads.{ReadEnd, Whole, Stopped, StopsUnread, StopsPrinting, ReadsFrom, read_outcome, refusal_in, refused_text}
+use Rattle.history_reading.specs.Stages.{IsAt}
+use Rattle.history_reading.specs.declared.lines.Progress.{Progress}
+use Rattle.history_reading.specs.declared.lines.Turn.{Turn}
+use Rattle.history_reading.specs.declared.lines.Turn.TheVariants.{Next, End}
+use Rattle.history_reading.specs.declared.reading.ReadScript.{ReadScript}
+use Rattle.history_reading.specs.declared.stage.Stage.{Stage}
+use Rattle.history_reading.specs.declared.stage.Stage.TheVariants.{Collecting, Built}
+
+-- a moment of a reading: where it stands in its script, the number of the next line, the texts of those that are left, whether a
+-- command was refused, and what was printed
+pub record Moment : Type 0 where
+  pub place : Place
+  pub number : ℕ
+  pub left : Option (List (List ℕ))
+  pub refused : Bool
+  pub printed : Option (List ℕ)
+
+abbrev pub moment : Place → ℕ → Option (List (List ℕ)) → Bool → Option (List ℕ) → Moment
+moment place number left refused printed = record { place = place; number = number; left = left; refused = refused; printed = printed }
+
+-- a reading from this moment ends so when that was printed
+abbrev pub ReadsOn : Moment → (last : Option (List ℕ)) → ReadEnd → Type 0
+ReadsOn now last end = ReadsFrom now.place now.number now.left now.refused now.printed last end
+
+-- where a reading stands after some lines: whatever is read from there is read from the moment at which they began
+pub record IsThere (start : Moment) (next : Progress) (number : ℕ) (left : Option (List (List ℕ))) (printed : Option (List ℕ)) : Type 0 where
+  pub place : Place
+  pub at : IsAt next.stage place
+  pub key : place.key ≡ start.place.key
+  pub rest : (last : Option (List ℕ)) (end : ReadEnd) → ReadsOn (moment place (number + 1) left next.refused printed) last end → ReadsOn start last end
+
+-- the history of a stage: none before the setup
+abbrev pub history_at : Stage → History
+history_at (Collecting docs) = None
+history_at (Built history) = Some history
+
+-- how the reading of these lines ended, under this key, where one more line would have this number
+abbrev pub end_at : (key : List ℕ) (next : ℕ) → Result Progress StopCause → ReadEnd
+end_at key next (Ok progress) = Whole key (history_at progress.stage) progress.refused next
+end_at key next (Err stop) = Stopped (stop_cause stop)
+
+-- a command at a place comes to this: the reading stands after it, with its refusal printed; or it stops, with nothing printed or
+-- a proper front of the refusal
+abbrev pub ComesThrough : Place → Request → (refused : Bool) (now last : Option (List ℕ)) → Result Progress StopCause → Type 0
+ComesThrough place request refused now last (Ok next) =
+    let result = read_outcome place request in
+    IsAt next.stage (after result place) × (next.refused ≡ refused || is_refusal result) × (last ≡ append_known now (refused_text (refusal_in result)))
+ComesThrough place request refused now last (Err stop) =
+    StopsUnread now last (Stopped (stop_cause stop)) ⊎ StopsPrinting (refused_text (refusal_in (read_outcome place request))) now last (Stopped (stop_cause stop))
+
+-- a stop that isn't for the source, whose count stayed
+abbrev pub IsElsewhere : StopCause → Type 0
+IsElsewhere stop = (faults : ℕ) → SourceCause faults faults stop
+
+-- a line that is read leads from this moment to where the reading stands after it, or to the end of the reading
+abbrev pub LeadsOn : Moment → (number : ℕ) (left : Option (List (List ℕ))) (printed : Option (List ℕ)) → Result Progress StopCause → Type 0
+LeadsOn start number left printed (Ok next) = IsThere start next number left printed
+LeadsOn start number left printed (Err stop) = ReadsOn start printed (Stopped (stop_cause stop))
+
+-- so does a turn, which may also find no line
+abbrev pub LeadsTo : Moment → (number : ℕ) (left : Option (List (List ℕ))) (printed : Option (List ℕ)) → Result Turn StopCause → Type 0
+LeadsTo start number left printed (Ok (Next next)) = IsThere start next number left printed
+LeadsTo start number left printed (Ok (End progress)) = ReadsOn start printed (Whole start.place.key (history_at progress.stage) progress.refused number)
+LeadsTo start number left printed (Err stop) = ReadsOn start printed (Stopped (stop_cause stop))
+
+-- what holds where a turn leads to one more
+abbrev pub OnNext : Turn → Type 0 → Type 0
+OnNext (Next next) P = P
+OnNext (End progress) P = Unit {0}
+
+-- and of a turn that finds no line
+abbrev pub OnEnd : Turn → Type 0 → Type 0
+OnEnd (Next next) P = Unit {0}
+OnEnd (End progress) P = P
+
+-- how the reading of a script ended
+abbrev pub reading_end : Result ReadScript StopCause → ReadEnd
+reading_end (Ok read) = Whole read.key read.history read.refused read.next
+reading_end (Err stop) = Stopped (stop_cause stop)

@@ -1,0 +1,113 @@
+ghost use Rattle.std.specs.Prelude.{◌≡◌, ◌≤◌, ◌+◌, ◌^◌, ℕ, List, None, Option, Some, IfErr, IfOk, IfSome, OnOk, false};
+ghost use Rattle.std.specs.Io.KnownBytes.{IsAtEnd};
+ghost use Rattle.client_registry.specs.Sized.{IsSized};
+ghost use Rattle.run_texts.specs.Causes.{InputCause, KeepsSink, KeepsSource, SourceCause};
+ghost use Rattle.run_texts.specs.Stops.{input_cause};
+ghost use Rattle.script_meaning.specs.Outcome.{opened};
+ghost use Rattle.sse_script.specs.TextLines.{bytes_to_come, lines_left};
+ghost use Rattle.history_reading.specs.Reads.{ReadEnd, ReadsFirstFrom, ReadsFrom, Stopped};
+ghost use Rattle.history_reading.specs.Turns.{history_at, reading_end};
+
+use crate::lines::{Progress, read_lines};
+use crate::stage::Stage;
+use client_registry::{Docs, HashKeys};
+use command_history::History;
+use keyed_fn::Keyed;
+use run_texts::{Input, InputStop, StopCause};
+use sse_outside::{Sink, Source};
+use sse_script::Line;
+use std::alloc::Global;
+use word_keys::MasterKey;
+
+/// A script that was read to its end.
+#[derive(Drop)]
+pub struct ReadScript {
+    /// Its key.
+    pub key: MasterKey,
+    /// Its history; none where no setup was accepted.
+    pub history: Option<History>,
+    /// Whether a command was refused.
+    pub refused: bool,
+    /// The number that one more line would have, from 1.
+    pub next: u64,
+}
+
+/// Reads a script up to the end of the source: its key line, then its lines, of which the refusals are printed as a run prints them,
+/// and nothing else is. The keyed function only hashes its words and identifiers.
+///
+/// A reading stops as a run does: at the first line that isn't in the grammar or stands where its kind may not, where the source
+/// or the sink failed, and for want of memory. The line that says why is the caller's to print.
+pub fn read_history<K: Keyed, S: Source, W: Sink>(
+    alloc: Global,
+    keyed: &K,
+    source: &mut S,
+    sink: &mut W,
+    input: &mut Input,
+) -> Result<ReadScript, StopCause>
+    requires few { input.old.number + bytes_to_come input.old.pending (S.handed_out source.old) ≤ 2 ^ 63 }
+    ensures reads { ReadsFirstFrom (input.old.number + 1) (lines_left input.old.pending (S.remaining source.old)) (W.written sink.old) (W.written sink.new) (reading_end result) }
+    ensures sized { IfOk result (λ read. IfSome read.history IsSized) }
+    ensures at_end { OnOk result (IsAtEnd (S.remaining source.new)) }
+    ensures source { KeepsSource SourceCause (S.faults source.old) (S.faults source.new) result }
+    ensures sink { KeepsSink (W.faults sink.old) (W.faults sink.new) (W.shortages sink.old) (W.shortages sink.new) result }
+{
+    let key = key_line(source, input)?;
+    let keys = hash_keys(keyed, &key);
+    let progress = Progress {
+        stage: Stage::Collecting(Docs::new(alloc, keys)),
+        refused: false,
+    };
+    match read_lines(alloc, keys, source, sink, input, progress) {
+        Ok(last) => Ok(whole_script(key, last, input.number())),
+        Err(stop) => Err(stop),
+    }
+}
+
+/// The keys under which a reading hashes its words and identifiers.
+fn hash_keys<K: Keyed>(keyed: &K, key: &MasterKey) -> HashKeys {
+    key.prepare(keyed).hash_keys(keyed)
+}
+
+/// What was read, where one more line would have this number.
+fn whole_script(key: MasterKey, last: Progress, next: u64) -> ReadScript
+    ensures key { result.key ≡ key }
+    ensures history { result.history ≡ history_at last.stage }
+    ensures refused { result.refused ≡ last.refused }
+    ensures next { result.next ≡ next }
+    ensures sized { IfSome result.history IsSized }
+{
+    let Progress { stage, refused } = last;
+    let history = match stage {
+        Stage::Collecting(_) => None,
+        Stage::Built(history) => Some(history.into_history()),
+    };
+    ReadScript {
+        key,
+        history,
+        refused,
+        next,
+    }
+}
+
+/// Reads up to the key line, which is the first that isn't empty.
+fn key_line<S: Source>(source: &mut S, input: &mut Input) -> Result<MasterKey, InputStop>
+    requires few { input.old.number + bytes_to_come input.old.pending (S.handed_out source.old) ≤ 2 ^ 63 }
+    ensures key { IfOk result (λ key. (now last : Option (List ℕ)) (end : ReadEnd) →
+        ReadsFrom (opened key) (input.new.number + 1) (lines_left input.new.pending (S.remaining source.new)) false now last end →
+        ReadsFirstFrom (input.old.number + 1) (lines_left input.old.pending (S.remaining source.old)) now last end) }
+    ensures stopped { IfErr result (λ stop. (now : Option (List ℕ)) →
+        ReadsFirstFrom (input.old.number + 1) (lines_left input.old.pending (S.remaining source.old)) now now (Stopped (Some (input_cause stop)))) }
+    ensures few_left { OnOk result (input.new.number + bytes_to_come input.new.pending (S.handed_out source.new) ≤ 2 ^ 63) }
+    ensures source { KeepsSource InputCause (S.faults source.old) (S.faults source.new) result }
+{
+    'lines: loop {
+        if !input.advance(source)? {
+            return Err(InputStop::Line(input.number()));
+        }
+        match input.line()? {
+            Line::Empty => {}
+            Line::Key(bytes) => return Ok(MasterKey::new(bytes)),
+            _ => return Err(InputStop::Line(input.number())),
+        }
+    }
+}
