@@ -1,0 +1,2 @@
+mod LeaksTold
+pub mod ToldMeaning
