@@ -1,0 +1,86 @@
+ghost use Rattle.std.specs.Prelude.{◌≡◌, ◌≢◌, ◌⊎◌, ◌+◌, ◌≤◌, List, true, None, Err, IsErr, IfOk, IfSome, OnOk};
+ghost use Rattle.keyed_fn.specs.KeyedFn.{keyed_fn};
+ghost use Rattle.sse_outside.specs.Causes.{Rose};
+ghost use Rattle.sse_frames.specs.Frames.{FrameText};
+ghost use Rattle.sse_journal.specs.Files.{Gives};
+ghost use Rattle.sse_journal.specs.JournalView.{broken_by};
+ghost use Rattle.server_core.specs.State.{at_first};
+ghost use Rattle.sse_server.specs.Taken.{AreTaken, bodies};
+ghost use Rattle.sse_server.specs.StoreView.{IsStoreFrom, IsWithin};
+ghost use Rattle.sse_served.specs.Services.{HasServed, IsNoJournal};
+
+use crate::stop::Stop;
+use keyed_fn::Keyed;
+use server_tables::BucketTables;
+use sse_outside::Disk;
+use sse_server::{Buffers, Store};
+use sse_serving::{Conns, Incoming, Outgoing, serve};
+use std::alloc::Global;
+
+/// Starts a store on the journal of a disk.
+///
+/// `Disk` where the disk failed; `NoJournal` where the file is no journal of a server; `Memory`.
+fn started<D: Disk>(alloc: Global, disk: &mut D) -> Result<Store<BucketTables>, Stop>
+    ensures started { IfOk result (λ store. IfSome (D.content disk.old) (λ bytes. IsStoreFrom bytes store (D.content disk.new) (D.images disk.new))) }
+    ensures whole { IfOk result (λ store. broken_by store.journal ≡ None) }
+    ensures within { IfOk result (λ store. IsWithin store.journal (D.content disk.new)) }
+    ensures steady { OnOk result (D.faults disk.new ≡ D.faults disk.old) }
+
+    // Why it isn't.
+    ensures disk { result ≡ Err Stop.Disk → Rose (D.faults disk.old) (D.faults disk.new) }
+    ensures no_journal { result ≡ Err Stop.NoJournal → IfSome (D.content disk.old) (λ bytes. IsNoJournal bytes) }
+    ensures no_journal_refused { IfSome (D.content disk.old) (λ bytes. IsNoJournal bytes → IsErr result) }
+    ensures journal_taken { IfSome (D.content disk.old) (λ bytes. (frames : List FrameText) → AreTaken at_first frames → Gives (bodies frames) bytes → result ≢ Err Stop.NoJournal) }
+    ensures link { result ≢ Err Stop.Link }
+    ensures words { result ≢ Err Stop.Words }
+{
+    match Store::start(alloc, BucketTables::new(alloc), disk) {
+        Ok(store) => Ok(store),
+        Err(fault) => Err(Stop::from(fault)),
+    }
+}
+
+/// Starts a store on the journal of a disk, and serves connections from it, as many as `most` says or there are.
+///
+/// `Disk` where the disk failed, at the start or at a record; `NoJournal` where the file is no journal of a server; `Link` where
+/// no connection was given; `Memory` before any was asked for.
+pub(crate) fn serve_all<K: Keyed, D: Disk, C: Conns>(
+    alloc: Global,
+    keyed: &K,
+    disk: &mut D,
+    conns: &mut C,
+    most: u32,
+) -> Result<(), Stop>
+    ensures served { OnOk result (HasServed (keyed_fn K.prf K.pad) D.content D.images C.In.remaining C.Out.written disk.old disk.new (C.offered conns.old) (C.offered conns.new) (C.returned conns.old) (C.returned conns.new)) }
+    ensures all { OnOk result ((C.given conns.new ≡ C.given conns.old + most) ⊎ (C.ended conns.new ≡ true)) }
+    ensures few { C.given conns.new ≤ C.given conns.old + most }
+    ensures none_lent { C.lent conns.new ≡ C.lent conns.old }
+
+    // Why it ends before.
+    ensures link { result ≡ Err Stop.Link → Rose (C.faults conns.old) (C.faults conns.new) }
+    ensures link_served { result ≡ Err Stop.Link → HasServed (keyed_fn K.prf K.pad) D.content D.images C.In.remaining C.Out.written disk.old disk.new (C.offered conns.old) (C.offered conns.new) (C.returned conns.old) (C.returned conns.new) }
+    ensures disk { result ≡ Err Stop.Disk → Rose (D.faults disk.old) (D.faults disk.new) }
+    ensures no_journal { result ≡ Err Stop.NoJournal → IfSome (D.content disk.old) (λ bytes. IsNoJournal bytes) }
+    ensures no_journal_refused { IfSome (D.content disk.old) (λ bytes. IsNoJournal bytes → (IsErr result) × (result ≢ Err Stop.Link)) }
+    ensures journal_taken { IfSome (D.content disk.old) (λ bytes. (frames : List FrameText) → AreTaken at_first frames → Gives (bodies frames) bytes → result ≢ Err Stop.NoJournal) }
+    ensures words { result ≢ Err Stop.Words }
+{
+    let Ok(buffers) = Buffers::new(alloc) else {
+        return Err(Stop::Memory);
+    };
+    let mut incoming = Incoming::new(buffers.frame);
+    let mut outgoing = Outgoing::new(buffers.reply, buffers.page);
+    let mut store = started(alloc, disk)?;
+    match serve(
+        keyed,
+        &mut store,
+        disk,
+        conns,
+        &mut incoming,
+        &mut outgoing,
+        most,
+    ) {
+        Ok(()) => Ok(()),
+        Err(fault) => Err(Stop::from(fault)),
+    }
+}
