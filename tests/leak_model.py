@@ -5,7 +5,8 @@ A history is a setup with the commands behind it that were accepted; they are nu
 leaks and what is drawn for it are told by the commands before it (`past`, without the setup) and by the command itself.
 
 First come the items of leakage and the draws, then the simulator, which is given these alone: no word, no document and no key.
-Histories come next, then their leakage, then their draws, which alone know the key; last, an item as a line of text.
+Histories come next, then their leakage, then their draws, which alone know the key; last, an item as text: in short for
+tests/leakages.txt, and as the line that docs/FORMATS.md has for a person, which the program sse_leaks prints.
 """
 import functools
 import hmac
@@ -621,3 +622,71 @@ def told(script):
         yield line.decode()
         if isinstance(what, (Setup, Add, Delete, Search)):
             yield "leaks " + item_text(next(items))
+
+
+# An item as a line for a person.
+
+
+def counted(n, one, more):
+    return f"{n} {one if n == 1 else more}"
+
+
+def update_parts(does, words):
+    new = sum(not isinstance(word.sent, Origin) for word in words)
+    yield f"{does} a document of {counted(len(words), 'word', 'words')}, {new} new"
+    for place, word in enumerate(words):
+        said = []
+        if isinstance(word.sent, Origin):
+            said.append(f"is word {word.sent.place} of command {word.sent.command}")
+        if word.seen:
+            said.append(f"was searched by command {word.seen.search}, so identifier {word.seen.id} shows")
+        if said:
+            yield f"word {place} " + " and ".join(said)
+
+
+def search_parts(leak):
+    yield "searches a word for the first time" if leak.earlier is None else f"searches the word of command {leak.earlier} again"
+    if leak.home is None:
+        yield "no word of the setup"
+    else:
+        blocks = "".join(f" {block}" for block in leak.home.blocks)
+        yield f"entry {leak.home.entry} of the setup " + (f"with blocks{blocks}" if blocks else "without blocks")
+    for pair in leak.listed:
+        number = "" if pair.number is None else f", its number by command {pair.number.command} (place {pair.number.place})"
+        listed = f"document {pair.id}, listed by command {pair.origin.command} (place {pair.origin.place})"
+        yield listed + number + (", deleted" if pair.revoked else "")
+    yield f"finds {len(leak.found)}:" + "".join(f" {id}" for id in leak.found)
+
+
+def line_parts(leak):
+    if isinstance(leak, SetupLeak):
+        entries, blocks = counted(leak.words, "entry", "entries"), counted(leak.blocks, "block", "blocks")
+        return [f"sets up an index of {entries} and {blocks}, b {leak.b}, B {leak.B}"]
+    if isinstance(leak, SearchLeak):
+        return search_parts(leak)
+    return update_parts("adds" if isinstance(leak, AddLeak) else "deletes", leak.words)
+
+
+def numbered(leaks, first=0):
+    return list(enumerate(leaks, first))
+
+
+def leak_lines(leaks):
+    """The lines of what the commands of a history leak, the setup first, without their ends."""
+    return [f"{command}: " + "; ".join(line_parts(leak)) for command, leak in numbered(leaks)]
+
+
+def leaks_answer(script):
+    """What the program sse_leaks prints of a script, and its status: the refusals, as a run prints them, then the lines of what is
+    leaked, or the line of a stop; a script without a setup lacks a line behind its last."""
+    printed, status = script_model.answer(script)
+    lines = printed.decode().splitlines()
+    told = [line for line in lines if line.startswith("refused: ")]
+    _, setup, later = history_in(script)
+    if status == 2:
+        told.append(lines[-1])
+    elif setup is None:
+        told, status = [*told, f"stopped: line {len(script_model.lines_of(script)) + 1}"], 2
+    else:
+        told += leak_lines(leak(setup, later))
+    return "".join(line + "\n" for line in told).encode(), status
