@@ -214,14 +214,46 @@ def index_bytes(lengths, b):
     return len(lengths) * (17 + 8 * b) + blocks * 8 * BLOCK
 
 
+class Signals:
+    """A signal ends the example, and its program with it. One that comes while the program is being begun waits until it can be ended."""
+
+    def __init__(self):
+        self.held, self.came = False, None
+
+    def take(self, number, _):
+        self.came = number
+        if not self.held:
+            sys.exit(128 + number)
+
+    def release(self):
+        self.held = False
+        if self.came is not None:
+            sys.exit(128 + self.came)
+
+
+SIGNALS = Signals()
+
+
+def begin(program):
+    """The program, begun; signals are held back from here on."""
+    SIGNALS.held = True
+    try:
+        return subprocess.Popen([program, "run"], stdin=subprocess.PIPE, stdout=subprocess.PIPE)
+    except OSError as error:
+        SIGNALS.release()
+        raise Unreadable(f"{program}: {error.strerror} (`make` builds it)") from error
+
+
 def run(script):
     """The lines that the program prints, and its status."""
-    program = os.environ.get("SSE_LOCAL") or os.path.join(HERE, os.pardir, "bin", "sse_local")
-    try:
-        ended = subprocess.run([program, "run"], input=script, stdout=subprocess.PIPE, check=False)
-    except OSError as error:
-        raise Unreadable(f"{program}: {error.strerror} (`make` builds it)") from error
-    return ended.stdout.decode().splitlines(), ended.returncode if ended.returncode >= 0 else 128 - ended.returncode
+    with begin(os.environ.get("SSE_LOCAL") or os.path.join(HERE, os.pardir, "bin", "sse_local")) as program:
+        try:
+            SIGNALS.release()
+            printed, _ = program.communicate(script)
+        except BaseException:
+            program.kill()
+            raise
+    return printed.decode().splitlines(), program.returncode if program.returncode >= 0 else 128 - program.returncode
 
 
 def main(description, source, read):
@@ -232,8 +264,7 @@ def main(description, source, read):
     """
     for number in (signal.SIGINT, signal.SIGTERM, signal.SIGHUP):
         if signal.getsignal(number) != signal.SIG_IGN:
-            # leaves by way of subprocess.run, which ends the program first
-            signal.signal(number, lambda number, _: sys.exit(128 + number))
+            signal.signal(number, SIGNALS.take)
     sys.stdout.reconfigure(encoding="utf-8")
     sys.stderr.reconfigure(encoding="utf-8", errors="backslashreplace")
     parser = argparse.ArgumentParser(description=description, formatter_class=argparse.RawDescriptionHelpFormatter)
