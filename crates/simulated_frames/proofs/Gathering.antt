@@ -19,24 +19,21 @@ first_of-at kind n zero (draw ∷ draws) = refl
 first_of-at kind n (suc k) [] = refl
 first_of-at kind n (suc k) (draw ∷ draws) = first_of-at kind n k draws
 
+-- the first draws from a place on: the one there, and those behind it
+pub first_of-step : {A : Type 0} (kind : Draw → Option A) (count i : ℕ) (draws : List Draw) → i < count
+    → first_of kind (count - i) (drop i draws) ≡ before (option_and_then kind (slice_get draws i)) (first_of kind (count - (i + 1)) (drop (i + 1) draws))
+first_of-step kind count i draws within =
+    let left : count - i ≡ suc (count - (i + 1)) = omega (arith, within) in
+    ap (λ (n : ℕ). first_of kind n (drop i draws)) left
+    ∙ first_of-at kind (count - (i + 1)) i draws
+    ∙ ap (λ (k : ℕ). before (option_and_then kind (slice_get draws i)) (first_of kind (count - (i + 1)) (drop k draws))) (sym (add-one i))
+
 -- a draw of the kind more
 pub gathered : {A : Type 0} (kind : Draw → Option A) (count i : ℕ) (draws : List Draw) (front : List A) (x : A) (all : Option (List A)) → i < count
     → option_and_then kind (slice_get draws i) ≡ Some x → ahead front (first_of kind (count - i) (drop i draws)) ≡ all
     → ahead (front ++ x ∷ []) (first_of kind (count - (i + 1)) (drop (i + 1) draws)) ≡ all
 gathered kind count i draws front x all within at is =
-    let left : count - i ≡ suc (count - (i + 1)) = omega (arith, within) in
     ahead-before front x (first_of kind (count - (i + 1)) (drop (i + 1) draws))
     ∙ ap (λ o. ahead front (before o (first_of kind (count - (i + 1)) (drop (i + 1) draws)))) (sym at)
-    ∙ ap (λ (k : ℕ). ahead front (before (option_and_then kind (slice_get draws i)) (first_of kind (count - (i + 1)) (drop k draws)))) (add-one i)
-    ∙ ap (ahead front) (sym (first_of-at kind (count - (i + 1)) i draws))
-    ∙ ap (λ (n : ℕ). ahead front (first_of kind n (drop i draws))) (sym left)
+    ∙ ap (ahead front) (sym (first_of-step kind count i draws within))
     ∙ is
-
--- a draw that isn't there or is of another kind
-pub not_gathered : {A : Type 0} (kind : Draw → Option A) (count i : ℕ) (draws : List Draw) (front : List A) (all : Option (List A)) → i < count
-    → option_and_then kind (slice_get draws i) ≡ None → ahead front (first_of kind (count - i) (drop i draws)) ≡ all → all ≡ None
-not_gathered kind count i draws front all within at is =
-    let left : count - i ≡ suc (count - (i + 1)) = omega (arith, within) in
-    sym is
-    ∙ ap (λ (n : ℕ). ahead front (first_of kind n (drop i draws))) left
-    ∙ ap (ahead front) (first_of-at kind (count - (i + 1)) i draws ∙ ap (λ o. before o (first_of kind (count - (i + 1)) (drop (suc i) draws))) at)

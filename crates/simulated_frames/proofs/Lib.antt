@@ -1,3 +1,5 @@
+pub mod AbsentLaws
+pub mod BadLaws
 pub mod ExchangeLaws
 pub mod Gathering
 pub mod PageLaws

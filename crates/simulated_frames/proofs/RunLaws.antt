@@ -109,11 +109,11 @@ module _ (leaks : List Leak) (drawn : List (List Draw)) (k : ℕ) (leak : Leak) 
       front_more' e others = ap (λ (front : List (List Draw)). front ++ others) e ∙ append_assoc (take k drawn) (draws ∷ []) others
 
 -- what is simulated of all, from what is simulated of their frames
-whole : (leaks : List Leak) (drawn : List (List Draw)) (frames : List (List FrameText)) → simulated_from sim_at_first leaks drawn ≡ Some frames
+pub whole : (leaks : List Leak) (drawn : List (List Draw)) (frames : List (List FrameText)) → simulated_from sim_at_first leaks drawn ≡ Some frames
     → simulated leaks drawn ≡ Some (greeting 0 ++ exchange (flat_map answer_of leaks) (flat_map (λ fs. fs) frames))
 whole leaks drawn frames is = ap (option_map (λ fs. greeting 0 ++ exchange (flat_map answer_of leaks) (flat_map (λ f. f) fs))) is
 
-front_simulated : (leaks : List Leak) (drawn : List (List Draw)) (k : ℕ) (texts : List (List ℕ)) (sim : Sim) (run : HasRun k leaks drawn texts sim)
+pub front_simulated : (leaks : List Leak) (drawn : List (List Draw)) (k : ℕ) (texts : List (List ℕ)) (sim : Sim) (run : HasRun k leaks drawn texts sim)
     → simulated_from sim_at_first (take k leaks) drawn ≡ Some run.frames
 front_simulated leaks drawn k texts sim run =
     (λ i. simulated_from sim_at_first (sym (append-nil (take k leaks)) i) (sym (take-append-drop k drawn) i))

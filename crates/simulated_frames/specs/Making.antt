@@ -7,13 +7,16 @@ use Rattle.sse_frames.specs.Exchange.{exchange, greeting, searches}
 use Rattle.sse_frames.specs.Frames.{Entry, FrameText, SetupBegin, SetupDict, SetupArray, SetupEnd}
 use Rattle.sse_frames.specs.Sending.{numbered}
 use Rattle.sse_simulator.specs.Leaks.{NewEntry, Fresh, Again, WordLeak, Leak, Draw}
-use Rattle.sse_simulator.specs.Simulator.{Kept, Nothing, Numbers, Token, as_entry, as_block, as_number, is_numbered, answer_of, frames_simulated, Sim, sim_at_first, simulated_from}
+use Rattle.sse_simulator.specs.Simulator.{Kept, Nothing, Numbers, Token, as_entry, as_block, as_number, kept_of, is_numbered, answer_of, frames_simulated, Sim, sim_at_first, simulated_from}
 use Rattle.simulated_frames.specs.Steps.{bytes_of, passed_bytes}
+use Rattle.simulated_frames.specs.Views.{draw_view, leak_view}
 use Rattle.simulated_frames.specs.declared.drawn.Section.{Section}
 use Rattle.simulated_frames.specs.declared.drawn.Section.TheVariants as sections
 use Rattle.simulated_frames.specs.declared.passing.Passing.{Passing}
 use Rattle.simulated_frames.specs.declared.kept.Kept as kepts
 use Rattle.simulated_frames.specs.declared.kept.Kept.TheVariants as code
+use Rattle.simulated_frames.specs.declared.earlier.Earlier as earliers
+use Rattle.simulated_frames.specs.declared.earlier.Earlier.TheVariants as earlier
 
 -- the draws of a part of a setup
 abbrev pub kind_of : Section → Draw → Option Entry
@@ -44,9 +47,25 @@ kept_view code.Nothing = Nothing
 kept_view (code.Numbers numbers) = Numbers numbers
 kept_view (code.Token token) = Token token
 
+-- what is kept of each of these commands
+abbrev pub kept_each : List Leak → List (List Draw) → List Kept
+kept_each [] drawn = []
+kept_each (leak ∷ leaks) [] = []
+kept_each (leak ∷ leaks) (draws ∷ drawn) = kept_of leak draws ∷ kept_each leaks drawn
+
+-- what is kept of the commands before one
+abbrev pub earlier_view : earliers.Earlier → List Kept
+earlier_view (earlier.Stored kept) = map kept_view kept.now
+earlier_view (earlier.Given leaks draws) = kept_each (map leak_view leaks.now) (map (map draw_view) draws.now)
+
 -- the draws after a word of a deletion
 abbrev pub draws_behind : WordLeak → List Draw → List Draw
 draws_behind word draws = elim word.sent [ NewEntry ↦ draws | Fresh ↦ drop 1 draws | Again origin ↦ draws ]
+
+-- the draws after words of a deletion
+abbrev pub draws_left : List WordLeak → List Draw → List Draw
+draws_left [] draws = draws
+draws_left (word ∷ words) draws = draws_left words (draws_behind word draws)
 
 -- the number that it draws
 abbrev pub number_drawn : WordLeak → List Draw → Option (List ℕ)
@@ -72,3 +91,10 @@ pub record HasRun (k : ℕ) (leaks : List Leak) (drawn : List (List Draw)) (text
   pub goes : (rest : List Leak) (others : List (List Draw)) → simulated_from sim_at_first (take k leaks ++ rest) (take k drawn ++ others) ≡ ahead frames (simulated_from sim rest others)
   pub count : length (flat_map answer_of (take k leaks)) ≡ searches (flat_map (λ fs. fs) frames)
   pub passed : texts ≡ map passed_bytes (greeting 0) ++ map passed_bytes (exchange (flat_map answer_of (take k leaks)) (flat_map (λ fs. fs) frames))
+
+-- something is made of each of the first k items, and so it is known what is kept of each
+pub record CanRun (k : ℕ) (leaks : List Leak) (drawn : List (List Draw)) : Type 0 where
+  pub texts : List (List ℕ)
+  pub sim : Sim
+  pub run : HasRun k leaks drawn texts sim
+  pub kept : sim.kept ≡ kept_each (take k leaks) (take k drawn)

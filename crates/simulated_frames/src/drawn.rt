@@ -3,11 +3,10 @@ ghost use Rattle.std.specs.List.{slice_get};
 ghost use Rattle.sse_simulator.specs.Simulator.{as_number, as_token, first_of};
 ghost use Rattle.simulated_frames.specs.Making.{kind_of};
 ghost use Rattle.simulated_frames.specs.Views.{draw_view};
-ghost use Rattle.simulated_frames.specs.declared.step_fault.StepFault.TheVariants as faults;
 
 use crate::entry::{DrawnEntry, drawn_entry};
 use crate::leak::Draw;
-use crate::step_fault::StepFault;
+use crate::not_made::NotMade;
 use std::alloc::Global;
 
 /// The draws of a part of a setup.
@@ -43,7 +42,7 @@ fn drawn_of(section: Section, draw: &Draw) -> Option<DrawnEntry<'_>>
 }
 
 /// The same of the draw at this place.
-fn drawn_at(section: Section, draws: &[Draw], i: usize) -> Option<DrawnEntry<'_>>
+pub(crate) fn drawn_at(section: Section, draws: &[Draw], i: usize) -> Option<DrawnEntry<'_>>
     ensures { result ≡ option_and_then (kind_of section) (slice_get (map draw_view draws.now) i) }
 {
     match item_at(draws, i) {
@@ -58,15 +57,14 @@ pub(crate) fn drawn_items<'a>(
     section: Section,
     draws: &'a [Draw],
     count: usize,
-) -> Result<Vec<DrawnEntry<'a>>, StepFault>
+) -> Result<Vec<DrawnEntry<'a>>, NotMade>
     ensures found { IfOk result (λ entries. first_of (kind_of section) count (map draw_view draws.now) ≡ Some entries.items) }
-    ensures absent { result ≡ Err faults.Absent → first_of (kind_of section) count (map draw_view draws.now) ≡ None }
 {
     let mut entries = Vec::new(alloc);
     for i in 0..count {
         match drawn_at(section, draws, i) {
             Some(entry) => entries.push(entry)?,
-            None => return Err(StepFault::Absent),
+            None => return Err(NotMade),
         }
     }
     Ok(entries)

@@ -6,12 +6,11 @@ ghost use Rattle.sse_simulator.specs.Simulator.{before, number_of, token_of};
 ghost use Rattle.simulated_frames.specs.Making as making;
 ghost use Rattle.simulated_frames.specs.Making.{ahead, draws_behind, kept_view};
 ghost use Rattle.simulated_frames.specs.Views.{draw_view, leak_view, origin_view, word_view};
-ghost use Rattle.simulated_frames.specs.declared.step_fault.StepFault.TheVariants as faults;
 
 use crate::bytes::append;
 use crate::drawn::{draws_after, first_number, first_token, item_at};
 use crate::leak::{Draw, Leak, Origin, Sent, WordLeak};
-use crate::step_fault::StepFault;
+use crate::not_made::NotMade;
 use sse_frames::{Items, NoMemory};
 use std::alloc::Global;
 
@@ -39,7 +38,7 @@ fn number_in(kept: &Kept, place: usize) -> Option<[u8; 16]>
 }
 
 /// The number that a command drew for a place.
-fn number_kept(kept: &[Kept], origin: Origin) -> Option<[u8; 16]>
+pub(crate) fn number_kept(kept: &[Kept], origin: Origin) -> Option<[u8; 16]>
     ensures { result ≡ sim.number_kept (map kept_view kept.now) (origin_view origin) }
 {
     match item_at(kept, origin.command as usize) {
@@ -59,7 +58,7 @@ fn token_in(kept: &Kept) -> Option<&[u8]>
 }
 
 /// The token that a command drew.
-fn token_kept(kept: &[Kept], command: usize) -> Option<&[u8]>
+pub(crate) fn token_kept(kept: &[Kept], command: usize) -> Option<&[u8]>
     ensures { option_copied result ≡ sim.token_kept (map kept_view kept.now) command }
 {
     match item_at(kept, command) {
@@ -83,25 +82,23 @@ pub(crate) fn token_shown<'a>(
 }
 
 /// Adds the number, which has to be there.
-fn push_found(number: Option<[u8; 16]>, numbers: &mut Vec<[u8; 16]>) -> Result<(), StepFault>
+fn push_found(number: Option<[u8; 16]>, numbers: &mut Vec<[u8; 16]>) -> Result<(), NotMade>
     ensures more { OnOk result ((rest : Option (List (List ℕ))) → ahead numbers.new.items rest ≡ ahead numbers.old.items (before number rest)) }
-    ensures absent { result ≡ Err faults.Absent → number ≡ None }
 {
     match number {
         Some(number) => {
             numbers.push(number)?;
             Ok(())
         }
-        None => Err(StepFault::Absent),
+        None => Err(NotMade),
     }
 }
 
 /// Adds the number of an addition's word, where it sends one.
-fn push_added(kept: &[Kept], word: &WordLeak, numbers: &mut Vec<[u8; 16]>) -> Result<(), StepFault>
+fn push_added(kept: &[Kept], word: &WordLeak, numbers: &mut Vec<[u8; 16]>) -> Result<(), NotMade>
     ensures more { OnOk result ((words : List items.WordLeak) →
         ahead numbers.new.items (sim.numbers_added (map kept_view kept.now) words)
         ≡ ahead numbers.old.items (sim.numbers_added (map kept_view kept.now) (word_view word.now ∷ words))) }
-    ensures absent { result ≡ Err faults.Absent → (words : List items.WordLeak) → sim.numbers_added (map kept_view kept.now) (word_view word.now ∷ words) ≡ None }
 {
     match word.sent {
         Sent::Entry | Sent::Fresh => Ok(()),
@@ -114,9 +111,8 @@ pub(crate) fn numbers_added(
     alloc: Global,
     kept: &[Kept],
     words: &[WordLeak],
-) -> Result<Vec<[u8; 16]>, StepFault>
+) -> Result<Vec<[u8; 16]>, NotMade>
     ensures found { IfOk result (λ numbers. sim.numbers_added (map kept_view kept.now) (map word_view words.now) ≡ Some numbers.items) }
-    ensures absent { result ≡ Err faults.Absent → sim.numbers_added (map kept_view kept.now) (map word_view words.now) ≡ None }
 {
     let mut numbers = Vec::new(alloc);
     for word in words {
@@ -131,11 +127,10 @@ fn push_deleted(
     word: &WordLeak,
     draws: &[Draw],
     numbers: &mut Vec<[u8; 16]>,
-) -> Result<(), StepFault>
+) -> Result<(), NotMade>
     ensures more { OnOk result ((words : List items.WordLeak) →
         ahead numbers.new.items (sim.numbers_deleted (map kept_view kept.now) words (draws_behind (word_view word.now) (map draw_view draws.now)))
         ≡ ahead numbers.old.items (sim.numbers_deleted (map kept_view kept.now) (word_view word.now ∷ words) (map draw_view draws.now))) }
-    ensures absent { result ≡ Err faults.Absent → (words : List items.WordLeak) → sim.numbers_deleted (map kept_view kept.now) (word_view word.now ∷ words) (map draw_view draws.now) ≡ None }
 {
     match word.sent {
         Sent::Entry => Ok(()),
@@ -145,7 +140,7 @@ fn push_deleted(
 }
 
 /// The draws after a word of a deletion.
-fn behind<'a>(word: &WordLeak, draws: &'a [Draw]) -> &'a [Draw]
+pub(crate) fn behind<'a>(word: &WordLeak, draws: &'a [Draw]) -> &'a [Draw]
     ensures { map draw_view result.now ≡ draws_behind (word_view word.now) (map draw_view draws.now) }
 {
     match word.sent {
@@ -160,9 +155,8 @@ pub(crate) fn numbers_deleted(
     kept: &[Kept],
     words: &[WordLeak],
     draws: &[Draw],
-) -> Result<Vec<[u8; 16]>, StepFault>
+) -> Result<Vec<[u8; 16]>, NotMade>
     ensures found { IfOk result (λ numbers. sim.numbers_deleted (map kept_view kept.now) (map word_view words.now) (map draw_view draws.now) ≡ Some numbers.items) }
-    ensures absent { result ≡ Err faults.Absent → sim.numbers_deleted (map kept_view kept.now) (map word_view words.now) (map draw_view draws.now) ≡ None }
 {
     let mut numbers = Vec::new(alloc);
     let mut rest = draws;
@@ -174,7 +168,7 @@ pub(crate) fn numbers_deleted(
 }
 
 /// The number that a deletion's word draws.
-fn number_drawn(word: &WordLeak, draws: &[Draw]) -> Option<[u8; 16]>
+pub(crate) fn number_drawn(word: &WordLeak, draws: &[Draw]) -> Option<[u8; 16]>
     ensures { result ≡ making.number_drawn (word_view word.now) (map draw_view draws.now) }
 {
     match word.sent {

@@ -5,15 +5,14 @@ ghost use Rattle.sse_simulator.specs.Simulator as sim;
 ghost use Rattle.sse_simulator.specs.Simulator.{frames_simulated, is_entry};
 ghost use Rattle.simulated_frames.specs.Making.{kept_view, made_onto};
 ghost use Rattle.simulated_frames.specs.Views.{draw_view, leak_view, word_view};
-ghost use Rattle.simulated_frames.specs.declared.step_fault.StepFault.TheVariants as faults;
 
 use crate::body::{add_body, delete_body};
 use crate::drawn::{Section, drawn_items, draws_after};
 use crate::entry::{by_label, by_number};
 use crate::kept::{Kept, numbers_added, numbers_deleted, token_shown};
 use crate::leak::{Draw, Leak, Sent, WordLeak};
+use crate::not_made::NotMade;
 use crate::passing::Passing;
-use crate::step_fault::StepFault;
 use std::alloc::Global;
 
 /// What passes for a setup.
@@ -24,9 +23,8 @@ fn make_setup(
     blocks: u32,
     draws: &[Draw],
     passing: &mut Passing,
-) -> Result<(), StepFault>
+) -> Result<(), NotMade>
     ensures made { OnOk result ((kept : List sim.Kept) → made_onto passing.old.texts kept passing.old.next (items.SetupLeak (record { b = shape.0; big = shape.1 }) words blocks) (map draw_view draws.now) ≡ Some (passing.new.texts, passing.new.next)) }
-    ensures absent { result ≡ Err faults.Absent → (kept : List sim.Kept) (q : ℕ) → frames_simulated kept q (items.SetupLeak (record { b = shape.0; big = shape.1 }) words blocks) (map draw_view draws.now) ≡ None }
 {
     let own_entries = drawn_items(alloc, Section::Entries, draws, words as usize)?;
     let behind = draws_after(draws, words as usize);
@@ -39,7 +37,7 @@ fn make_setup(
 }
 
 /// How many of an addition's words have a new entry.
-fn count_entries(words: &[WordLeak]) -> usize
+pub(crate) fn count_entries(words: &[WordLeak]) -> usize
     ensures { result ≡ length (filter is_entry (map word_view words.now)) }
 {
     let mut count = 0;
@@ -58,9 +56,8 @@ fn make_addition(
     words: &[WordLeak],
     draws: &[Draw],
     passing: &mut Passing,
-) -> Result<(), StepFault>
+) -> Result<(), NotMade>
     ensures made { OnOk result (made_onto passing.old.texts (map kept_view kept.now) passing.old.next (items.AddLeak (map word_view words.now)) (map draw_view draws.now) ≡ Some (passing.new.texts, passing.new.next)) }
-    ensures absent { result ≡ Err faults.Absent → (q : ℕ) → frames_simulated (map kept_view kept.now) q (items.AddLeak (map word_view words.now)) (map draw_view draws.now) ≡ None }
 {
     let fresh = drawn_items(alloc, Section::Entries, draws, count_entries(words))?;
     let again = numbers_added(alloc, kept, words)?;
@@ -78,9 +75,8 @@ fn make_deletion(
     words: &[WordLeak],
     draws: &[Draw],
     passing: &mut Passing,
-) -> Result<(), StepFault>
+) -> Result<(), NotMade>
     ensures made { OnOk result (made_onto passing.old.texts (map kept_view kept.now) passing.old.next (items.DeleteLeak (map word_view words.now)) (map draw_view draws.now) ≡ Some (passing.new.texts, passing.new.next)) }
-    ensures absent { result ≡ Err faults.Absent → (q : ℕ) → frames_simulated (map kept_view kept.now) q (items.DeleteLeak (map word_view words.now)) (map draw_view draws.now) ≡ None }
 {
     let shown = numbers_deleted(alloc, kept, words, draws)?;
     let numbers = by_number(shown)?;
@@ -97,17 +93,16 @@ fn make_search(
     found: &[u64],
     draws: &[Draw],
     passing: &mut Passing,
-) -> Result<(), StepFault>
+) -> Result<(), NotMade>
     ensures made { OnOk result ((home : Option items.Home) (listed : List items.ListedLeak) →
         made_onto passing.old.texts (map kept_view kept.now) passing.old.next (items.SearchLeak earlier home listed found.now) (map draw_view draws.now) ≡ Some (passing.new.texts, passing.new.next)) }
-    ensures absent { result ≡ Err faults.Absent → sim.token_shown (map kept_view kept.now) earlier (map draw_view draws.now) ≡ None }
 {
     match token_shown(kept, earlier, draws) {
         Some(token) => {
             passing.search(alloc, token, found)?;
             Ok(())
         }
-        None => Err(StepFault::Absent),
+        None => Err(NotMade),
     }
 }
 
@@ -118,9 +113,8 @@ pub(crate) fn make(
     leak: &Leak,
     draws: &[Draw],
     passing: &mut Passing,
-) -> Result<(), StepFault>
+) -> Result<(), NotMade>
     ensures made { OnOk result (made_onto passing.old.texts (map kept_view kept.now) passing.old.next (leak_view leak.now) (map draw_view draws.now) ≡ Some (passing.new.texts, passing.new.next)) }
-    ensures absent { result ≡ Err faults.Absent → (q : ℕ) → frames_simulated (map kept_view kept.now) q (leak_view leak.now) (map draw_view draws.now) ≡ None }
 {
     match leak {
         Leak::Setup {

@@ -1,14 +1,9 @@
 use Rattle.std.proofs.Common.{◌+◌, ◌-◌, map, drop, sym, ap, ◌∙◌}
 use Rattle.sse_simulator.specs.Simulator.{first_of}
-use Rattle.simulated_frames.proofs.Gathering.{gathered, not_gathered}
+use Rattle.simulated_frames.proofs.Gathering.{gathered}
 use Rattle.simulated_frames.specs.Making.{ahead, kind_of}
 use Rattle.simulated_frames.specs.Views.{draw_view}
 use Rattle.simulated_frames.proofs.drawn.drawn_items.Goals as goal
-
-pub returns-in-None-clause-absent : goal.returns-in-None-clause-absent
-returns-in-None-clause-absent c = λ absent.
-    not_gathered (kind_of c.args.section) c.args.count c.loop-i.i (map draw_view c.args.draws.now) c.loop-i.entries.items _ c.loop-i-test.true
-    (sym c.drawn_at.ensures ∙ c.in-None.is) c.loop-i.invariant
 
 pub loop-i-preserved : goal.loop-i-preserved
 loop-i-preserved c =

@@ -5,9 +5,11 @@ use Rattle.simulated_frames.specs.Making.{kept_view}
 use Rattle.simulated_frames.specs.Views.{draw_view, word_view}
 use Rattle.simulated_frames.proofs.making.make_deletion.Goals as goal
 
-pub returns-clause-made : goal.returns-clause-made
-returns-clause-made c =
-    deletion_made c.args.passing.now c.update.new.self (map kept_view c.args.kept.now) (map word_view c.args.words.now) (map draw_view c.args.draws.now) _ c.as_slice.result.now
-    c.in_ok-shown.ensures.found
-    (c.as_slice.ensures.value ∙ c.in_ok-numbers.ensures)
-    (c.in_ok-update.ensures (λ q. DeleteFrame q c.as_slice.result.now) refl (c.as_slice-2.ensures ∙ c.in_ok-body.ensures) [])
+pub returns : goal.returns
+returns c = record {
+  made =
+      deletion_made c.args.passing.now c.update.new.self (map kept_view c.args.kept.now) (map word_view c.args.words.now) (map draw_view c.args.draws.now) _ c.as_slice.result.now
+      c.in_ok-shown.ensures.found
+      (c.as_slice.ensures.value ∙ c.in_ok-numbers.ensures)
+      (c.in_ok-update.ensures (λ q. DeleteFrame q c.as_slice.result.now) refl (c.as_slice-2.ensures ∙ c.in_ok-body.ensures) []);
+}

@@ -3,11 +3,13 @@ use Rattle.sse_simulator.specs.Simulator.{as_block, first_of}
 use Rattle.simulated_frames.proofs.UpdateLaws.{setup_made}
 use Rattle.simulated_frames.proofs.making.make_setup.Goals as goal
 
-pub returns-clause-made : goal.returns-clause-made
-returns-clause-made c = λ kept.
-    setup_made c.args.passing.now c.setup.new.self kept c.args.shape.0 c.args.shape.1 c.args.words c.args.blocks _ _ _ _ _
-    c.in_ok-own_entries.ensures.found
-    (ap (first_of as_block c.args.blocks) (sym c.draws_after-behind.ensures) ∙ c.in_ok-own_blocks.ensures.found)
-    (c.as_slice.ensures.value ∙ c.in_ok-entries.ensures)
-    (c.as_slice-2.ensures.value ∙ c.in_ok-blocks.ensures)
-    c.in_ok-setup.ensures
+pub returns : goal.returns
+returns c = record {
+  made = λ kept.
+      setup_made c.args.passing.now c.setup.new.self kept c.args.shape.0 c.args.shape.1 c.args.words c.args.blocks _ _ _ _ _
+      c.in_ok-own_entries.ensures.found
+      (ap (first_of as_block c.args.blocks) (sym c.draws_after-behind.ensures) ∙ c.in_ok-own_blocks.ensures.found)
+      (c.as_slice.ensures.value ∙ c.in_ok-entries.ensures)
+      (c.as_slice-2.ensures.value ∙ c.in_ok-blocks.ensures)
+      c.in_ok-setup.ensures;
+}

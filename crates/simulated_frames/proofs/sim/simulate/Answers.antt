@@ -1,17 +1,22 @@
-use Rattle.std.proofs.Common.{◌≡◌, List, length, map, sym, ap, ◌∙◌, arith}
-use Rattle.std.proofs.lemmas.List.{length-map}
-use Rattle.sse_simulator.specs.Leaks.{Leak, Draw}
-use Rattle.simulated_frames.proofs.RunLaws.{HasRun-all}
-use Rattle.simulated_frames.specs.Making.{kept_view}
-use Rattle.simulated_frames.specs.Steps.{bytes_simulated}
+use Rattle.std.proofs.Common.{◌≡◌, ℕ, List, map, sym, subst, ◌∙◌}
+use Rattle.std.specs.Prelude.{◌↔◌}
+use Rattle.simulated_frames.proofs.BadLaws.{fault_told, made_whole}
+use Rattle.simulated_frames.specs.Steps.{IsFirstBad, bytes_simulated}
 use Rattle.simulated_frames.specs.Views.{draw_view, leak_view}
+use Rattle.simulated_frames.specs.declared.fault.SimFault.TheVariants.{BadLeak}
+use Rattle.simulated_frames.specs.declared.leak.Leak as leaks
+use Rattle.simulated_frames.specs.declared.leak.Draw as draws
 use Rattle.simulated_frames.proofs.sim.simulate.Goals as goal
 
-pub returns-clause-made : goal.returns-clause-made
-returns-clause-made c =
-    let read = c.as_slice-leaks.result.now in
-    let leaks : List Leak = map leak_view read in
-    let drawn : List (List Draw) = map (map draw_view) c.args.draws.now in
-    let end : c.loop-k.k ≡ length leaks = omega (arith, c.loop-k-test.false, c.loop-k.auto.k-end, length-map read leak_view) in
-    ap (λ items. bytes_simulated (map leak_view items) drawn) (sym c.as_slice-leaks.ensures)
-    ∙ HasRun-all leaks drawn c.loop-k.passing.texts (record { kept = map kept_view c.loop-k.kept; next = c.loop-k.passing.next }) c.loop-k.k end c.loop-k.invariant
+pub returns-in-Ok-clause-bad : goal.returns-in-Ok-clause-bad
+returns-in-Ok-clause-bad c =
+    made_whole c.in-Ok.texts (map leak_view c.args.leaks.now) (map (map draw_view) c.args.draws.now) c.in-Ok.texts
+    ((λ i. bytes_simulated (map leak_view (sym c.as_slice.ensures i)) (map (map draw_view) (sym c.as_slice-2.ensures i))) ∙ c.in-Ok.ensures)
+
+pub returns-in-Err-clause-bad : goal.returns-in-Err-clause-bad
+returns-in-Err-clause-bad c =
+    let tells : List leaks.Leak → List (List draws.Draw) → Type 0 =
+    λ leaks draws. (command : ℕ) → (c.first_fault.result ≡ BadLeak command) ↔ IsFirstBad command (map leak_view leaks) (map (map draw_view) draws) in
+    fault_told c.first_fault.result (λ command. IsFirstBad command (map leak_view c.args.leaks.now) (map (map draw_view) c.args.draws.now))
+    (subst (tells c.args.leaks.now) c.as_slice-in-Err-2.ensures
+    (subst (λ leaks. tells leaks c.as_slice-in-Err-2.result.now) c.as_slice-in-Err.ensures c.first_fault.ensures))

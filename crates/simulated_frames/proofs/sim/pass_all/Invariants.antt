@@ -1,7 +1,7 @@
 use Rattle.std.proofs.Common.{map}
 use Rattle.simulated_frames.specs.Making.{kept_view, HasRun}
 use Rattle.simulated_frames.specs.Views.{draw_view, leak_view}
-use Rattle.simulated_frames.proofs.sim.simulate.Given as goal
+use Rattle.simulated_frames.proofs.sim.pass_all.Given as goal
 
 abbrev pub invariant-loop-k : goal.invariant-loop-k
 invariant-loop-k l =
