@@ -1,24 +1,25 @@
 -- What is told of a pair, and of all pairs of a word, after one command more.
 use Rattle.std.proofs.Common.{◌≡◌, ℕ, ◌+◌, Bool, true, false, cond, not, ◌&&◌, ◌||◌, List, [], ◌∷◌, ◌++◌, length, map, filter, find, refl, sym, ap, ◌∙◌, arith, append_assoc, eqb-true, Some, None}
 use Rattle.std.specs.Prelude.{Option, flat_map, if◌then◌else◌, option_map, ◌==◌}
-use Rattle.std.specs.List.{list_any, enumerate_from}
+use Rattle.std.specs.List.{list_any}
 use Rattle.std.specs.Option.{option_or, option_and_then}
 use Rattle.std.proofs.lemmas.Bool.{true≢false, or_parts, or_from}
 use Rattle.std.proofs.lemmas.Cmp.{nat_eq_equiv}
-use Rattle.std.proofs.lemmas.List.{append-nil, map-append}
+use Rattle.std.proofs.lemmas.List.{append-nil}
 use Rattle.std.proofs.lemmas.List.Concat.{flat_map-append}
 use Rattle.std.proofs.lemmas.List.Folds.{list_any-append}
 use Rattle.client_registry.proofs.FromEnd.{from_end}
-use Rattle.client_registry.proofs.LiveLaws.{among, added_list-push, is_listed-lists, live_pairs_are_listed}
+use Rattle.client_registry.proofs.LiveLaws.{among, is_listed-lists, live_pairs_are_listed}
 use Rattle.client_registry.proofs.OverLaws.{over-append}
 use Rattle.client_registry.specs.Command.{Command, Add, Delete, Search}
 use Rattle.client_registry.specs.Documents.{has_word}
-use Rattle.client_registry.specs.Live.{holds_pair, adds_pair, is_listed, is_live_with, newly_listed, added_list, shown}
+use Rattle.client_registry.specs.Live.{holds_pair, adds_pair, is_listed, is_live_with, shown}
 use Rattle.client_registry.specs.Over.{over}
 use Rattle.client_registry.specs.Run.{at_first}
-use Rattle.client_registry.specs.Setup.{Setup, setup_list}
+use Rattle.client_registry.specs.Setup.{Setup}
+use Rattle.sse_leakage.proofs.ListedPairs.{ids, ids-listed_pairs}
 use Rattle.sse_leakage.proofs.Places.{earliest-push}
-use Rattle.sse_leakage.specs.Firsts.{origin, number_origin, place_of, place_where, update_words}
+use Rattle.sse_leakage.specs.Firsts.{origin, number_origin, place_where, update_words}
 use Rattle.sse_leakage.specs.Leaking.{listed_by, listed_in_setup, listed_pairs, pair_leak}
 use Rattle.sse_model.specs.Drawn.{sends_number}
 use Rattle.sse_simulator.specs.Leaks.{ListedLeak, Origin}
@@ -65,10 +66,6 @@ and-false false = refl
 
 -- What is listed.
 
--- the identifier of a pair
-abbrev first : ℕ × Origin → ℕ
-first p = p.0
-
 module _ (s : Setup) (word : List ℕ) where
   abbrev pairs : List Command → List (ℕ × Origin)
   pairs past = listed_pairs at_first s past word
@@ -84,37 +81,13 @@ module _ (s : Setup) (word : List ℕ) where
       ∙ ap (λ rest. listed_in_setup at_first s word ++ (flat_map (λ ps. ps) (over (listed_by at_first s word) [] past) ++ rest)) (append-nil (listed_by at_first s word past c))
       ∙ sym (append_assoc (listed_in_setup at_first s word) (flat_map (λ ps. ps) (over (listed_by at_first s word) [] past)) (listed_by at_first s word past c))
 
-  numbered_ids : (f : ℕ → Origin) (n : ℕ) (ids : List ℕ) → map first (map (λ (item : ℕ × ℕ). (item.1, f item.0)) (enumerate_from n ids)) ≡ ids
-  numbered_ids f n [] = refl
-  numbered_ids f n (id ∷ ids) = ap (λ rest. id ∷ rest) (numbered_ids f (n + 1) ids)
-
-  one_origin : (there : Origin) (ids : List ℕ) → map first (map (λ id. (id, there)) ids) ≡ ids
-  one_origin there [] = refl
-  one_origin there (id ∷ ids) = ap (λ rest. id ∷ rest) (one_origin there ids)
-
-  -- their identifiers are those that the setup lists, then those that additions list
-  pub pair_ids : (past : List Command) → map first (pairs past) ≡ setup_list s word ++ added_list s past word
-  pair_ids = from_end (λ past. map first (pairs past) ≡ setup_list s word ++ added_list s past word) start push
-    where
-      start : map first (listed_in_setup at_first s word ++ []) ≡ setup_list s word ++ []
-      start = map-append first (listed_in_setup at_first s word) [] ∙ ap (λ ids. ids ++ []) (numbered_ids (λ place. origin 0 place) 0 (setup_list s word))
-
-      push : (past : List Command) (c : Command) → map first (pairs past) ≡ setup_list s word ++ added_list s past word
-          → map first (pairs (past ++ c ∷ [])) ≡ setup_list s word ++ added_list s (past ++ c ∷ []) word
-      push past c had =
-          ap (map first) (listed_pairs-push past c)
-          ∙ map-append first (pairs past) (listed_by at_first s word past c)
-          ∙ (λ i. had i ++ one_origin (origin (at_first.command + 1 + length past) (place_of word (update_words s past c))) (newly_listed s word past c) i)
-          ∙ append_assoc (setup_list s word) (added_list s past word) (newly_listed s word past c)
-          ∙ ap (λ rest. setup_list s word ++ rest) (sym (added_list-push s past c word))
-
-  among-firsts : (id : ℕ) (ps : List (ℕ × Origin)) → list_any (λ p. id == p.0) ps ≡ among id (map first ps)
+  among-firsts : (id : ℕ) (ps : List (ℕ × Origin)) → list_any (λ p. id == p.0) ps ≡ among id (ids ps)
   among-firsts id [] = refl
   among-firsts id (p ∷ ps) = λ i. nat_eq_equiv.symm id p.0 i || among-firsts id ps i
 
   -- a pair is among them where it is listed
   pub any-pairs : (past : List Command) (id : ℕ) → list_any (λ p. id == p.0) (pairs past) ≡ is_listed s past word id
-  any-pairs past id = among-firsts id (pairs past) ∙ ap (among id) (pair_ids past) ∙ sym (is_listed-lists s word id past)
+  any-pairs past id = among-firsts id (pairs past) ∙ ap (among id) (ids-listed_pairs at_first s word past) ∙ sym (is_listed-lists s word id past)
 
   pub lists-listed_leaks : (past : List Command) (id : ℕ) → lists id (listed_leaks s past word) ≡ is_listed s past word id
   lists-listed_leaks past id = any-map (λ p. id == p.id) (pair past) (pairs past) ∙ any-pairs past id
@@ -122,7 +95,7 @@ module _ (s : Setup) (word : List ℕ) where
   -- What is live.
 
   still_live : (past : List Command) (ps : List (ℕ × Origin))
-      → map (λ p. p.id) (filter (λ p. not p.revoked) (map (pair past) ps)) ≡ filter (is_live_with s past word) (map first ps)
+      → map (λ p. p.id) (filter (λ p. not p.revoked) (map (pair past) ps)) ≡ filter (is_live_with s past word) (ids ps)
   still_live past [] = refl
   still_live past (p ∷ ps) = by (is_live_with s past word p.0) (still_live past ps)
     where
@@ -134,7 +107,7 @@ module _ (s : Setup) (word : List ℕ) where
 
   -- what a search finds are those that aren't revoked
   pub found-listed_leaks : (past : List Command) → map (λ p. p.id) (filter (λ p. not p.revoked) (listed_leaks s past word)) ≡ shown s past word
-  found-listed_leaks past = still_live past (pairs past) ∙ ap (filter (is_live_with s past word)) (pair_ids past)
+  found-listed_leaks past = still_live past (pairs past) ∙ ap (filter (is_live_with s past word)) (ids-listed_pairs at_first s word past)
 
   -- What was sent.
 

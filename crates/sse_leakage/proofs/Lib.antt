@@ -4,4 +4,5 @@ pub mod Names
 pub mod Law
 pub mod Sessions
 pub mod Fronts
+pub mod ListedPairs
 mod Rows

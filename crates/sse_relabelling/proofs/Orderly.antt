@@ -1,7 +1,7 @@
 -- What the exchange takes of accepted histories.
-use Rattle.std.proofs.Common.{◌≡◌, ℕ, zero, suc, ◌+◌, Bool, true, false, ◌&&◌, ◌||◌, List, [], ◌∷◌, ◌++◌, length, map, refl, sym, ap, ◌∙◌, subst, ⊎_elim, eqb-true, Some}
-use Rattle.std.specs.Prelude.{All, bytes_eq, if◌then◌else◌, flat_map, ◌==◌}
-use Rattle.std.specs.List.{list_any, enumerate_from, IsDistinct, AllByRecursion, slice_get}
+use Rattle.std.proofs.Common.{◌≡◌, ℕ, zero, suc, Bool, true, false, ◌&&◌, ◌||◌, List, [], ◌∷◌, ◌++◌, map, refl, sym, ap, ◌∙◌, subst, ⊎_elim, eqb-true, Some}
+use Rattle.std.specs.Prelude.{All, bytes_eq, if◌then◌else◌, ◌==◌}
+use Rattle.std.specs.List.{list_any, IsDistinct, AllByRecursion, slice_get}
 use Rattle.std.proofs.lemmas.Bool.{true≢false, eqb-false, and_from, or_left, or_right, or_cases}
 use Rattle.std.proofs.lemmas.Slice.Eq.{bytes_eq-Decides}
 use Rattle.std.proofs.lemmas.List.Folds.{list_any-append}
@@ -12,19 +12,19 @@ use Rattle.client_registry.proofs.ShownLaws.{are_accepted, live_apart}
 use Rattle.client_registry.specs.Command.{Command, Add, Delete, Search}
 use Rattle.client_registry.specs.Document.{Document}
 use Rattle.client_registry.specs.Documents.{has_word, IsCollected}
-use Rattle.client_registry.specs.Live.{live, holds_pair, adds_pair, is_listed, is_live_with, newly_listed, added_list}
-use Rattle.client_registry.specs.Over.{over}
+use Rattle.client_registry.specs.Live.{live, holds_pair, adds_pair, is_listed, is_live_with, added_list}
 use Rattle.client_registry.specs.Run.{Offsets}
 use Rattle.client_registry.specs.Setup.{Setup, setup_list}
 use Rattle.client_registry.specs.Sized.{IsSizedCommand}
 use Rattle.sse_model.proofs.DrawnOnce.{live_are_documents, IsDistinct-words_live}
 use Rattle.sse_model.specs.Drawn.{sends_number}
 use Rattle.sse_model.specs.Wire.{words_live}
+use Rattle.sse_leakage.proofs.ListedPairs.{ids, ids-listed_pairs}
 use Rattle.sse_leakage.proofs.Places.{none_is_some}
 use Rattle.sse_relabelling.proofs.SamePlaces.{Has, has-mapped, own_word, IsOrderly}
 use Rattle.sse_relabelling.proofs.Standing.{some_inside, id_of}
-use Rattle.sse_leakage.specs.Firsts.{origin, update_words, place_of}
-use Rattle.sse_leakage.specs.Leaking.{listed_in_setup, listed_by, listed_pairs}
+use Rattle.sse_leakage.specs.Firsts.{update_words, place_of}
+use Rattle.sse_leakage.specs.Leaking.{listed_pairs}
 use Rattle.sse_simulator.specs.Leaks.{Origin}
 
 pub same_number : (n : ℕ) → (n == n) ≡ true
@@ -109,34 +109,7 @@ module _ (s : Setup) (collected : IsCollected s.documents) (before : List Comman
 
 -- A listed pair is among the listed ones.
 
-own_firsts : {B : Type 0} (f : ℕ → ℕ → B) (n : ℕ) (xs : List ℕ) → map (λ (pair : ℕ × B). pair.0) (map (λ (item : ℕ × ℕ). (item.1, f item.0 item.1)) (enumerate_from n xs)) ≡ xs
-own_firsts f n [] = refl
-own_firsts f n (x ∷ xs) = ap (λ rest. x ∷ rest) (own_firsts f (n + 1) xs)
-
-same_firsts : {B : Type 0} (b : B) (xs : List ℕ) → map (λ (pair : ℕ × B). pair.0) (map (λ id. (id, b)) xs) ≡ xs
-same_firsts b [] = refl
-same_firsts b (x ∷ xs) = ap (λ rest. x ∷ rest) (same_firsts b xs)
-
-pub map-append : {A B : Type 0} (f : A → B) (xs ys : List A) → map f (xs ++ ys) ≡ map f xs ++ map f ys
-map-append f [] ys = refl
-map-append f (x ∷ xs) ys = ap (λ rest. f x ∷ rest) (map-append f xs ys)
-
 module _ (o : Offsets) (s : Setup) (word : List ℕ) where
-  abbrev ids : List (ℕ × Origin) → List ℕ
-  ids pairs = map (λ (pair : ℕ × Origin). pair.0) pairs
-
-  ids-added : (past cs : List Command) → ids (flat_map (λ pairs. pairs) (over (listed_by o s word) past cs)) ≡ flat_map (λ ids. ids) (over (newly_listed s word) past cs)
-  ids-added past [] = refl
-  ids-added past (c ∷ cs) =
-      map-append (λ (pair : ℕ × Origin). pair.0) (listed_by o s word past c) (flat_map (λ pairs. pairs) (over (listed_by o s word) (past ++ c ∷ []) cs))
-      ∙ (λ i. same_firsts (origin (o.command + 1 + length past) (place_of word (update_words s past c))) (newly_listed s word past c) i ++ ids-added (past ++ c ∷ []) cs i)
-
-  -- the identifiers of the listed pairs are those that a search may show
-  pub ids-listed_pairs : (cs : List Command) → ids (listed_pairs o s cs word) ≡ setup_list s word ++ added_list s cs word
-  ids-listed_pairs cs =
-      map-append (λ (pair : ℕ × Origin). pair.0) (listed_in_setup o s word) (flat_map (λ pairs. pairs) (over (listed_by o s word) [] cs))
-      ∙ (λ i. own_firsts (λ place id. origin o.command place) 0 (setup_list s word) i ++ ids-added [] cs i)
-
   has_among : (id : ℕ) (xs : List ℕ) → among id xs ≡ true → Has xs id
   has_among id [] h = absurd (true≢false (sym h))
   has_among id (x ∷ xs) h =
@@ -148,7 +121,7 @@ module _ (o : Offsets) (s : Setup) (word : List ℕ) where
   pub has_pair : (cs : List Command) (id : ℕ) → is_listed s cs word id ≡ true → (first : Origin) × Has (listed_pairs o s cs word) (id, first)
   has_pair cs id listed =
       let has : Has (ids (listed_pairs o s cs word)) id =
-      subst (λ xs. Has xs id) (sym (ids-listed_pairs cs)) (has_among id (setup_list s word ++ added_list s cs word) (sym (is_listed-lists s word id cs) ∙ listed)) in
+      subst (λ xs. Has xs id) (sym (ids-listed_pairs o s word cs)) (has_among id (setup_list s word ++ added_list s cs word) (sym (is_listed-lists s word id cs) ∙ listed)) in
       let pair = has-mapped (λ (pair : ℕ × Origin). pair.0) (listed_pairs o s cs word) id has in
       (pair.0.1, subst (λ n. Has (listed_pairs o s cs word) (n, pair.0.1)) pair.2 pair.1)
 

@@ -15,10 +15,10 @@ use Rattle.client_registry.specs.Over.{over}
 use Rattle.client_registry.specs.Run.{Run, Offsets}
 use Rattle.client_registry.specs.Setup.{Setup, setup_list}
 use Rattle.client_registry.specs.Sized.{IsHistory}
+use Rattle.sse_leakage.proofs.ListedPairs.{ids-listed_pairs}
 use Rattle.sse_leakage.specs.Firsts.{update_words, number_origin}
 use Rattle.sse_leakage.specs.Leaking.{sent_at, word_added, home, pair_leak, listed_pairs, leak}
 use Rattle.sse_relabelling.proofs.Beside.{Beside, paired-over}
-use Rattle.sse_relabelling.proofs.Orderly.{ids-listed_pairs}
 use Rattle.sse_relabelling.proofs.Pairs.{paired-image, paired-equal, paired-places}
 use Rattle.sse_relabelling.proofs.Partners.{word_for, words_told-by, pairs_told, home_told, partner}
 use Rattle.sse_relabelling.proofs.SameDrawings.{kind_of, words_told, no_add_delete, no_add_search}
