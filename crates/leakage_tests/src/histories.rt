@@ -1,4 +1,7 @@
-use client_registry::{Doc, DocId, Docs, HashKeys, Word};
+ghost use Rattle.std.specs.Prelude.{◌≡◌, None, OnOk};
+ghost use Rattle.client_registry.specs.Acceptance.{size_refusal};
+
+use client_registry::{Doc, DocId, Docs, HashKeys, Word, size_of};
 use command_history::{Command, History};
 use std::alloc::Global;
 use std::test::Fail;
@@ -54,7 +57,7 @@ fn begun(alloc: Global, docs: Docs, line: &[u8]) -> Result<History, Fail> {
 }
 
 /// The command of a line, where it has one.
-fn command(alloc: Global, line: &[u8]) -> Result<Option<Command>, Fail> {
+pub(crate) fn command(alloc: Global, line: &[u8]) -> Result<Option<Command>, Fail> {
     let kind = field(line, 0).unwrap_or(b"");
     if kind == b"add".as_slice() {
         return Ok(Some(Command::Add(document(alloc, line)?)));
@@ -97,5 +100,18 @@ pub(crate) fn history(alloc: Global, lines: &[u8]) -> Result<History, Fail> {
     match history {
         Some(history) => Ok(history),
         None => Err(Fail::from("no setup")),
+    }
+}
+
+/// That the setup of a history has an index.
+pub(crate) fn sized(history: &History) -> Result<(), Fail>
+    ensures { OnOk result (size_refusal history.now.setup ≡ None) }
+{
+    let b = u64::from(history.b());
+    let big = u64::from(history.big());
+    let pad = u64::from(history.pad());
+    match size_of(history.docs(), b, big, pad) {
+        Ok(_) => Ok(()),
+        Err(_) => Err(Fail::from("there is no index of this size")),
     }
 }

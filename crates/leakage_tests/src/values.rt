@@ -1,9 +1,8 @@
 ghost use Rattle.std.specs.Prelude.{◌≡◌, None};
 ghost use Rattle.client_registry.specs.Acceptance.{size_refusal};
 
-use crate::histories::history;
+use crate::histories::{history, sized};
 use crate::texts::{push_drawings, push_name, push_names, push_number};
-use client_registry::size_of;
 use command_history::History;
 use drawn_values::{drawings, drawn_names, probed_names, used_names};
 use keyed_fn::Toy;
@@ -200,13 +199,7 @@ fn push_all(text: &mut String, alloc: Global, history: &History) -> Result<(), A
 
 /// All that is told of a history.
 fn text_of(alloc: Global, history: &History) -> Result<String, Fail> {
-    let b = u64::from(history.b());
-    let big = u64::from(history.big());
-    let pad = u64::from(history.pad());
-    match size_of(history.docs(), b, big, pad) {
-        Ok(_) => {}
-        Err(_) => return Err(Fail::from("there is no index of this size")),
-    }
+    sized(history)?;
     let mut text = String::new(alloc);
     push_all(&mut text, alloc, history)?;
     Ok(text)
