@@ -2,6 +2,7 @@
 use Rattle.std.proofs.Common.{◌≡◌, ℕ, true, false, cond, List, [], ◌∷◌, ◌++◌, length, drop, filter, map, Some, refl, sym, ap, ◌∙◌}
 use Rattle.std.specs.Prelude.{flat_map, option_map}
 use Rattle.std.proofs.lemmas.List.{drop_at}
+use Rattle.std.proofs.lemmas.Option.{none-some}
 use Rattle.client_registry.specs.Run.{Run, at_first}
 use Rattle.client_registry.specs.Sized.{IsHistory, run_words}
 use Rattle.named_values.specs.Sheets.{Values}
@@ -18,7 +19,8 @@ use Rattle.sse_model.specs.Names.{Table}
 use Rattle.sse_model.specs.Wire.{wire}
 use Rattle.sse_simulator.specs.Leaks.{Draw, Leak}
 use Rattle.sse_simulator.specs.Simulator.{answer_of, sim_at_first, simulated_from}
-use Rattle.simulated_frames.specs.Steps.{bytes_simulated, passed_bytes}
+use Rattle.simulated_frames.proofs.BadLaws.{bad_none}
+use Rattle.simulated_frames.specs.Steps.{IsFirstBad, bytes_simulated, passed_bytes}
 use Rattle.history_draws.proofs.SheetDraws.{draws-sheet}
 use Rattle.history_draws.specs.Given.{sheet_table}
 use Rattle.history_draws.specs.SheetOf.{IsSheetOf}
@@ -106,6 +108,14 @@ module _ (t : Table) (run : Run) (history : IsHistory run) where
       ap (filter is_sent) (some_same (map passed_bytes all) texts whole)
       ∙ sent_only all
       ∙ ap (λ fs. map frame_bytes (Hello ∷ fs)) (sent_exchange (flat_map answer_of (leak at_first run)) (flat_map (λ fs. fs) frames))
+
+  -- and none of its items names what isn't there
+  pub none_refused : (leaks : List Leak) (drawn : List (List Draw)) (command : ℕ) → leaks ≡ leak at_first run → drawn ≡ draws t at_first run → IsFirstBad command leaks drawn → ⊥
+  none_refused leaks drawn command leaks_are drawn_are bad =
+      none-some (map passed_bytes (all_passed (leak at_first run) (wire t at_first run)))
+      (sym (bad_none command leaks drawn bad)
+      ∙ (λ i. bytes_simulated (leaks_are i) (drawn_are i))
+      ∙ ap (λ fs. option_map (map passed_bytes) (option_map (all_passed (leak at_first run)) fs)) made)
 
 -- the frames of a session are one under every table whose values a sheet has
 pub session-sheet : (values : Values) (run : Run) (t : Table) → IsHistory run → IsSheetOf values (run_words run) (names at_first run) t

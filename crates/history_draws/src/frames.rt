@@ -16,7 +16,7 @@ use crate::drawn::draws;
 use command_history::History;
 use leakage_model::leak;
 use named_values::Sheet;
-use simulated_frames::simulate;
+use simulated_frames::{SimFault, simulate};
 use sse_frames::Items;
 use std::alloc::{AllocError, Global};
 
@@ -55,8 +55,7 @@ fn sent_texts(alloc: Global, passing: &[Items<u8>]) -> Result<Items<Items<u8>>, 
 /// made of the history's leakage and draws alone, by the simulator. The history's setup has an index, and its commands can be numbered
 /// in 32 bits. What is sent under a table is so under every sheet that has its values.
 ///
-/// Error: as for [`draws`], and where there is no number of 64 bits for a frame. An item that the simulator refuses would be this error
-/// as well; the contract doesn't say that none is refused.
+/// Error: as for [`draws`], and where there is no number of 64 bits for a frame. No item is one that the simulator refuses.
 pub fn wire_frames(
     alloc: Global,
     history: &History,
@@ -73,6 +72,7 @@ pub fn wire_frames(
     let draws = draws(alloc, history, sheet)?;
     match simulate(alloc, &leaks, &draws) {
         Ok(passing) => sent_texts(alloc, passing.as_slice()),
-        Err(_) => Err(AllocError),
+        Err(SimFault::NoMemory) => Err(AllocError),
+        Err(SimFault::BadLeak(_)) => unreachable!(),
     }
 }
