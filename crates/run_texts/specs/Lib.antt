@@ -1,4 +1,5 @@
 pub mod Words
+pub mod Twins
 pub mod Inputs
 pub mod LineWords
 pub mod LineResultViews

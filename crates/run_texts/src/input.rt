@@ -3,11 +3,13 @@ ghost use Rattle.std.specs.Io.KnownBytes.{IsAtEnd};
 ghost use Rattle.std.specs.Result.{result_ok};
 ghost use Rattle.run_texts.specs.Causes.{InputCause};
 ghost use Rattle.run_texts.specs.LineWords.{words_in};
+ghost use Rattle.run_texts.specs.Twins.{is_twin_line};
 ghost use Rattle.sse_script.specs.Lines.{line_of};
 ghost use Rattle.sse_script.specs.TextLines.{bytes_to_come, lines_left, TakesLine, SkipsLine};
 ghost use Rattle.sse_script.specs.Views.{line_view};
 
 use crate::InputStop;
+use crate::twin_line::parts_scripts;
 use sse_outside::Source;
 use sse_script::{Line, LineReader, NextLine, read_line};
 use std::alloc::{AllocError, Global};
@@ -84,5 +86,12 @@ impl Input {
             Ok(line) => Ok(line),
             Err(_) => Err(InputStop::Line(self.number)),
         }
+    }
+
+    /// Whether the line read last is the one between two scripts, `twin` alone; it isn't in the grammar of a script.
+    pub fn is_twin(&self) -> bool
+        ensures { result ≡ is_twin_line self.now.line }
+    {
+        parts_scripts(&self.line)
     }
 }

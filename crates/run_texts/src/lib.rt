@@ -1,5 +1,5 @@
-//! The texts of a run: what it reads and what it prints, whatever is done with it. The words of the command line ask for a `Mode`;
-//! an `Input` reads the lines of a script and counts them; an `LineResult` is what a line came to, and prints its lines; a `StopCause`
+//! The texts of a run: what it reads and what it prints, whatever is done with it. The words of the command line ask for a `Mode`,
+//! or by `asks_twin` for a comparison of two scripts; an `Input` reads the lines of a script and counts them; an `LineResult` is what a line came to, and prints its lines; a `StopCause`
 //! is why a run ended before its script did, with the status and the last line that `finish` prints. It depends on `sse_script`
 //! for lines and texts and on `sse_outside` for sources and sinks, and knows no key, link or history. The theorem that
 //! callers use: the lines that are left are those of the source's bytes, and a sink took the text of an outcome or of the
@@ -14,6 +14,7 @@ mod line_result;
 mod peer_stop;
 mod plan_stop;
 mod stop_cause;
+mod twin_line;
 mod words;
 
 pub use command_stop::CommandStop;
@@ -24,4 +25,4 @@ pub use line_result::LineResult;
 pub use peer_stop::{PeerStop, ReplyStart};
 pub use plan_stop::PlanStop;
 pub use stop_cause::StopCause;
-pub use words::{Mode, mode_of};
+pub use words::{Mode, asks_twin, mode_of};

@@ -1,4 +1,5 @@
 ghost use Rattle.std.specs.Prelude.{◌≡◌, map, option_map, string_bytes};
+ghost use Rattle.run_texts.specs.Twins as twins;
 ghost use Rattle.run_texts.specs.Words as asks;
 ghost use Rattle.run_texts.specs.Words.{mode_view};
 
@@ -16,5 +17,15 @@ pub fn mode_of(words: &[String]) -> Option<Mode>
     match words {
         [word] if word.as_str() == "run" => Some(Mode::Run),
         _ => None,
+    }
+}
+
+/// Whether the words are `twin` alone: compare what two scripts leak. No run has them.
+pub fn asks_twin(words: &[String]) -> bool
+    ensures { result ≡ twins.is_twin (map (λ word. string_bytes word) words.now) }
+{
+    match words {
+        [word] => word.as_str() == "twin",
+        _ => false,
     }
 }
