@@ -25,6 +25,7 @@ use Rattle.sse_script.specs.declared.refusal.Refusal.{Refusal}
 use Rattle.history_reading.specs.Reads.{ReadEnd, Whole, Stopped, StopsUnread, StopsPrinting, Reads, ReadsFirst, ReadsFrom, ReadsFirstFrom, read_outcome, refusal_in, refused_text}
 use Rattle.history_reading.specs.Stages.{IsAt, ComesTo}
 use Rattle.history_reading.specs.Turns.{IsElsewhere, Moment, moment, ReadsOn, IsThere, ComesThrough, LeadsOn, LeadsTo, end_at, history_at}
+use Rattle.history_reading.specs.declared.lines.Last.{Last}
 use Rattle.history_reading.specs.declared.lines.Progress.{Progress}
 use Rattle.history_reading.specs.declared.lines.Turn.{Turn}
 use Rattle.history_reading.specs.declared.stage.Stage.{Stage}
@@ -229,7 +230,7 @@ module _ (start : Moment) (progress : Progress) (number : ℕ) (left : Option (L
   ends-whole done m last reads = subst (λ k. ReadsOn start last (Whole k (history_at done.stage) done.refused m)) s.key (s.rest last _ reads)
 
 -- what holds of a stop holds of the result that tells it
-pub end_at-stopped : (from : Moment) (key : List ℕ) (number : ℕ) (last : Option (List ℕ)) (r : Result Progress StopCause) (stop : StopCause) → IsErrAnd r (λ e. e ≡ stop) → ReadsOn from last (Stopped (stop_cause stop))
+pub end_at-stopped : (from : Moment) (key : List ℕ) (number : ℕ) (last : Option (List ℕ)) (r : Result Last StopCause) (stop : StopCause) → IsErrAnd r (λ e. e ≡ stop) → ReadsOn from last (Stopped (stop_cause stop))
     → ReadsOn from last (end_at key number r)
 end_at-stopped from key number last (Ok done) stop is reads = absurd is
 end_at-stopped from key number last (Err e) stop is reads = subst (λ s. ReadsOn from last (Stopped (stop_cause s))) (sym is) reads

@@ -3,3 +3,5 @@ pub mod Meant
 pub mod Numbered
 pub mod Stages
 pub mod Turns
+pub mod TwoScripts
+pub mod Endings

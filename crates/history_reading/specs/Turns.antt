@@ -1,5 +1,5 @@
 -- What the loop over the lines of a script that is read does: one line of it, one turn, and where a reading stands after it.
-use Rattle.std.specs.Prelude.{◌≡◌, ◌⊎◌, ℕ, ◌+◌, Bool, ◌||◌, List, Option, None, Some, Result, Ok, Err}
+use Rattle.std.specs.Prelude.{◌≡◌, ◌⊎◌, ℕ, ◌+◌, Bool, true, false, ◌||◌, List, Option, None, Some, Result, Ok, Err}
 use Rattle.std.specs.Io.KnownBytes.{append_known}
 use Rattle.client_registry.specs.Run.{History}
 use Rattle.run_texts.specs.Causes.{SourceCause}
@@ -9,9 +9,12 @@ use Rattle.script_meaning.specs.Lines.{Request}
 use Rattle.script_meaning.specs.Outcome.{Place, after, is_refusal}
 use Rattle.history_reading.specs.Reads.{ReadEnd, Whole, Stopped, StopsUnread, StopsPrinting, ReadsFrom, read_outcome, refusal_in, refused_text}
 use Rattle.history_reading.specs.Stages.{IsAt}
+use Rattle.history_reading.specs.TwoScripts.{EndsPart, behind_left}
+use Rattle.history_reading.specs.declared.lines.Last.{Last}
 use Rattle.history_reading.specs.declared.lines.Progress.{Progress}
 use Rattle.history_reading.specs.declared.lines.Turn.{Turn}
 use Rattle.history_reading.specs.declared.lines.Turn.TheVariants.{Next, End}
+use Rattle.history_reading.specs.declared.reading.FirstScript.{FirstScript}
 use Rattle.history_reading.specs.declared.reading.ReadScript.{ReadScript}
 use Rattle.history_reading.specs.declared.stage.Stage.{Stage}
 use Rattle.history_reading.specs.declared.stage.Stage.TheVariants.{Collecting, Built}
@@ -45,8 +48,8 @@ history_at (Collecting docs) = None
 history_at (Built history) = Some history
 
 -- how the reading of these lines ended, under this key, where one more line would have this number
-abbrev pub end_at : (key : List ℕ) (next : ℕ) → Result Progress StopCause → ReadEnd
-end_at key next (Ok progress) = Whole key (history_at progress.stage) progress.refused next
+abbrev pub end_at : (key : List ℕ) (next : ℕ) → Result Last StopCause → ReadEnd
+end_at key next (Ok last) = Whole key (history_at last.progress.stage) last.progress.refused next
 end_at key next (Err stop) = Stopped (stop_cause stop)
 
 -- a command at a place comes to this: the reading stands after it, with its refusal printed; or it stops, with nothing printed or
@@ -67,23 +70,33 @@ abbrev pub LeadsOn : Moment → (number : ℕ) (left : Option (List (List ℕ)))
 LeadsOn start number left printed (Ok next) = IsThere start next number left printed
 LeadsOn start number left printed (Err stop) = ReadsOn start printed (Stopped (stop_cause stop))
 
--- so does a turn, which may also find no line
+-- so does a turn, which may also find no line of the script
 abbrev pub LeadsTo : Moment → (number : ℕ) (left : Option (List (List ℕ))) (printed : Option (List ℕ)) → Result Turn StopCause → Type 0
 LeadsTo start number left printed (Ok (Next next)) = IsThere start next number left printed
-LeadsTo start number left printed (Ok (End progress)) = ReadsOn start printed (Whole start.place.key (history_at progress.stage) progress.refused number)
+LeadsTo start number left printed (Ok (End last)) = ReadsOn start printed (Whole start.place.key (history_at last.progress.stage) last.progress.refused number)
 LeadsTo start number left printed (Err stop) = ReadsOn start printed (Stopped (stop_cause stop))
 
--- what holds where a turn leads to one more
-abbrev pub OnNext : Turn → Type 0 → Type 0
-OnNext (Next next) P = P
-OnNext (End progress) P = Unit {0}
+-- what holds where a turn read a line, be it the one between two scripts
+abbrev pub OnLine : Turn → Type 0 → Type 0
+OnLine (Next next) P = P
+OnLine (End last) P = last.at_twin ≡ true → P
 
--- and of a turn that finds no line
-abbrev pub OnEnd : Turn → Type 0 → Type 0
-OnEnd (Next next) P = Unit {0}
-OnEnd (End progress) P = P
+-- whether the line that was read is the one between two scripts, at which a turn ends
+abbrev pub IsTurnAt : (is_twin : Bool) → Turn → Type 0
+IsTurnAt is_twin (Next next) = is_twin ≡ false
+IsTurnAt is_twin (End last) = (is_twin ≡ true) × (last.at_twin ≡ true)
+
+-- what is left of both scripts after a turn
+abbrev pub PartsOn : Turn → (old new : Option (List (List ℕ))) (remaining : Option (List ℕ)) → Type 0
+PartsOn (Next next) old new remaining = behind_left old ≡ behind_left new
+PartsOn (End last) old new remaining = EndsPart last.at_twin old new remaining (Unit {0})
 
 -- how the reading of a script ended
 abbrev pub reading_end : Result ReadScript StopCause → ReadEnd
 reading_end (Ok read) = Whole read.key read.history read.refused read.next
 reading_end (Err stop) = Stopped (stop_cause stop)
+
+-- and how that of the first of two did
+abbrev pub first_end : Result FirstScript StopCause → ReadEnd
+first_end (Ok first) = Whole first.script.key first.script.history first.script.refused first.script.next
+first_end (Err stop) = Stopped (stop_cause stop)

@@ -16,6 +16,6 @@ mod stage;
 mod taking;
 
 pub use numbered_history::NumberedHistory;
-pub use reading::{ReadScript, read_history};
+pub use reading::{FirstScript, ReadScript, read_first, read_history};
 pub use stage::Stage;
 pub use taking::take_line;

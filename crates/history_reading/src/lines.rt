@@ -1,8 +1,9 @@
 ghost use Rattle.std.specs.Prelude.{◌≡◌, ◌≤◌, ◌<◌, ◌+◌, ◌^◌, ◌||◌, ◌∷◌, ℕ, List, Option, Some, Err, IfErr, IfOk, OnOk, is_some, option_map, true};
-ghost use Rattle.std.specs.Io.KnownBytes.{append_known, IsAtEnd};
+ghost use Rattle.std.specs.Io.KnownBytes.{append_known};
 ghost use Rattle.run_texts.specs.Causes.{KeepsSink, KeepsSource, SourceCause};
 ghost use Rattle.run_texts.specs.LineWords.{words_in};
 ghost use Rattle.run_texts.specs.Stops.{stop_cause};
+ghost use Rattle.run_texts.specs.Twins.{is_twin_line};
 ghost use Rattle.script_meaning.specs.Lines as requests;
 ghost use Rattle.script_meaning.specs.Lines.{Request, line_in, line_read};
 ghost use Rattle.script_meaning.specs.Outcome.{Place};
@@ -10,7 +11,8 @@ ghost use Rattle.sse_script.specs.TextLines.{bytes_to_come, lines_left};
 ghost use Rattle.sse_script.specs.Views.{line_view};
 ghost use Rattle.history_reading.specs.Reads.{refused_text, Stopped, StopsPrinting};
 ghost use Rattle.history_reading.specs.Stages.{IsAt};
-ghost use Rattle.history_reading.specs.Turns.{ComesThrough, IsElsewhere, LeadsOn, LeadsTo, OnEnd, OnNext, ReadsOn, end_at, moment};
+ghost use Rattle.history_reading.specs.Turns.{ComesThrough, IsElsewhere, IsTurnAt, LeadsOn, LeadsTo, OnLine, PartsOn, ReadsOn, end_at, moment};
+ghost use Rattle.history_reading.specs.TwoScripts.{EndsPart, first_left};
 
 use crate::stage::Stage;
 use crate::taking::take_line;
@@ -27,16 +29,24 @@ pub(crate) struct Progress {
     pub(crate) refused: bool,
 }
 
+/// Where the lines of a script ended.
+#[derive(Drop)]
+pub(crate) struct Last {
+    pub(crate) progress: Progress,
+    /// At a line `twin`, and else at the end of the source.
+    pub(crate) at_twin: bool,
+}
+
 /// What a turn of the loop over the lines leads to.
 #[derive(Drop)]
 enum Turn {
     /// One line more was read.
     Next(Progress),
-    /// No line was left.
-    End(Progress),
+    /// No line of the script was left.
+    End(Last),
 }
 
-/// Reads the lines after the key line, and prints the refusals.
+/// Reads the lines after the key line, up to a line `twin` where there is one, and prints the refusals.
 pub(crate) fn read_lines<S: Source, W: Sink>(
     alloc: Global,
     keys: HashKeys,
@@ -44,11 +54,12 @@ pub(crate) fn read_lines<S: Source, W: Sink>(
     sink: &mut W,
     input: &mut Input,
     mut progress: Progress,
-) -> Result<Progress, StopCause>
+) -> Result<Last, StopCause>
     requires few { input.old.number + bytes_to_come input.old.pending (S.handed_out source.old) ≤ 2 ^ 63 }
     ensures reads { (place : Place) → IsAt progress.stage place →
-        ReadsOn (moment place (input.old.number + 1) (lines_left input.old.pending (S.remaining source.old)) progress.refused (W.written sink.old)) (W.written sink.new) (end_at place.key input.new.number result) }
-    ensures at_end { OnOk result (IsAtEnd (S.remaining source.new)) }
+        ReadsOn (moment place (input.old.number + 1) (first_left (lines_left input.old.pending (S.remaining source.old))) progress.refused (W.written sink.old)) (W.written sink.new) (end_at place.key input.new.number result) }
+    ensures ended { IfOk result (λ last. EndsPart last.at_twin (lines_left input.old.pending (S.remaining source.old)) (lines_left input.new.pending (S.remaining source.new)) (S.remaining source.new)
+        (input.new.number + bytes_to_come input.new.pending (S.handed_out source.new) ≤ 2 ^ 63)) }
     ensures source { KeepsSource SourceCause (S.faults source.old) (S.faults source.new) result }
     ensures sink { KeepsSink (W.faults sink.old) (W.faults sink.new) (W.shortages sink.old) (W.shortages sink.new) result }
 {
@@ -71,21 +82,47 @@ fn take_turn<S: Source, W: Sink>(
 ) -> Result<Turn, StopCause>
     requires few { input.old.number + bytes_to_come input.old.pending (S.handed_out source.old) ≤ 2 ^ 63 }
     ensures turns { (place : Place) → IsAt progress.stage place →
-        LeadsTo (moment place (input.old.number + 1) (lines_left input.old.pending (S.remaining source.old)) progress.refused (W.written sink.old)) input.new.number (lines_left input.new.pending (S.remaining source.new)) (W.written sink.new) result }
-    ensures counted { IfOk result (λ turn. OnNext turn (input.new.number ≡ input.old.number + 1)) }
-    ensures less { IfOk result (λ turn. OnNext turn (
+        LeadsTo (moment place (input.old.number + 1) (first_left (lines_left input.old.pending (S.remaining source.old))) progress.refused (W.written sink.old)) input.new.number (first_left (lines_left input.new.pending (S.remaining source.new))) (W.written sink.new) result }
+    ensures parts { IfOk result (λ turn. PartsOn turn (lines_left input.old.pending (S.remaining source.old)) (lines_left input.new.pending (S.remaining source.new)) (S.remaining source.new)) }
+    ensures counted { IfOk result (λ turn. OnLine turn (input.new.number ≡ input.old.number + 1)) }
+    ensures less { IfOk result (λ turn. OnLine turn (
         bytes_to_come input.new.pending (S.handed_out source.new) < bytes_to_come input.old.pending (S.handed_out source.old))) }
-    ensures at_end { IfOk result (λ turn. OnEnd turn (IsAtEnd (S.remaining source.new))) }
     ensures source { KeepsSource SourceCause (S.faults source.old) (S.faults source.new) result }
     ensures sink { KeepsSink (W.faults sink.old) (W.faults sink.new) (W.shortages sink.old) (W.shortages sink.new) result }
 {
     match input.advance(source) {
-        Ok(true) => match take_read(alloc, keys, sink, input, progress) {
-            Ok(next) => Ok(Turn::Next(next)),
-            Err(stop) => Err(stop),
-        },
-        Ok(false) => Ok(Turn::End(progress)),
+        Ok(true) => turn_at_line(alloc, keys, sink, input, progress),
+        Ok(false) => Ok(Turn::End(Last {
+            progress,
+            at_twin: false,
+        })),
         Err(stop) => not_read(progress, stop),
+    }
+}
+
+/// Takes the line that was read last, or ends the script at it.
+fn turn_at_line<W: Sink>(
+    alloc: Global,
+    keys: HashKeys,
+    sink: &mut W,
+    input: &Input,
+    progress: Progress,
+) -> Result<Turn, StopCause>
+    ensures leads { (place : Place) (behind : Option (List (List ℕ))) → IsAt progress.stage place →
+        LeadsTo (moment place input.now.number (first_left (option_map (λ lines. input.now.line ∷ lines) behind)) progress.refused (W.written sink.old)) input.now.number (first_left behind) (W.written sink.new) result }
+    ensures at { IfOk result (IsTurnAt (is_twin_line input.now.line)) }
+    ensures sink { KeepsSink (W.faults sink.old) (W.faults sink.new) (W.shortages sink.old) (W.shortages sink.new) result }
+    ensures elsewhere { IfErr result IsElsewhere }
+{
+    if input.is_twin() {
+        return Ok(Turn::End(Last {
+            progress,
+            at_twin: true,
+        }));
+    }
+    match take_read(alloc, keys, sink, input, progress) {
+        Ok(next) => Ok(Turn::Next(next)),
+        Err(stop) => Err(stop),
     }
 }
 

@@ -6,9 +6,10 @@ ghost use Rattle.run_texts.specs.Stops.{input_cause};
 ghost use Rattle.script_meaning.specs.Outcome.{opened};
 ghost use Rattle.sse_script.specs.TextLines.{bytes_to_come, lines_left};
 ghost use Rattle.history_reading.specs.Reads.{ReadEnd, ReadsFirstFrom, ReadsFrom, Stopped};
-ghost use Rattle.history_reading.specs.Turns.{history_at, reading_end};
+ghost use Rattle.history_reading.specs.Turns.{first_end, history_at, reading_end};
+ghost use Rattle.history_reading.specs.TwoScripts.{EndsPart, behind_left, first_left};
 
-use crate::lines::{Progress, read_lines};
+use crate::lines::{Last, Progress, read_lines};
 use crate::stage::Stage;
 use client_registry::{Docs, HashKeys};
 use command_history::History;
@@ -32,6 +33,15 @@ pub struct ReadScript {
     pub next: u64,
 }
 
+/// The first of two scripts, which ends at a line `twin`.
+#[derive(Drop)]
+pub struct FirstScript {
+    /// What was read of it; with no line `twin` up to the end of the source.
+    pub script: ReadScript,
+    /// Whether it ends at a line `twin`, whose number is then that of the line after its last.
+    pub at_twin: bool,
+}
+
 /// Reads a script up to the end of the source: its key line, then its lines, of which the refusals are printed as a run prints them,
 /// and nothing else is. The keyed function only hashes its words and identifiers.
 ///
@@ -51,6 +61,36 @@ pub fn read_history<K: Keyed, S: Source, W: Sink>(
     ensures source { KeepsSource SourceCause (S.faults source.old) (S.faults source.new) result }
     ensures sink { KeepsSink (W.faults sink.old) (W.faults sink.new) (W.shortages sink.old) (W.shortages sink.new) result }
 {
+    match read_first(alloc, keyed, source, sink, input) {
+        Ok(first) => {
+            let FirstScript { script, at_twin } = first;
+            if at_twin {
+                return Err(StopCause::Input(InputStop::Line(script.next)));
+            }
+            Ok(script)
+        }
+        Err(stop) => Err(stop),
+    }
+}
+
+/// Reads the first of two scripts: as [`read_history`], but up to the first line `twin`, behind which the source and the input
+/// are ready for the second.
+pub fn read_first<K: Keyed, S: Source, W: Sink>(
+    alloc: Global,
+    keyed: &K,
+    source: &mut S,
+    sink: &mut W,
+    input: &mut Input,
+) -> Result<FirstScript, StopCause>
+    requires few { input.old.number + bytes_to_come input.old.pending (S.handed_out source.old) ≤ 2 ^ 63 }
+    ensures reads { ReadsFirstFrom (input.old.number + 1) (first_left (lines_left input.old.pending (S.remaining source.old))) (W.written sink.old) (W.written sink.new) (first_end result) }
+    ensures ended { IfOk result (λ first. EndsPart first.at_twin (lines_left input.old.pending (S.remaining source.old)) (lines_left input.new.pending (S.remaining source.new)) (S.remaining source.new)
+        (input.new.number + bytes_to_come input.new.pending (S.handed_out source.new) ≤ 2 ^ 63)) }
+    ensures numbered { IfOk result (λ first. first.script.next ≡ input.new.number) }
+    ensures sized { IfOk result (λ first. IfSome first.script.history IsSized) }
+    ensures source { KeepsSource SourceCause (S.faults source.old) (S.faults source.new) result }
+    ensures sink { KeepsSink (W.faults sink.old) (W.faults sink.new) (W.shortages sink.old) (W.shortages sink.new) result }
+{
     let key = key_line(source, input)?;
     let keys = hash_keys(keyed, &key);
     let progress = Progress {
@@ -58,7 +98,7 @@ pub fn read_history<K: Keyed, S: Source, W: Sink>(
         refused: false,
     };
     match read_lines(alloc, keys, source, sink, input, progress) {
-        Ok(last) => Ok(whole_script(key, last, input.number())),
+        Ok(last) => Ok(first_script(key, last, input.number())),
         Err(stop) => Err(stop),
     }
 }
@@ -68,35 +108,39 @@ fn hash_keys<K: Keyed>(keyed: &K, key: &MasterKey) -> HashKeys {
     key.prepare(keyed).hash_keys(keyed)
 }
 
-/// What was read, where one more line would have this number.
-fn whole_script(key: MasterKey, last: Progress, next: u64) -> ReadScript
-    ensures key { result.key ≡ key }
-    ensures history { result.history ≡ history_at last.stage }
-    ensures refused { result.refused ≡ last.refused }
-    ensures next { result.next ≡ next }
-    ensures sized { IfSome result.history IsSized }
+/// What was read, where one more line of the script would have this number.
+fn first_script(key: MasterKey, last: Last, next: u64) -> FirstScript
+    ensures key { result.script.key ≡ key }
+    ensures history { result.script.history ≡ history_at last.progress.stage }
+    ensures refused { result.script.refused ≡ last.progress.refused }
+    ensures next { result.script.next ≡ next }
+    ensures at_twin { result.at_twin ≡ last.at_twin }
+    ensures sized { IfSome result.script.history IsSized }
 {
-    let Progress { stage, refused } = last;
+    let Last { progress, at_twin } = last;
+    let Progress { stage, refused } = progress;
     let history = match stage {
         Stage::Collecting(_) => None,
         Stage::Built(history) => Some(history.into_history()),
     };
-    ReadScript {
+    let script = ReadScript {
         key,
         history,
         refused,
         next,
-    }
+    };
+    FirstScript { script, at_twin }
 }
 
 /// Reads up to the key line, which is the first that isn't empty.
 fn key_line<S: Source>(source: &mut S, input: &mut Input) -> Result<MasterKey, InputStop>
     requires few { input.old.number + bytes_to_come input.old.pending (S.handed_out source.old) ≤ 2 ^ 63 }
     ensures key { IfOk result (λ key. (now last : Option (List ℕ)) (end : ReadEnd) →
-        ReadsFrom (opened key) (input.new.number + 1) (lines_left input.new.pending (S.remaining source.new)) false now last end →
-        ReadsFirstFrom (input.old.number + 1) (lines_left input.old.pending (S.remaining source.old)) now last end) }
+        ReadsFrom (opened key) (input.new.number + 1) (first_left (lines_left input.new.pending (S.remaining source.new))) false now last end →
+        ReadsFirstFrom (input.old.number + 1) (first_left (lines_left input.old.pending (S.remaining source.old))) now last end) }
+    ensures behind { OnOk result (behind_left (lines_left input.old.pending (S.remaining source.old)) ≡ behind_left (lines_left input.new.pending (S.remaining source.new))) }
     ensures stopped { IfErr result (λ stop. (now : Option (List ℕ)) →
-        ReadsFirstFrom (input.old.number + 1) (lines_left input.old.pending (S.remaining source.old)) now now (Stopped (Some (input_cause stop)))) }
+        ReadsFirstFrom (input.old.number + 1) (first_left (lines_left input.old.pending (S.remaining source.old))) now now (Stopped (Some (input_cause stop)))) }
     ensures few_left { OnOk result (input.new.number + bytes_to_come input.new.pending (S.handed_out source.new) ≤ 2 ^ 63) }
     ensures source { KeepsSource InputCause (S.faults source.old) (S.faults source.new) result }
 {

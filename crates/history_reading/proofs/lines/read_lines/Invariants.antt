@@ -3,6 +3,7 @@ use Rattle.sse_script.specs.TextLines.{bytes_to_come, lines_left}
 use Rattle.script_meaning.specs.Outcome.{Place}
 use Rattle.history_reading.specs.Stages.{IsAt}
 use Rattle.history_reading.specs.Turns.{IsThere, moment}
+use Rattle.history_reading.specs.TwoScripts.{behind_left, first_left}
 use Rattle.history_reading.proofs.lines.read_lines.Given as goal
 
 abbrev pub invariant-lines : goal.invariant-lines
@@ -12,8 +13,9 @@ invariant-lines g l = record {
   sink : g.W.Sink.faults l.sink ≡ g.W.Sink.faults l.fn.sink;
   shortages : g.W.Sink.shortages l.fn.sink ≤ g.W.Sink.shortages l.sink;
   there : (place : Place) → IsAt l.fn.progress.stage place
-      → IsThere (moment place (l.fn.input.number + 1) (lines_left l.fn.input.pending (g.S.Source.remaining l.fn.source)) l.fn.progress.refused (g.W.Sink.written l.fn.sink))
-      l.progress l.input.number (lines_left l.input.pending (g.S.Source.remaining l.source)) (g.W.Sink.written l.sink);
+      → IsThere (moment place (l.fn.input.number + 1) (first_left (lines_left l.fn.input.pending (g.S.Source.remaining l.fn.source))) l.fn.progress.refused (g.W.Sink.written l.fn.sink))
+      l.progress l.input.number (first_left (lines_left l.input.pending (g.S.Source.remaining l.source))) (g.W.Sink.written l.sink);
+  behind : behind_left (lines_left l.fn.input.pending (g.S.Source.remaining l.fn.source)) ≡ behind_left (lines_left l.input.pending (g.S.Source.remaining l.source));
 }
 
 abbrev pub decreases-lines : goal.decreases-lines

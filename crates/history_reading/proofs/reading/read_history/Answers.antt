@@ -1,17 +1,32 @@
-use Rattle.std.proofs.Common.{◌≡◌, ◌+◌, refl, sym, ap, ◌∙◌, subst}
-use Rattle.script_meaning.specs.Outcome.{opened}
-use Rattle.history_reading.specs.Reads.{Whole, ReadsFirstFrom}
-use Rattle.history_reading.specs.Turns.{history_at}
+use Rattle.std.proofs.Common.{◌+◌, refl, subst}
+use Rattle.std.specs.Prelude.{if◌then◌else◌}
+use Rattle.run_texts.specs.Stops.{stop_cause}
 use Rattle.sse_script.specs.TextLines.{lines_left}
+use Rattle.history_reading.proofs.WholeScripts.{at_line, whole-ended, whole-stopped}
+use Rattle.history_reading.specs.Reads.{ReadsFirstFrom, Stopped, Whole}
 use Rattle.history_reading.proofs.reading.read_history.Goals as goal
 
-pub returns-in-Ok-clause-reads : goal.returns-in-Ok-clause-reads
-returns-in-Ok-clause-reads g c =
-    let key = c.in_ok-key.key in
-    let read = c.whole_script.result in
-    let last = c.in-Ok.last in
-    let number = c.read_lines.new.input.number in
-    let same : Whole key (history_at last.stage) last.refused number ≡ Whole read.key read.history read.refused read.next =
-    sym ((λ i. Whole (c.whole_script.ensures.key i) (c.whole_script.ensures.history i) (c.whole_script.ensures.refused i) (c.whole_script.ensures.next i)) ∙ ap (Whole key (history_at last.stage) last.refused) c.number.ensures) in
-    subst (λ end. ReadsFirstFrom (c.args.input.now.number + 1) (lines_left c.args.input.now.pending (g.S.Source.remaining c.args.source.now)) (g.W.Sink.written c.args.sink.now) (g.W.Sink.written c.read_lines.new.sink) end) same
-    (c.in_ok-key.ensures.key (g.W.Sink.written c.args.sink.now) (g.W.Sink.written c.read_lines.new.sink) (Whole key (history_at last.stage) last.refused number) (c.in-Ok.ensures.reads (opened key) (c.new.ensures.none, refl)))
+pub returns-then-at_twin-clause-reads : goal.returns-then-at_twin-clause-reads
+returns-then-at_twin-clause-reads g c =
+    let script = c.in-Ok.first.script in
+    let end = Whole script.key script.history script.refused script.next in
+    let left = lines_left c.args.input.now.pending (g.S.Source.remaining c.args.source.now) in
+    let written = g.W.Sink.written c.args.sink.now in
+    let last = g.W.Sink.written c.read_first.new.sink in
+    subst (λ b. ReadsFirstFrom (c.args.input.now.number + 1) left written last (if b then at_line end else end)) c.if-at_twin.true
+    (whole-ended left (c.args.input.now.number + 1) written last c.in-Ok.first.at_twin end _ _ _ c.in-Ok.ensures.ended c.in-Ok.ensures.reads)
+
+pub returns-else-at_twin-clause-reads : goal.returns-else-at_twin-clause-reads
+returns-else-at_twin-clause-reads g c =
+    let script = c.in-Ok.first.script in
+    let end = Whole script.key script.history script.refused script.next in
+    let left = lines_left c.args.input.now.pending (g.S.Source.remaining c.args.source.now) in
+    let written = g.W.Sink.written c.args.sink.now in
+    let last = g.W.Sink.written c.read_first.new.sink in
+    subst (λ b. ReadsFirstFrom (c.args.input.now.number + 1) left written last (if b then at_line end else end)) c.if-at_twin.false
+    (whole-ended left (c.args.input.now.number + 1) written last c.in-Ok.first.at_twin end _ _ _ c.in-Ok.ensures.ended c.in-Ok.ensures.reads)
+
+pub returns-in-Err-clause-reads : goal.returns-in-Err-clause-reads
+returns-in-Err-clause-reads g c =
+    let left = lines_left c.args.input.now.pending (g.S.Source.remaining c.args.source.now) in
+    whole-stopped left (c.args.input.now.number + 1) (g.W.Sink.written c.args.sink.now) (g.W.Sink.written c.read_first.new.sink) (Stopped (stop_cause c.in-Err.stop)) refl c.in-Err.ensures.reads
