@@ -1,35 +1,26 @@
 -- The lines of what a history leaks, as far as they were printed, and the last line.
-use Rattle.std.proofs.Common.{◌≡◌, ◌≢◌, ◌≤◌, ◌<◌, ◌⊎◌, inl, inr, ℕ, ◌+◌, Bool, List, [], ◌∷◌, ◌++◌, length, take, Option, None, Some, refl, sym, ap, subst, ◌∙◌, arith}
-use Rattle.std.specs.Prelude.{flat_map, IfErr, IfOk, OnOk, Result, Ok, Err, IsErrAnd, IfSome, decimal, codes}
+use Rattle.std.proofs.Common.{◌≡◌, ◌<◌, ◌⊎◌, inr, ℕ, ◌+◌, Bool, List, [], ◌∷◌, ◌++◌, length, Option, None, Some, refl, sym, subst, arith}
+use Rattle.std.specs.Prelude.{flat_map, Result, Ok, Err, IsErrAnd, IfSome, decimal, codes}
 use Rattle.std.specs.List.{enumerate_from, concat}
-use Rattle.std.specs.Option.{option_map_or}
 use Rattle.std.specs.Io.KnownBytes.{append_known}
-use Rattle.std.proofs.lemmas.List.{append-nil, length-append}
+use Rattle.std.proofs.lemmas.List.{length-append}
 use Rattle.client_registry.proofs.OverLaws.{length-over}
 use Rattle.client_registry.specs.Over.{over}
 use Rattle.client_registry.specs.Run.{History, Run, at_first}
+use Rattle.history_reading.proofs.Ended.{nothing_more}
 use Rattle.history_reading.proofs.ReadingGoesOn.{first-reading}
+use Rattle.history_reading.specs.Endings.{EndsIn, StopsTelling, ending, seen_of, stop_for}
 use Rattle.history_reading.specs.Reads.{ReadEnd, Whole, ReadsFirstFrom}
 use Rattle.history_reading.specs.Reads.{Stopped as NotRead}
 use Rattle.leak_texts.specs.LeakTexts.{leak_text, text_of_leak}
-use Rattle.run_texts.specs.Causes.{SinkCause, SourceCause}
-use Rattle.run_texts.specs.Stops.{last_line, stop_cause, stop_of_sink, stop_status}
-use Rattle.run_texts.specs.declared.input_stop.InputStop.TheVariants as inputs
+use Rattle.run_texts.specs.Stops.{stop_cause}
 use Rattle.run_texts.specs.declared.stop_cause.StopCause.{StopCause}
-use Rattle.run_texts.specs.declared.stop_cause.StopCause.TheVariants as stops
-use Rattle.script_meaning.specs.Stops.{Stop, AtEnd, SinkFault, At, status_of, stop_text}
+use Rattle.script_meaning.specs.Stops.{Stop, AtEnd, At, status_of}
 use Rattle.sse_leakage.specs.Leaking.{leak, leak_by, leak_of_setup}
-use Rattle.sse_outside.proofs.Fronts.{Rose-later}
-use Rattle.sse_outside.specs.Causes.{Rose}
-use Rattle.sse_outside.specs.Fronts.{TookFront, TookOrRose}
-use Rattle.sse_outside.specs.declared.device_fault.DeviceFault.{DeviceFault}
-use Rattle.sse_outside.specs.declared.device_fault.DeviceFault.TheVariants as devices
-use Rattle.sse_script.specs.Shown.{BadLine, Cause, NoMemory, Stopped}
-use Rattle.sse_script.specs.Stops.{cause_status}
+use Rattle.sse_script.specs.Shown.{BadLine, NoMemory}
 use Rattle.sse_script.specs.TextLines.{lines_left}
-use Rattle.sse_script.specs.Texts.{text_of}
 use Rattle.sse_simulator.specs.Leaks.{Leak}
-use Rattle.sse_leaks.specs.Telling.{EndsIn, GoesOn, HasToldLeaks, IsToldSo, StopsTelling, history_lines, leak_lines, seen_of, stop_for, telling_end}
+use Rattle.sse_leaks.specs.Telling.{GoesOn, HasToldLeaks, IsToldSo, history_lines, leak_lines}
 
 -- Lines.
 
@@ -52,21 +43,12 @@ some_line run =
         let two : length (codes ": " ++ behind) ≡ 2 + length behind = length-append (codes ": ") behind in
         omega (arith, whole, two)
 
-nothing_more : (written : Option (List ℕ)) → written ≡ append_known written []
-nothing_more None = refl
-nothing_more (Some bytes) = ap (λ b. Some b) (sym (append-nil bytes))
-
 -- nothing of them was printed
 pub none_told : (run : Run) (written : Option (List ℕ)) (stop : Stop) → stop ≡ At NoMemory → StopsTelling (history_lines run) written written stop
 none_told run written stop is = record {
   printed = record { n = 0; short = some_line run; taken = nothing_more written };
   stops = inr is;
 }
-
--- what a fault of the sink stops for
-pub told-fault : (fault : DeviceFault) → (stop_for (stop_cause (stop_of_sink fault)) ≡ SinkFault) ⊎ (stop_for (stop_cause (stop_of_sink fault)) ≡ At NoMemory)
-told-fault devices.Failed = inl refl
-told-fault devices.NoMemory = inr refl
 
 -- How it goes on after a reading.
 
@@ -102,63 +84,12 @@ none_read (Some bytes) now = record {
 
 -- what holds of a stop holds of the result that tells it
 pub told-stopped : (remaining : Option (List ℕ)) (now last : Option (List ℕ)) (r : Result Bool StopCause) (stop : StopCause) → IsErrAnd r (λ e. e ≡ stop) → IfSome remaining (λ bytes. IsToldSo bytes now last (stop_for (stop_cause stop)))
-    → IfSome remaining (λ bytes. IsToldSo bytes now last (telling_end r))
+    → IfSome remaining (λ bytes. IsToldSo bytes now last (ending r))
 told-stopped remaining now last (Ok refused) stop is told = absurd is
 told-stopped remaining now last (Err e) stop is told = subst (λ s. IfSome remaining (λ bytes. IsToldSo bytes now last (stop_for (stop_cause s)))) (sym is) told
-
--- The last line.
-
--- a stop for something else than the sink leaves its count
-sink_same : (before now : ℕ) (stop : StopCause) → SinkCause before now stop → stop ≢ stops.Sink → now ≡ before
-sink_same before now stops.Words cause other = cause
-sink_same before now (stops.Input stop) cause other = cause
-sink_same before now stops.Sink cause other = absurd (other refl)
-sink_same before now stops.Memory cause other = cause
-sink_same before now (stops.Command stop) cause other = cause
-
-seen_status : (o : Option Cause) → option_map_or cause_status o 4 ≡ status_of (stop_for o)
-seen_status None = refl
-seen_status (Some cause) = refl
-
--- the status of a stop
-pub status_told : (stop : StopCause) (status : ℕ) → status ≡ stop_status stop → status ≡ status_of (stop_for (stop_cause stop))
-status_told stop status is = is ∙ seen_status (stop_cause stop)
-
-seen_text : (o : Option Cause) → option_map_or (λ cause. text_of (Stopped cause)) o [] ≡ stop_text (stop_for o)
-seen_text None = refl
-seen_text (Some cause) = refl
-
--- what the last line and the sink's counts come to, where the count of faults stayed up to it unless the sink is what failed
-pub ends_told : (stop : StopCause) (now before last : Option (List ℕ)) (f0 f1 f2 s0 s1 s2 : ℕ) → TookOrRose before last (last_line stop) f1 f2 s1 s2 → SinkCause f0 f1 stop → s0 ≤ s1
-    → EndsIn (stop_for (stop_cause stop)) before (seen_of now f0 s0) (seen_of last f2 s2)
-ends_told stop now before last f0 f1 f2 s0 s1 s2 took cause fewer = by (subst (λ text. TookOrRose before last text f1 f2 s1 s2) (seen_text (stop_cause stop)) took)
-  where
-    steady : stop_for (stop_cause stop) ≢ SinkFault → f1 ≡ f0
-    steady other = sink_same f0 f1 stop cause (λ e. other (ap (λ s. stop_for (stop_cause s)) e))
-
-    by : TookOrRose before last (stop_text (stop_for (stop_cause stop))) f1 f2 s1 s2 → EndsIn (stop_for (stop_cause stop)) before (seen_of now f0 s0) (seen_of last f2 s2)
-    by (inl whole) = inl (whole.0, λ other. whole.1 ∙ steady other)
-    by (inr (short, inl rose)) =
-        let same : f1 ≡ f0 = steady (λ e. omega (arith, short.short, ap (λ s. length (stop_text s)) e)) in
-        inr (short, inl (Rose-later f0 f1 f2 (omega (arith, same)) rose))
-    by (inr (short, inr rose)) = inr (short, inr (Rose-later s0 s1 s2 fewer rose))
 
 -- all of it
 pub has_told : (remaining : Option (List ℕ)) (now before last : Option (List ℕ)) (f0 f2 s0 s2 : ℕ) (stop : Stop) (status : ℕ) → IfSome remaining (λ bytes. IsToldSo bytes now before stop)
     → EndsIn stop before (seen_of now f0 s0) (seen_of last f2 s2) → status ≡ status_of stop → IfSome remaining (λ bytes. HasToldLeaks bytes (seen_of now f0 s0) (seen_of last f2 s2) status)
 has_told None now before last f0 f2 s0 s2 stop status told ends is = tt
 has_told (Some bytes) now before last f0 f2 s0 s2 stop status told ends is = record { before = before; stop = stop; told = told; ends = ends; status_is = is }
-
--- at the end nothing is printed behind the lines
-pub ends_whole : (refused : Bool) (now last : Option (List ℕ)) (f0 f1 s0 s1 : ℕ) → f1 ≡ f0 → EndsIn (AtEnd refused) last (seen_of now f0 s0) (seen_of last f1 s1)
-ends_whole refused now last f0 f1 s0 s1 same = inl (nothing_more last, λ other. same)
-
--- a stop for something else than the source leaves its count
-pub source_same : (before now : ℕ) (stop : StopCause) → SourceCause before now stop → stop ≢ stops.Input inputs.Source → now ≡ before
-source_same before now stops.Words cause other = cause
-source_same before now (stops.Input (inputs.Line number)) cause other = cause
-source_same before now (stops.Input inputs.Source) cause other = absurd (other refl)
-source_same before now (stops.Input inputs.Memory) cause other = cause
-source_same before now stops.Sink cause other = cause
-source_same before now stops.Memory cause other = cause
-source_same before now (stops.Command stop) cause other = cause

@@ -14,7 +14,8 @@ use Rattle.script_meaning.specs.Meaning.{Meaning, meaning}
 use Rattle.script_meaning.specs.Stops.{Stop, AtEnd, SinkFault, At}
 use Rattle.sse_script.specs.Shown.{Cause, SourceFault, NoMemory}
 use Rattle.sse_script.specs.Texts.{text_of}
-use Rattle.sse_leaks.specs.Telling.{GoesOn, IsToldAs, IsToldSo, StopsTelling, history_lines, lines_at, stop_at, stop_for}
+use Rattle.history_reading.specs.Endings.{StopsTelling, stop_for}
+use Rattle.sse_leaks.specs.Telling.{GoesOn, IsToldAs, IsToldSo, history_lines, lines_at, stop_at}
 
 known-append : (o : Option (List ℕ)) (xs ys : List ℕ) → append_known (append_known o xs) ys ≡ append_known o (xs ++ ys)
 known-append None xs ys = refl

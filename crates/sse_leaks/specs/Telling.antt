@@ -1,22 +1,19 @@
 -- What is printed of a script whose leakage is told: its refusals, the lines of what its history leaks, and the last line of a
 -- stop.
-use Rattle.std.specs.Prelude.{◌≡◌, ◌≢◌, ◌⊎◌, ℕ, Bool, List, [], ◌++◌, filter, flat_map, Option, None, Some, Result, Ok, Err}
+use Rattle.std.specs.Prelude.{◌≡◌, ◌⊎◌, ℕ, List, [], ◌++◌, filter, flat_map, Option, None, Some}
 use Rattle.std.specs.Io.KnownBytes.{append_known}
 use Rattle.std.specs.List.{enumerate_from}
 use Rattle.client_registry.specs.Run.{History, Run, at_first}
+use Rattle.history_reading.specs.Endings.{EndsIn, Seen, StopsTelling, stop_for}
 use Rattle.history_reading.specs.Meant.{is_refused_line}
 use Rattle.history_reading.specs.Reads.{ReadEnd, Whole, ReadsFirst}
 use Rattle.history_reading.specs.Reads.{Stopped as NotRead}
 use Rattle.leak_texts.specs.LeakTexts.{text_of_leak}
 use Rattle.script_meaning.specs.Lines.{script_lines}
 use Rattle.script_meaning.specs.Meaning.{Meaning}
-use Rattle.script_meaning.specs.Stops.{Stop, AtEnd, SinkFault, At, status_of, stop_text}
+use Rattle.script_meaning.specs.Stops.{Stop, AtEnd, SinkFault, At, status_of}
 use Rattle.sse_leakage.specs.Leaking.{leak}
-use Rattle.sse_outside.specs.Causes.{Rose}
-use Rattle.sse_outside.specs.Fronts.{TookFront}
-use Rattle.run_texts.specs.Stops.{stop_cause}
-use Rattle.run_texts.specs.declared.stop_cause.StopCause.{StopCause}
-use Rattle.sse_script.specs.Shown.{Cause, BadLine, NoMemory}
+use Rattle.sse_script.specs.Shown.{BadLine}
 use Rattle.sse_script.specs.Texts.{text_of}
 use Rattle.sse_simulator.specs.Leaks.{Leak}
 
@@ -27,16 +24,6 @@ leak_lines leaks = flat_map (λ e. text_of_leak e.0 e.1) (enumerate_from 0 leaks
 -- of what a history leaks
 abbrev pub history_lines : Run → List ℕ
 history_lines run = leak_lines (leak at_first run)
-
--- these lines were not all printed, for the sink or for want of memory: a proper front of them was
-pub record StopsTelling (lines : List ℕ) (now last : Option (List ℕ)) (stop : Stop) : Type 0 where
-  pub printed : TookFront now last lines
-  pub stops : (stop ≡ SinkFault) ⊎ (stop ≡ At NoMemory)
-
--- the stop for a cause, and for none where the sink is what failed
-abbrev pub stop_for : Option Cause → Stop
-stop_for None = SinkFault
-stop_for (Some cause) = At cause
 
 -- how it goes on after a script's reading that ended so: what its history leaks is told, and so is whether a command was refused;
 -- a script without a setup lacks a line behind its last one; and what stopped the reading stops all
@@ -52,27 +39,6 @@ pub record IsToldSo (bytes : List ℕ) (now last : Option (List ℕ)) (stop : St
   pub between : Option (List ℕ)
   pub reads : ReadsFirst 1 (script_lines bytes) now between end
   pub goes_on : GoesOn end between last stop
-
--- how that ended: with a command that was refused or none, or with a stop
-abbrev pub telling_end : Result Bool StopCause → Stop
-telling_end (Ok refused) = AtEnd refused
-telling_end (Err stop) = stop_for (stop_cause stop)
-
--- what is seen of a sink: what was written, and its counts of faults and of shortages
-pub record Seen : Type 0 where
-  pub written : Option (List ℕ)
-  pub faults : ℕ
-  pub shortages : ℕ
-
-abbrev pub seen_of : Option (List ℕ) → (faults shortages : ℕ) → Seen
-seen_of written faults shortages = record { written = written; faults = faults; shortages = shortages }
-
--- the last line follows what was printed: whole, where the count of faults stayed unless the sink is what failed; or a proper front
--- of it, as the count of faults or that of shortages rose
-abbrev pub EndsIn : Stop → (before : Option (List ℕ)) (now last : Seen) → Type 0
-EndsIn stop before now last =
-    ((last.written ≡ append_known before (stop_text stop)) × (stop ≢ SinkFault → last.faults ≡ now.faults))
-    ⊎ (TookFront before last.written (stop_text stop) × (Rose now.faults last.faults ⊎ Rose now.shortages last.shortages))
 
 -- a script of these bytes was read, what its history leaks was told, and this is the status
 pub record HasToldLeaks (bytes : List ℕ) (now last : Seen) (status : ℕ) : Type 0 where

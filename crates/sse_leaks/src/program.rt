@@ -1,6 +1,7 @@
 ghost use Rattle.std.specs.Prelude.{◌≡◌, IfSome};
+ghost use Rattle.history_reading.specs.Endings.{seen_of};
 ghost use Rattle.sse_leaks.specs.Given.{HadNoMemory, HasWords, IsAlone};
-ghost use Rattle.sse_leaks.specs.Telling.{HasToldLeaks, seen_of};
+ghost use Rattle.sse_leaks.specs.Telling.{HasToldLeaks};
 ghost use Rattle.sse_outside.specs.Fronts.{TookOrRose};
 ghost use Rattle.sse_script.specs.Shown.{Stopped, BadWords, NoMemory};
 ghost use Rattle.sse_script.specs.Texts.{text_of};

@@ -2,12 +2,13 @@ ghost use Rattle.std.specs.Prelude.{◌≡◌, ◌≢◌, ◌≤◌, ◌<◌, �
 ghost use Rattle.std.specs.Io.KnownBytes.{append_known, IsAtEnd};
 ghost use Rattle.client_registry.specs.Acceptance.{size_refusal};
 ghost use Rattle.client_registry.specs.Sized.{IsSized};
+ghost use Rattle.history_reading.specs.Endings.{StopsTelling, ending, seen_of, stop_for};
 ghost use Rattle.history_reading.specs.Turns.{reading_end};
 ghost use Rattle.leak_texts.specs.LeakTexts.{text_of_leak};
 ghost use Rattle.run_texts.specs.Causes.{KeepsSink, KeepsSource, SourceCause};
 ghost use Rattle.run_texts.specs.Stops.{stop_cause};
 ghost use Rattle.simulated_frames.specs.Views.{leak_view};
-ghost use Rattle.sse_leaks.specs.Telling.{GoesOn, HasToldLeaks, IsToldSo, StopsTelling, history_lines, leak_lines, seen_of, stop_for, telling_end};
+ghost use Rattle.sse_leaks.specs.Telling.{GoesOn, HasToldLeaks, IsToldSo, history_lines, leak_lines};
 ghost use Rattle.sse_outside.specs.Causes.{Rose};
 
 use command_history::History;
@@ -53,7 +54,7 @@ fn tell_script<K: Keyed, S: Source, W: Sink>(
     source: &mut S,
     sink: &mut W,
 ) -> Result<bool, StopCause>
-    ensures tells { IfSome (S.remaining source.old) (λ bytes. IsToldSo bytes (W.written sink.old) (W.written sink.new) (telling_end result)) }
+    ensures tells { IfSome (S.remaining source.old) (λ bytes. IsToldSo bytes (W.written sink.old) (W.written sink.new) (ending result)) }
     ensures at_end { OnOk result (IsAtEnd (S.remaining source.new)) }
     ensures source { KeepsSource SourceCause (S.faults source.old) (S.faults source.new) result }
     ensures sink { KeepsSink (W.faults sink.old) (W.faults sink.new) (W.shortages sink.old) (W.shortages sink.new) result }
@@ -68,7 +69,7 @@ fn tell_script<K: Keyed, S: Source, W: Sink>(
 /// Tells what the history of a script that was read leaks.
 fn tell_read<W: Sink>(alloc: Global, sink: &mut W, read: ReadScript) -> Result<bool, StopCause>
     requires sized { IfSome read.history IsSized }
-    ensures goes_on { GoesOn (reading_end (Ok read)) (W.written sink.old) (W.written sink.new) (telling_end result) }
+    ensures goes_on { GoesOn (reading_end (Ok read)) (W.written sink.old) (W.written sink.new) (ending result) }
     ensures sink { KeepsSink (W.faults sink.old) (W.faults sink.new) (W.shortages sink.old) (W.shortages sink.new) result }
 {
     let ReadScript {

@@ -3,8 +3,9 @@ use Rattle.run_texts.specs.Causes.{SinkCause, SourceCause}
 use Rattle.run_texts.specs.Stops.{stop_cause, stop_status}
 use Rattle.sse_outside.specs.Causes.{Rose}
 use Rattle.script_meaning.specs.Stops.{AtEnd}
-use Rattle.sse_leaks.specs.Telling.{stop_for}
-use Rattle.sse_leaks.proofs.LeaksTold.{ends_told, ends_whole, has_told, source_same, status_told}
+use Rattle.history_reading.specs.Endings.{stop_for}
+use Rattle.history_reading.proofs.Ended.{ends_told, ends_whole, source_same, status_told}
+use Rattle.sse_leaks.proofs.LeaksTold.{has_told}
 use Rattle.sse_leaks.proofs.telling.leaks_run.Goals as goal
 
 pub returns-in-Err-clause-tells : goal.returns-in-Err-clause-tells

@@ -3,7 +3,8 @@ use Rattle.run_texts.specs.Stops.{stop_of_sink}
 use Rattle.run_texts.specs.declared.stop_cause.StopCause.TheVariants as stops
 use Rattle.sse_outside.specs.Fronts.{TookFront}
 use Rattle.history_reading.proofs.ReadingGoesOn.{IfErr-from}
-use Rattle.sse_leaks.proofs.LeaksTold.{none_told, told-fault}
+use Rattle.history_reading.proofs.Ended.{told-fault}
+use Rattle.sse_leaks.proofs.LeaksTold.{none_told}
 use Rattle.sse_leaks.proofs.telling.print_leaks.Goals as goal
 
 pub returns-in_err-text-clause-stops : goal.returns-in_err-text-clause-stops
