@@ -1,1 +1,2 @@
 pub mod RebuildLaws
+pub mod RebuiltHistory

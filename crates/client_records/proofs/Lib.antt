@@ -6,3 +6,4 @@ pub mod Sizes
 pub mod Rows
 pub mod RecordReads
 pub mod OpeningLaws
+pub mod RecordedLaws

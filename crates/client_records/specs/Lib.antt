@@ -3,3 +3,4 @@ pub mod RecordView
 pub mod Faults
 pub mod Reading
 pub mod Openings
+pub mod Recorded
