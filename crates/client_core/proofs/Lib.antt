@@ -5,6 +5,7 @@ pub mod SetupFrames
 pub mod IndexCounts
 pub mod IndexGrammar
 pub mod SetupOf
+pub mod PayloadLaws
 mod KeyLaws
 mod UpdateBytes
 mod DifferLaws

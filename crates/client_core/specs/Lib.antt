@@ -9,6 +9,7 @@ pub mod UpdateTexts
 pub mod UpdateFaults
 pub mod UpdateParts
 pub mod Updates
+pub mod Payloads
 pub mod StandsFor
 pub mod Owes
 pub mod Restores

@@ -1,5 +1,5 @@
 -- What the fields of a plan of a setup stand for.
-use Rattle.std.specs.Prelude.{◌≡◌, ◌+◌, ◌*◌, None, map, vec_len}
+use Rattle.std.specs.Prelude.{◌≡◌, ℕ, ◌+◌, ◌*◌, List, None, map, vec_len}
 use Rattle.client_registry.specs.Acceptance.{frames_needed, size_refusal}
 use Rattle.client_registry.specs.Collected.{Collected}
 use Rattle.client_registry.specs.Setup.{Setup, setup_with}
@@ -11,9 +11,10 @@ use Rattle.client_core.specs.Plans.{SetupPlan}
 use Rattle.client_core.specs.Setup.{frames_in, index_frames}
 use Rattle.client_core.specs.declared.planned.Planned.TheInside.{Inside}
 
--- the plan that sends an index of these documents
-abbrev pub plan_of : Index → Collected → SetupPlan
-plan_of index docs = record {
+-- the plan that sends an index of these documents, made under the key of this mark
+abbrev pub plan_of : List ℕ → Index → Collected → SetupPlan
+plan_of mark index docs = record {
+  mark = mark;
   made_of = docs;
   b = index.b;
   big = index.big;
@@ -35,7 +36,7 @@ pub record IsSendable (index : Index) (docs : Collected) : Type 0 where
 
 -- what contracts see of the fields
 abbrev pub setup_plan_of : Inside → SetupPlan
-setup_plan_of p = plan_of p.index p.made_of.value
+setup_plan_of p = plan_of p.mark p.index p.made_of.value
 
 -- and what is so of them: the index can be sent, and the room is that of the longest frame
 pub record IsPlanned (p : Inside) : Type 0 where

@@ -3,9 +3,10 @@ use Rattle.std.specs.Prelude.{ℕ, List}
 use Rattle.client_registry.specs.Collected.{Collected}
 use Rattle.client_core.specs.declared.update.Update.{Update}
 
--- of a setup: the documents that it was made of, the numbers per cell and per block, Q, how many words it has and how many
--- blocks their lists take, and the bytes of its frames in the order in which they are sent, numbered from 0
+-- of a setup: the mark of its key, the documents that it was made of, the numbers per cell and per block, Q, how many words it has
+-- and how many blocks their lists take, and the bytes of its frames in the order in which they are sent, numbered from 0
 pub record SetupPlan : Type 0 where
+  pub mark : List ℕ
   pub made_of : Collected
   pub b : ℕ
   pub big : ℕ

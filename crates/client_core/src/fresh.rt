@@ -1,9 +1,11 @@
 ghost use Rattle.std.specs.Prelude.{◌≡◌, ◌≢◌, List, [], ℕ, length, map, None, Err, IfOk, IfSome, IsOkUnless};
+ghost use Rattle.client_records.specs.Records.{setup_record};
 ghost use Rattle.client_registry.specs.Acceptance.{blocks_of, padded_blocks, padded_words, size_refusal};
 ghost use Rattle.client_registry.specs.Documents.{words_of};
 ghost use Rattle.client_registry.specs.Run.{at_first};
 ghost use Rattle.client_registry.specs.Setup.{setup_with};
 ghost use Rattle.keyed_fn.specs.KeyedFn.{KeyedFn, keyed_fn};
+ghost use Rattle.keyed_fn.specs.KeyFormulas.{mark_of};
 ghost use Rattle.std.specs.List.{AllByRecursion};
 ghost use Rattle.sse_frames.specs.Frames.{IsFrame, frame_bytes};
 ghost use Rattle.sse_model.specs.Names.{table};
@@ -11,6 +13,7 @@ ghost use Rattle.sse_model.specs.Wire.{frames_of_setup};
 ghost use Rattle.index_setup.specs.Entries.{key_table};
 ghost use Rattle.index_setup.specs.Refused.{build_refusal, clash_refusal, refused_by_size};
 ghost use Rattle.client_core.specs.Owes.{Owes};
+ghost use Rattle.client_core.specs.Payloads.{setup_payload};
 ghost use Rattle.client_core.specs.Sending.{first_number, frames_left, to_send};
 ghost use Rattle.client_core.specs.Setup.{SendsSetup};
 ghost use Rattle.client_core.specs.StandsFor.{StandsFor};
@@ -41,8 +44,8 @@ impl Client<Fresh> {
 
     /// Plans the setup of these documents with b numbers per cell (1 to 64) and `big` numbers per block (1 to 256), filled
     /// with dummies up to multiples of `pad` (a power of two from 1 to 4,096), and takes its memory: the frames are those of
-    /// `sse_model` for this setup under the client's key, numbered from 0. Errors: as `index_setup::build`. Nothing is
-    /// changed.
+    /// `sse_model` for this setup under the client's key, numbered from 0, and its record has that key's mark. Errors: as
+    /// `index_setup::build`. Nothing is changed.
     pub fn plan_setup<K: Keyed>(
         &self,
         alloc: Global,
@@ -58,6 +61,7 @@ impl Client<Fresh> {
         ensures accepted { IfOk result (λ _. build_refusal (keyed_fn K.prf K.pad) self.now.key (setup_with docs.now.documents b big pad) ≡ None) }
         ensures frames { IfOk result (λ planned. planned.frames ≡ map frame_bytes (frames_of_setup (key_table (keyed_fn K.prf K.pad) self.now.key (setup_with docs.now.documents b big pad)) at_first (setup_with docs.now.documents b big pad))) }
         ensures grammar { IfOk result (λ planned. AllByRecursion IsFrame (planned.frames)) }
+        ensures payload { IfOk result (λ planned. setup_payload planned ≡ setup_record (mark_of (keyed_fn K.prf K.pad) self.now.key) (setup_with docs.now.documents b big pad)) }
         ensures documents { IfOk result (λ planned. planned.made_of ≡ docs.now) }
         ensures shape { IfOk result (λ planned. (planned.b ≡ b) × (planned.big ≡ big)) }
         ensures pad { IfOk result (λ planned. planned.pad ≡ pad) }
@@ -66,7 +70,8 @@ impl Client<Fresh> {
         ensures sends { IfOk result (λ planned. SendsSetup b big (padded_words (setup_with docs.now.documents b big pad)) (padded_blocks (setup_with docs.now.documents b big pad)) (planned.frames)) }
     {
         let index = build(alloc, keyed, &self.key, docs, b, big, pad)?;
-        Ok(Planned::new(alloc, index, docs)?)
+        let mark = self.key.prepare(keyed).mark(keyed);
+        Ok(Planned::new(alloc, mark, index, docs)?)
     }
 
     /// Takes the plan as done, with the documents that it was made of: from here on its frames are owed to the server. It
@@ -86,6 +91,7 @@ impl Client<Fresh> {
             index,
             room,
             made_of: _,
+            mark: _,
         } = planned;
         let ready = Ready::begun(alloc, docs, frame_count(&index));
         let owed = Owed::Setup(OwedSetup::at(index, room, 0, 0));

@@ -1,6 +1,7 @@
-ghost use Rattle.std.specs.Prelude.{◌≡◌};
+ghost use Rattle.std.specs.Prelude.{◌≡◌, ◌≤◌, ◌^◌, ◌++◌, length};
 ghost use Rattle.sse_frames.proofs.Cut.{AreBytes};
 
+use client_records::write_setup;
 use client_registry::Docs;
 use index_setup::Index;
 use sse_frames::FRAME_ROOM;
@@ -8,10 +9,11 @@ use std::alloc::{AllocError, Global};
 use std::marker::Model;
 use std::snapshot::Snapshot;
 
-/// A planned setup: its index, and room for one of the frames that carry it to the server. A contract sees the documents that
-/// it was made of, its parameters and counts, and its frames.
+/// A planned setup: the mark of its key, its index, and room for one of the frames that carry it to the server. A contract sees
+/// the mark, the documents that it was made of, its parameters and counts, and its frames.
 #[derive(Drop)]
 pub struct Planned {
+    pub(crate) mark: [u8; 16],
     pub(crate) index: Index,
     pub(crate) room: Vec<u8>,
     /// The documents that the index was made of, which only contracts see.
@@ -31,21 +33,29 @@ impl Model for Planned {
 }
 
 impl Planned {
-    ghost use Rattle.std.specs.Prelude.{IfOk};
+    ghost use Rattle.std.specs.Prelude.{IfOk, OnErr, OnOk};
     ghost use Rattle.std.specs.List.{AllByRecursion};
     ghost use Rattle.index_setup.specs.Built.{IsIndex};
     ghost use Rattle.sse_frames.specs.Frames.{IsFrame};
+    ghost use Rattle.client_core.specs.Payloads.{setup_payload};
     ghost use Rattle.client_core.specs.PlanView.{plan_of, IsSendable};
 
-    /// The plan that sends this index of these documents. The room is all the memory that sending takes.
-    pub(crate) fn new(alloc: Global, index: Index, docs: &Docs) -> Result<Planned, AllocError>
+    /// The plan that sends this index of these documents, made under the key of this mark. The room is all the memory that
+    /// sending takes.
+    pub(crate) fn new(
+        alloc: Global,
+        mark: [u8; 16],
+        index: Index,
+        docs: &Docs,
+    ) -> Result<Planned, AllocError>
         requires { IsSendable index docs.now }
         ensures limits { IfOk result (λ _. IsIndex index) }
-        ensures plan { IfOk result (λ planned. planned ≡ plan_of index docs.now) }
+        ensures plan { IfOk result (λ planned. planned ≡ plan_of mark index docs.now) }
         ensures grammar { IfOk result (λ planned. AllByRecursion IsFrame planned.frames) }
     {
         are_bytes(index.entries(), index.array());
         Ok(Planned {
+            mark,
             index,
             room: vec![in alloc; 0u8; FRAME_ROOM]?,
             made_of: Snapshot::of(docs),
@@ -64,6 +74,19 @@ impl Planned {
         ensures { result ≡ self.now.own_blocks }
     {
         self.index.own_blocks()
+    }
+
+    /// Appends the record that the client's journal keeps of the setup, 1 to 2^27 bytes, from the documents that it was made
+    /// of. Without memory the bytes are as before.
+    pub fn payload_into(&self, docs: &Docs, out: &mut Vec<u8>) -> Result<(), AllocError>
+        requires documents { self.now.made_of ≡ docs.now }
+        ensures ok { OnOk result (out.new.items ≡ out.old.items ++ setup_payload self.now) }
+        ensures err { OnErr result (out.new.items ≡ out.old.items) }
+        ensures some { 1 ≤ length (setup_payload self.now) }
+        ensures most { length (setup_payload self.now) ≤ 2 ^ 27 }
+    {
+        let index = &self.index;
+        write_setup(out, &self.mark, docs, index.b(), index.big(), index.pad())
     }
 }
 

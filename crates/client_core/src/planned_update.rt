@@ -1,4 +1,9 @@
+ghost use Rattle.std.specs.Prelude.{◌≡◌, ◌≤◌, ◌^◌, ◌++◌, length, OnErr, OnOk};
+ghost use Rattle.client_core.specs.Payloads.{update_payload};
+
 use crate::update::Update;
+use client_records::{write_add, write_delete};
+use std::alloc::AllocError;
 use std::marker::Model;
 
 /// A planned addition or deletion: the update, the numbers of an added document's words in the client's registry, the one
@@ -17,4 +22,20 @@ impl Model for PlannedUpdate {
     ghost Value = { UpdatePlan };
 
     ghost view = { λ p. record { update = p.update; words = p.words.items; frame = p.frame.items; number = p.number } };
+}
+
+impl PlannedUpdate {
+    /// Appends the record that the client's journal keeps of the update, 1 to 2^27 bytes. Without memory the bytes are as
+    /// before.
+    pub fn payload_into(&self, out: &mut Vec<u8>) -> Result<(), AllocError>
+        ensures ok { OnOk result (out.new.items ≡ out.old.items ++ update_payload self.now) }
+        ensures err { OnErr result (out.new.items ≡ out.old.items) }
+        ensures some { 1 ≤ length (update_payload self.now) }
+        ensures most { length (update_payload self.now) ≤ 2 ^ 27 }
+    {
+        match &self.update {
+            Update::Add(doc) => write_add(out, doc),
+            Update::Delete(id) => write_delete(out, *id),
+        }
+    }
 }

@@ -1,5 +1,6 @@
 ghost use Rattle.std.specs.Prelude.{◌≡◌, ◌≢◌, ◌∷◌, ◌++◌, [], Err, IfErr, IfOk, IfSome, List, ℕ, map, true};
 ghost use Rattle.std.specs.Result.{result_err};
+ghost use Rattle.client_records.specs.Records.{update_record};
 ghost use Rattle.client_registry.specs.Command.{Command as Meant, Add as adds, Delete as deletes};
 ghost use Rattle.client_registry.specs.IdNumber.{id_number};
 ghost use Rattle.client_registry.specs.Registered.{KeepsNumbers, Represents};
@@ -8,6 +9,7 @@ ghost use Rattle.client_registry.specs.Setup.{Setup};
 ghost use Rattle.keyed_fn.specs.KeyedFn.{KeyedFn, keyed_fn};
 ghost use Rattle.sse_frames.specs.Frames.{IsFrame, frame_bytes};
 ghost use Rattle.client_core.specs.Owes.{Owes};
+ghost use Rattle.client_core.specs.Payloads.{update_payload};
 ghost use Rattle.client_core.specs.Sending.{first_number, frames_left, to_send};
 ghost use Rattle.client_core.specs.StandsFor.{StandsFor, CanCommit, Fits, add_fault, add_refusal, comes_of_add, comes_of_delete, delete_fault, delete_refusal, frames_next, with_command};
 ghost use Rattle.client_core.specs.Updates.{command_of_update};
@@ -47,6 +49,7 @@ impl Client<Ready> {
         ensures frame { (keys : ℕ → List ℕ) (o : Offsets) (run : Run) → keys o.epoch ≡ master.now → StandsFor (keyed_fn K.prf K.pad) keys o run self.old.state → IfOk result (λ planned. planned.frame ∷ [] ≡ map frame_bytes (frames_next (keyed_fn K.prf K.pad) keys o run (adds doc))) }
         ensures grammar { IfOk result (λ planned. IsFrame planned.frame) }
         ensures command { IfOk result (λ planned. command_of_update planned.update ≡ adds doc) }
+        ensures payload { IfOk result (λ planned. update_payload planned ≡ update_record (adds doc)) }
         ensures commits { IfOk result (λ planned. CanCommit self.new.state planned) }
     {
         if let Some(fault) = self.state.add_refusal(&doc) {
@@ -83,6 +86,7 @@ impl Client<Ready> {
         ensures frame { (keys : ℕ → List ℕ) (o : Offsets) (run : Run) → keys o.epoch ≡ master.now → StandsFor (keyed_fn K.prf K.pad) keys o run self.old.state → IfOk result (λ planned. planned.frame ∷ [] ≡ map frame_bytes (frames_next (keyed_fn K.prf K.pad) keys o run (deletes (id_number id)))) }
         ensures grammar { IfOk result (λ planned. IsFrame planned.frame) }
         ensures command { IfOk result (λ planned. command_of_update planned.update ≡ deletes (id_number id)) }
+        ensures payload { IfOk result (λ planned. update_payload planned ≡ update_record (deletes (id_number id))) }
         ensures commits { IfOk result (λ planned. CanCommit self.new.state planned) }
     {
         if let Some(fault) = self.state.delete_refusal(id) {

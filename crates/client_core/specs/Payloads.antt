@@ -1,0 +1,14 @@
+-- The records that a client's journal keeps of plans, by what contracts see of them.
+use Rattle.std.specs.Prelude.{ℕ, List}
+use Rattle.client_records.specs.Records.{setup_record, update_record}
+use Rattle.client_registry.specs.Setup.{setup_with}
+use Rattle.client_core.specs.Plans.{SetupPlan, UpdatePlan}
+use Rattle.client_core.specs.Updates.{command_of_update}
+
+-- of a setup: of the documents and the numbers that it was planned of, under the key of the plan's mark
+abbrev pub setup_payload : SetupPlan → List ℕ
+setup_payload p = setup_record p.mark (setup_with p.made_of.documents p.b p.big p.pad)
+
+-- of an update: of its command
+abbrev pub update_payload : UpdatePlan → List ℕ
+update_payload p = update_record (command_of_update p.update)
