@@ -7,9 +7,9 @@ use Rattle.server_core.specs.State.{ServerState}
 use Rattle.server_core.specs.Step.{step}
 use Rattle.sse_frames.proofs.Spelling.{one_frame}
 use Rattle.link_events.specs.Events.{Event, Sent, Received, IsKnown, AreKnown, BeginsWithFrame}
-use Rattle.link_events.specs.Served.{Served, idle, IsStep, LacksMemory, Answers, Serves, AreKept, IsServed, IsHonest, IsAnswered}
+use Rattle.link_events.specs.Served.{Served, idle, IsStep, LacksMemory, FailsToStore, Answers, Serves, AreKept, IsServed, IsHonest, IsAnswered}
 use Rattle.link_events.specs.declared.mark.Mark.{Mark}
-use Rattle.link_events.specs.declared.mark.Mark.TheVariants.{Unknown, Stepped, LackedMemory}
+use Rattle.link_events.specs.declared.mark.Mark.TheVariants.{Unknown, Stepped, LackedMemory, StoreFailed}
 
 -- Joining and splitting.
 
@@ -81,6 +81,7 @@ one_state : (f : KeyedFn) (a b : ServerState) (frame : FrameText) (mark : Mark) 
 one_state f a b frame Unknown after after' replies replies' known same one other = elim known [ ]
 one_state f a b frame Stepped after after' replies replies' known same one other = one.state ∙ ap (λ s. (step f s frame).0) same ∙ sym other.state
 one_state f a b frame LackedMemory after after' replies replies' known same one other = one.state ∙ same ∙ sym other.state
+one_state f a b frame StoreFailed after after' replies replies' known same one other = one.state ∙ same ∙ sym other.state
 
 -- so the state after events with known marks is a function of them
 pub IsServed-state : (f : KeyedFn) (start start' end end' : Served) (events : List Event) → AreKnown events → start.state ≡ start'.state → IsServed f start events end → IsServed f start' events end' → end.state ≡ end'.state
@@ -109,12 +110,13 @@ IsServed-sent f start now later events bytes mark served serves = IsServed-appen
 pub IsServed-received : (f : KeyedFn) (start now : Served) (events : List Event) (bytes : List ℕ) (rest : List (List ℕ)) → IsServed f start events now → now.due ≡ bytes ∷ rest → IsServed f start (events ++ Received bytes ∷ []) (record { state = now.state; due = rest })
 IsServed-received f start now events bytes rest served first = IsServed-append f start now _ events _ served (rest, first, (refl, inl refl))
 
--- whichever the mark, a frame was answered by the step or by out of memory
+-- whichever the mark, a frame was answered by the step, by out of memory or by a fault of the disk
 pub Answers-either : (f : KeyedFn) (before : ServerState) (frame : FrameText) (mark : Mark) (after : ServerState) (replies : List (List ℕ)) → Answers f before frame mark after replies
-    → IsStep f before frame after replies ⊎ LacksMemory before frame after replies
+    → IsStep f before frame after replies ⊎ (LacksMemory before frame after replies ⊎ FailsToStore before frame after replies)
 Answers-either f before frame Unknown after replies answered = answered
 Answers-either f before frame Stepped after replies answered = inl answered
-Answers-either f before frame LackedMemory after replies answered = inr answered
+Answers-either f before frame LackedMemory after replies answered = inr (inl answered)
+Answers-either f before frame StoreFailed after replies answered = inr (inr answered)
 
 -- what is served with a mark is served without it
 pub Serves-unmarked : (f : KeyedFn) (before : ServerState) (bytes : List ℕ) (mark : Mark) (after : Served) → Serves f before bytes mark after → Serves f before bytes Unknown after

@@ -1,2 +1,3 @@
 pub mod Honest
+pub mod Taken
 mod Rows

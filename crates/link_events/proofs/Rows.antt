@@ -1,5 +1,6 @@
--- Rows: a transcript that is honest, and three that aren't.
+-- Rows: a transcript that is honest, and five that aren't.
 use Rattle.std.proofs.Common.{◌≡◌, inl, ℕ, List, [], ◌∷◌, slice_index, refl, sym, ap, ◌∙◌, arith, lit<, lit≤}
+use Rattle.std.proofs.lemmas.Bool.{true≢false}
 use Rattle.keyed_fn.specs.KeyedFn.{KeyedFn, keyed_fn}
 use Rattle.keyed_fn.specs.Toy.{toy_prf, toy_pad}
 use Rattle.sse_frames.specs.Frames.{Hello, SetupBegin, SearchFrame, IsBytes, InGrammar, frame_bytes}
@@ -7,7 +8,7 @@ use Rattle.server_core.specs.State.{ServerState, at_first}
 use Rattle.server_core.specs.Step.{step}
 use Rattle.link_events.specs.Events.{Sent, Received}
 use Rattle.link_events.specs.Served.{Served, IsHonest}
-use Rattle.link_events.specs.declared.mark.Mark.TheVariants.{Stepped, LackedMemory}
+use Rattle.link_events.specs.declared.mark.Mark.TheVariants.{Stepped, LackedMemory, StoreFailed}
 use Rattle.link_events.proofs.Honest.{Serves-step, Serves-frame}
 
 abbrev toy : KeyedFn
@@ -59,8 +60,15 @@ other_row after served =
 
 -- and Hello never lacks memory
 lacking_row : (after : ServerState) → IsHonest toy at_first (Sent hello LackedMemory ∷ []) after → ⊥
-lacking_row after served = (Serves-frame toy at_first Hello LackedMemory served.0 tt served.1).takes
+lacking_row after served = true≢false (sym (Serves-frame toy at_first Hello LackedMemory served.0 tt served.1).update)
 
 -- nor does a search
 lacking_search_row : (token : List ℕ) (after : ServerState) → IsBytes 160 token → IsHonest toy at_first (Sent (frame_bytes (SearchFrame token)) LackedMemory ∷ []) after → ⊥
-lacking_search_row token after size served = (Serves-frame toy at_first (SearchFrame token) LackedMemory served.0 size served.1).takes
+lacking_search_row token after size served = true≢false (sym (Serves-frame toy at_first (SearchFrame token) LackedMemory served.0 size served.1).update)
+
+-- neither of them touches the disk
+failing_row : (after : ServerState) → IsHonest toy at_first (Sent hello StoreFailed ∷ []) after → ⊥
+failing_row after served = true≢false (sym (Serves-frame toy at_first Hello StoreFailed served.0 tt served.1).update)
+
+failing_search_row : (token : List ℕ) (after : ServerState) → IsBytes 160 token → IsHonest toy at_first (Sent (frame_bytes (SearchFrame token)) StoreFailed ∷ []) after → ⊥
+failing_search_row token after size served = true≢false (sym (Serves-frame toy at_first (SearchFrame token) StoreFailed served.0 size served.1).update)

@@ -1,3 +1,4 @@
 pub mod Events
 pub mod Passed
 pub mod Served
+pub mod Taken

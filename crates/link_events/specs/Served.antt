@@ -1,14 +1,13 @@
 -- What an honest link brings: for each frame the server's step, and its replies in order.
-use Rattle.std.specs.Prelude.{◌≡◌, ◌⊎◌, ℕ, List, [], ◌∷◌, ◌++◌, map}
-use Rattle.sse_frames.specs.Frames.{FrameText, IsFrame}
-use Rattle.sse_frames.specs.Replies.{NoMemory, reply_bytes}
+use Rattle.std.specs.Prelude.{◌≡◌, ◌⊎◌, ℕ, List, [], ◌∷◌, ◌++◌, IsSome, map}
+use Rattle.sse_frames.specs.Frames.{FrameText, IsFrame, update_number}
+use Rattle.sse_frames.specs.Replies.{ReplyText, NoMemory, StoreFault, reply_bytes}
 use Rattle.keyed_fn.specs.KeyedFn.{KeyedFn}
 use Rattle.server_core.specs.State.{ServerState, at_first}
 use Rattle.server_core.specs.Step.{step}
-use Rattle.server_core.specs.Views.{TakesMemory}
 use Rattle.link_events.specs.Events.{Event, Sent, Received}
 use Rattle.link_events.specs.declared.mark.Mark.{Mark}
-use Rattle.link_events.specs.declared.mark.Mark.TheVariants.{Unknown, Stepped, LackedMemory}
+use Rattle.link_events.specs.declared.mark.Mark.TheVariants.{Unknown, Stepped, LackedMemory, StoreFailed}
 
 -- a server, and the bytes of each reply that waits
 pub record Served : Type 0 where
@@ -28,18 +27,26 @@ pub record IsStep (f : KeyedFn) (before : ServerState) (frame : FrameText) (afte
   pub state : after ≡ (step f before frame).0
   pub replies_are : replies ≡ map reply_bytes (step f before frame).1
 
--- in place of its step the server was out of memory, as it may be for a frame that brings it something to keep: it said so,
--- and stayed as it was
-pub record LacksMemory (before : ServerState) (frame : FrameText) (after : ServerState) (replies : List (List ℕ)) : Type 0 where
-  pub takes : TakesMemory frame
+-- in place of its step the server couldn't keep an update: it said why, and stayed as it was
+pub record CannotKeep (why : ReplyText) (before : ServerState) (frame : FrameText) (after : ServerState) (replies : List (List ℕ)) : Type 0 where
+  pub update : IsSome (update_number frame)
   pub state : after ≡ before
-  pub replies_are : replies ≡ reply_bytes NoMemory ∷ []
+  pub replies_are : replies ≡ reply_bytes why ∷ []
+
+-- it was out of memory
+abbrev pub LacksMemory : (before : ServerState) (frame : FrameText) (after : ServerState) (replies : List (List ℕ)) → Type 0
+LacksMemory before frame after replies = CannotKeep NoMemory before frame after replies
+
+-- its disk failed
+abbrev pub FailsToStore : (before : ServerState) (frame : FrameText) (after : ServerState) (replies : List (List ℕ)) → Type 0
+FailsToStore before frame after replies = CannotKeep StoreFault before frame after replies
 
 -- the frame was answered as its mark says
 abbrev pub Answers : KeyedFn → ServerState → FrameText → Mark → ServerState → List (List ℕ) → Type 0
-Answers f before frame Unknown after replies = IsStep f before frame after replies ⊎ LacksMemory before frame after replies
+Answers f before frame Unknown after replies = IsStep f before frame after replies ⊎ (LacksMemory before frame after replies ⊎ FailsToStore before frame after replies)
 Answers f before frame Stepped after replies = IsStep f before frame after replies
 Answers f before frame LackedMemory after replies = LacksMemory before frame after replies
+Answers f before frame StoreFailed after replies = FailsToStore before frame after replies
 
 -- these bytes are a frame, which was answered as its mark says
 pub record Serves (f : KeyedFn) (before : ServerState) (bytes : List ℕ) (mark : Mark) (after : Served) : Type 0 where

@@ -7,4 +7,6 @@ pub enum Mark {
     Stepped,
     /// It was out of memory, and stayed as it was.
     LackedMemory,
+    /// Its disk failed, now or at an earlier frame, and it stayed as it was.
+    StoreFailed,
 }

@@ -1,7 +1,8 @@
 -- A frame that a server handles is answered as the mark of its replies says.
 use Rattle.std.proofs.Common.{◌≡◌, ◌≢◌, ◌⊎◌, inl, inr, ℕ, List, map, refl, ap, ◌∙◌, subst, sym}
 use Rattle.keyed_fn.specs.KeyedFn.{KeyedFn}
-use Rattle.sse_frames.specs.Frames.{FrameText}
+use Rattle.std.specs.Prelude.{IsSome}
+use Rattle.sse_frames.specs.Frames.{FrameText, Hello, SetupBegin, SetupDict, SetupArray, SetupEnd, AddFrame, DeleteFrame, SearchFrame, update_number}
 use Rattle.sse_frames.specs.Replies.{ReplyText, reply_bytes}
 use Rattle.server_core.specs.declared.answer.Answer.{Answer}
 use Rattle.server_core.specs.declared.answer.Answer.TheVariants as answers
@@ -23,6 +24,17 @@ lacks_memory answers.BadList = inr (λ e. absurd cc)
 lacks_memory answers.NoMemory = inl refl
 lacks_memory answers.OutOfPlace = inr (λ e. absurd cc)
 
+-- a frame for which a server takes memory is an update frame
+takes_update : (frame : FrameText) → TakesMemory frame → IsSome (update_number frame)
+takes_update Hello takes = absurd takes
+takes_update (SetupBegin q b big m a) takes = refl
+takes_update (SetupDict q width entries) takes = refl
+takes_update (SetupArray q width blocks) takes = refl
+takes_update (SetupEnd q) takes = refl
+takes_update (AddFrame q entries numbers) takes = refl
+takes_update (DeleteFrame q numbers) takes = refl
+takes_update (SearchFrame token) takes = absurd takes
+
 -- a frame that was read and handled
 pub Answers-handled : (f : KeyedFn) (before after : ServerState) (page : List ℕ) (read frame : FrameText) (answer : Answer) (mark : Mark) (replies : List ReplyText)
     → read ≡ frame
@@ -37,7 +49,7 @@ Answers-handled f before after page read frame answer mark replies same state an
     elim (lacks_memory answer) [
       | inl lacks ↦ subst (λ m. Answers f before frame m after (map reply_bytes replies)) (sym (lacked lacks))
           record {
-            takes = subst TakesMemory same (lacking lacks).1;
+            update = subst (λ g. IsSome (update_number g)) same (takes_update read (lacking lacks).1);
             state = (lacking lacks).0;
             replies_are = ap (map reply_bytes) (are ∙ ap (λ a. answer_replies f after a page) lacks);
           }

@@ -16,7 +16,7 @@ use Rattle.sse_link.specs.Failing.{listed_at, FailsSend}
 use Rattle.sse_link.specs.Marks.{mark_of}
 use Rattle.link_events.specs.Served.{Served, Answers, IsServed, idle}
 use Rattle.sse_frames.specs.Frames.{IsFrame}
-use Rattle.sse_link.specs.Steady.{IsSteady}
+use Rattle.sse_link.specs.Steady.{IsTelling}
 use Rattle.sse_link.specs.Told.{Told, IsSent, IsLost}
 use Rattle.link_events.proofs.Honest.{IsServed-sent, IsServed-received, IsServed-dropped}
 
@@ -36,8 +36,8 @@ IsKnown-mark_of (dues.Single replies.NoMemory) = tt
 IsKnown-mark_of _ = tt
 
 -- a frame that was answered
-pub steady_sent : (f : KeyedFn) (events : List Event) (began before after : ServerState) (due due' : Due) (page page' bytes : List ℕ) → IsSteady f events began before due page → (sent : IsFrame bytes) → IsDue f after due' page'
-    → Answers f before sent.frame (mark_of due') after (map reply_bytes (waiting f after due' page')) → IsSteady f (events ++ Sent bytes (mark_of due') ∷ []) began after due' page'
+pub steady_sent : (f : KeyedFn) (events : List Event) (began before after : ServerState) (due due' : Due) (page page' bytes : List ℕ) → IsTelling f events began before due page → (sent : IsFrame bytes) → IsDue f after due' page'
+    → Answers f before sent.frame (mark_of due') after (map reply_bytes (waiting f after due' page')) → IsTelling f (events ++ Sent bytes (mark_of due') ∷ []) began after due' page'
 steady_sent f events began before after due due' page page' bytes steady sent writable answered = record {
   writable = writable;
   known = known_sent events bytes (mark_of due') steady.known (IsKnown-mark_of due');
@@ -45,8 +45,8 @@ steady_sent f events began before after due due' page page' bytes steady sent wr
 }
 
 -- a reply that was received
-pub steady_received : (f : KeyedFn) (events : List Event) (began state : ServerState) (due due' : Due) (page page' bytes : List ℕ) → IsSteady f events began state due page → IsDue f state due' page'
-    → map reply_bytes (waiting f state due page) ≡ bytes ∷ map reply_bytes (waiting f state due' page') → IsSteady f (events ++ Received bytes ∷ []) began state due' page'
+pub steady_received : (f : KeyedFn) (events : List Event) (began state : ServerState) (due due' : Due) (page page' bytes : List ℕ) → IsTelling f events began state due page → IsDue f state due' page'
+    → map reply_bytes (waiting f state due page) ≡ bytes ∷ map reply_bytes (waiting f state due' page') → IsTelling f (events ++ Received bytes ∷ []) began state due' page'
 steady_received f events began state due due' page page' bytes steady writable first = record {
   writable = writable;
   known = known_received events bytes steady.known;
@@ -60,7 +60,7 @@ cut_served f start end events false is = is
 
 -- it doesn't matter for a frame which replies waited before it
 pub sent_behind : (f : KeyedFn) (old new : Told) (due : List (List ℕ)) (bytes : List ℕ) → IsSent f old new bytes → IsSent f (record old { due = due }) new bytes
-sent_behind f old new due bytes sent = record { mark = sent.mark; known = sent.known; events = sent.events; serves = sent.serves; began = sent.began }
+sent_behind f old new due bytes sent = record { mark = sent.mark; known = sent.known; events = sent.events; serves = sent.serves; untouched = sent.untouched; began = sent.began; began_file = sent.began_file }
 
 -- a send that is listed as one that fails after its work
 pub lost_as_listed : (f : KeyedFn) (fails : List Fail) (call : ℕ) (old new : Told) (bytes : List ℕ) → listed_at fails call ≡ Some true → IsLost f old new bytes

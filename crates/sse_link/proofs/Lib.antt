@@ -2,3 +2,5 @@ pub mod Pages
 pub mod ReplySizes
 mod Handled
 mod Kept
+mod StoreSteps
+mod Stored

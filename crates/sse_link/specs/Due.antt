@@ -3,7 +3,7 @@ use Rattle.std.specs.Prelude.{ℕ, Bool, false, not, List, [], ◌∷◌, ◌++�
 use Rattle.keyed_fn.specs.KeyedFn.{KeyedFn}
 use Rattle.server_core.specs.State.{ServerState}
 use Rattle.server_core.specs.Walk.{contents_of, rest_of, IsFront, HasPage}
-use Rattle.sse_frames.specs.Replies.{ReplyText, Page, StoreFault, InReplies}
+use Rattle.sse_frames.specs.Replies.{ReplyText, Page, InReplies}
 use Rattle.sse_frames.specs.Reading.{IsReply}
 use Rattle.sse_frames.specs.FrameViews.{reply_view}
 use Rattle.sse_frames.specs.Sending.{pages}
@@ -43,10 +43,9 @@ abbrev pub behind_first : KeyedFn → ServerState → Due → List ReplyText
 behind_first f s (dues.Pages count walk) = if walk.is_over then [] else pages (rest_of f (contents_of s) walk)
 behind_first f s _ = []
 
--- a reply that is no page and tells of no fault
+-- a reply that is no page
 abbrev pub IsSingle : ReplyText → Type 0
 IsSingle (Page last ids) = ⊥
-IsSingle StoreFault = ⊥
 IsSingle _ = Unit {0}
 
 -- what waits can be written, and where it is a search's, it goes on

@@ -8,3 +8,4 @@ pub mod Failing
 pub mod Scripted
 pub mod BadFrames
 pub mod Texts
+pub mod Stored

@@ -1,4 +1,4 @@
-ghost use Rattle.std.specs.Prelude.{◌≡◌, ◌∷◌, false, [], map};
+ghost use Rattle.std.specs.Prelude.{◌≡◌, ◌≢◌, ◌∷◌, false, [], map};
 ghost use Rattle.keyed_fn.specs.KeyedFn.{keyed_fn};
 ghost use Rattle.sse_frames.specs.Reading.{frame_outcome};
 ghost use Rattle.sse_frames.specs.Replies.{BadFrame, reply_bytes};
@@ -7,6 +7,7 @@ ghost use Rattle.sse_link.specs.BadFrames.{bad_reason, IsNoFrame};
 ghost use Rattle.sse_link.specs.Due.{waiting, IsDue};
 ghost use Rattle.sse_link.specs.Marks.{mark_of};
 ghost use Rattle.link_events.specs.Served.{Answers};
+ghost use Rattle.link_events.specs.declared.mark.Mark.TheVariants.{StoreFailed};
 ghost use Rattle.sse_frames.specs.Frames.{IsFrame};
 
 use crate::Due;
@@ -34,6 +35,7 @@ pub fn answer_bytes<K: Keyed, T: Tables>(
     ensures bad_reply { IsNoFrame bytes.now → waiting (keyed_fn K.prf K.pad) server.new.state result page.new ≡ BadFrame (bad_reason (frame_outcome bytes.now)) ∷ [] }
     ensures some { is_nil (waiting (keyed_fn K.prf K.pad) server.new.state result page.new) ≡ false }
     ensures due { IsDue (keyed_fn K.prf K.pad) server.new.state result page.new }
+    ensures no_fault { mark_of result ≢ StoreFailed }
 {
     match whole_frame(bytes) {
         Ok(frame) => due_of(server.handle(keyed, &frame, page)),

@@ -3,7 +3,7 @@ ghost use Rattle.keyed_fn.specs.KeyedFn.{KeyedFn, keyed_fn};
 ghost use Rattle.sse_frames.specs.Replies.{Page, StoreFault, reply_bytes};
 ghost use Rattle.server_core.specs.State.{ServerState};
 ghost use Rattle.server_core.specs.Views.{answer_replies, HasRange, HasBegun};
-ghost use Rattle.link_events.specs.declared.mark.Mark.TheVariants.{Stepped, LackedMemory};
+ghost use Rattle.link_events.specs.declared.mark.Mark.TheVariants.{Stepped, LackedMemory, StoreFailed};
 ghost use Rattle.sse_link.specs.Due.{waiting, first_of, behind_first, is_more, IsOpenPage, IsDue, CanWrite};
 ghost use Rattle.sse_link.specs.Marks.{mark_of};
 ghost use Rattle.sse_link.specs.Scripted.{reply_size};
@@ -36,6 +36,7 @@ impl Due {
     {
         match *self {
             Due::Single(Reply::NoMemory) => Mark::LackedMemory,
+            Due::Single(Reply::StoreFault) => Mark::StoreFailed,
             _ => Mark::Stepped,
         }
     }
@@ -46,7 +47,7 @@ impl Due {
         requires room { 65544 ≤ length out.old }
         ensures reply { IfSome (first_of self.now page.now) (λ reply. take result out.new ≡ reply_bytes reply) }
         ensures open { IsTrue (is_more self.now) ↔ IsOpenPage (take result out.new) }
-        ensures no_fault { take result out.new ≢ reply_bytes StoreFault }
+        ensures no_fault { mark_of self.now ≢ StoreFailed → take result out.new ≢ reply_bytes StoreFault }
         ensures least { 4 ≤ result }
         ensures most { result ≤ 65544 }
         ensures one_reply { reply_size (take result out.new) ≡ Some result }
@@ -69,6 +70,7 @@ impl Due {
         requires { IsDue (keyed_fn K.prf K.pad) server.now.state self.now page.old }
         ensures waits { waiting (keyed_fn K.prf K.pad) server.now.state result page.new ≡ behind_first (keyed_fn K.prf K.pad) server.now.state self.now }
         ensures due { IsDue (keyed_fn K.prf K.pad) server.now.state result page.new }
+        ensures stepped { mark_of result ≡ Stepped }
     {
         let Due::Pages { mut walk, .. } = *self else {
             return Due::Nothing;
@@ -87,6 +89,7 @@ pub(crate) fn due_of(answer: Answer) -> Due
     ensures replies { (f : KeyedFn) (s : ServerState) (page : List ℕ) → waiting f s result page ≡ answer_replies f s answer page }
     ensures due { (f : KeyedFn) (s : ServerState) (page : List ℕ) → HasBegun f s answer page → IsDue f s result page }
     ensures stepped { answer ≢ Answer.NoMemory → mark_of result ≡ Stepped }
+    ensures no_fault { mark_of result ≢ StoreFailed }
     ensures lacked { answer ≡ Answer.NoMemory → mark_of result ≡ LackedMemory }
 {
     match answer {

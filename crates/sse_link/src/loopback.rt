@@ -1,4 +1,5 @@
-ghost use Rattle.std.specs.Prelude.{◌≡◌, ◌≢◌, ◌↔◌, ◌≤◌, ◌∷◌, true, false, [], not, length, take, IsTrue, IsSome, IsSomeAnd, IfOk, OnOk, Some, None, Err};
+ghost use Rattle.std.specs.Prelude.{◌≡◌, ◌≢◌, ◌↔◌, ◌≤◌, ◌∷◌, true, false, [], not, length, take, IsTrue, IsSome, IsSomeAnd, IfOk, IfSome, OnOk, Some, None, Err};
+ghost use Rattle.sse_outside.specs.Causes.{Rose};
 ghost use Rattle.sse_frames.specs.Replies.{StoreFault, reply_bytes};
 ghost use Rattle.server_core.specs.Refusal.{is_nil};
 ghost use Rattle.keyed_fn.specs.KeyedFn.{keyed_fn};
@@ -9,32 +10,38 @@ ghost use Rattle.sse_link.specs.Failing.{listed_at, worked, failed, FailsSend};
 ghost use Rattle.link_events.specs.Passed.{events_of};
 ghost use Rattle.link_events.specs.Served.{IsServed, idle};
 ghost use Rattle.sse_frames.specs.Frames.{IsFrame};
-ghost use Rattle.sse_link.specs.Told.{told_first, served, dropped, IsSent, IsReceived};
+ghost use Rattle.sse_link.specs.Stored.{HasTaken, IsStored};
+ghost use Rattle.sse_link.specs.Told.{told_on, served, dropped, IsSent, IsReceived};
+ghost use Rattle.sse_journal.specs.JournalView.{broken_by};
+ghost use Rattle.sse_server.specs.StoreView.{IsWithin};
 
 use crate::counts::one_more;
-use crate::{Fail, Link, LinkFault, Passed, SteadyLoopback};
+use crate::far::Far;
+use crate::scripted::is_store_fault;
+use crate::{Fail, Link, LinkFault, Passed};
 use keyed_fn::Keyed;
-use server_core::Server;
 use server_tables::Tables;
+use sse_outside::Disk;
+use sse_server::Store;
 use std::alloc::Global;
 use std::marker::Model;
 
-/// A link to a server in this process, of which chosen calls fail.
+/// A link to a store in this process, over any disk, of which chosen calls fail.
 ///
 /// `fails` names the sends and receives that are cut, counted together from 0; where it names one twice, the first
 /// counts. A send that fails after its work has reached the server, and is among what was sent; one that fails before
-/// hasn't. A receive that fails loses the reply. The count of faults rises with each call that fails, and with no
-/// other. A call without memory isn't counted.
+/// hasn't. A receive that fails loses the reply. The count of faults rises with each call that fails, and with each
+/// that receives the report of a fault of the disk, and with no other. A call without memory isn't counted.
 #[derive(Drop)]
-pub struct Loopback<K: Keyed, T: Tables> {
-    steady: SteadyLoopback<K, T>,
+pub struct Loopback<K: Keyed, T: Tables, D: Disk> {
+    far: Far<K, T, D>,
     fails: Vec<Fail>,
     calls: u64,
     cut: bool,
     faults: u64,
 }
 
-impl<K: Keyed, T: Tables> Model for Loopback<K, T> {
+impl<K: Keyed, T: Tables, D: Disk> Model for Loopback<K, T, D> {
     ghost use Rattle.std.specs.Prelude.{[], if◌then◌else◌};
     ghost use Rattle.sse_link.specs.Failing.{FailingTold, failing_code};
 
@@ -43,20 +50,32 @@ impl<K: Keyed, T: Tables> Model for Loopback<K, T> {
     ghost coded = { failing_code };
 
     ghost view = { λ l. record {
-      told = record l.steady { due = (if l.cut then [] else l.steady.due) };
+      told = record l.far { due = (if l.cut then [] else l.far.due) };
       fails = l.fails.items;
       calls = l.calls;
       faults = l.faults;
     } };
 }
 
-impl<K: Keyed, T: Tables> Loopback<K, T> {
-    /// A link to this server, over which nothing has passed, with the calls that fail. Takes no memory.
-    pub fn new(alloc: Global, keyed: K, server: Server<T>, fails: Vec<Fail>) -> Loopback<K, T>
-        ensures { result ≡ record { told = told_first server.state; fails = fails.items; calls = 0; faults = 0 } }
+impl<K: Keyed, T: Tables, D: Disk> Loopback<K, T, D> {
+    /// A link to this store on its disk, over which nothing has passed, with the calls that fail. Takes no memory.
+    ///
+    /// The store is one that was started on the disk: its journal isn't broken, and where the disk tells its file, that is
+    /// the journal of the frames that the store has taken, and nothing else is left by any crash.
+    pub fn new(
+        alloc: Global,
+        keyed: K,
+        store: Store<T>,
+        disk: D,
+        fails: Vec<Fail>,
+    ) -> Loopback<K, T, D>
+        requires whole { broken_by store.journal ≡ None }
+        requires within { IsWithin store.journal (D.content disk) }
+        requires taken { IfSome (D.content disk) (λ _. HasTaken store (D.content disk) (D.images disk)) }
+        ensures { result ≡ record { told = told_on store.state (D.content disk); fails = fails.items; calls = 0; faults = 0 } }
     {
         Loopback {
-            steady: SteadyLoopback::new(alloc, keyed, server),
+            far: Far::new(alloc, keyed, store, disk),
             fails,
             calls: 0,
             cut: false,
@@ -64,14 +83,23 @@ impl<K: Keyed, T: Tables> Loopback<K, T> {
         }
     }
 
-    /// All that passed, in order: each frame was answered by the server's step, or out of memory where its mark says
-    /// so, and each reply that was received was the next of its replies.
+    /// All that passed, in order: each frame was answered by the server's step, or out of memory or with a fault of its
+    /// disk where its mark says so, and each reply that was received was the next of its replies. Where each was answered by
+    /// the step, the file is the journal of what it was, and of the updates that were taken since (`IsStored`).
     pub fn transcript(&self) -> &[Passed]
         ensures events { events_of result.now ≡ self.now.told.events }
         ensures known { AreKnown self.now.told.events }
         ensures honest { IsServed (keyed_fn K.prf K.pad) (idle self.now.told.began) self.now.told.events (served self.now.told) }
+        ensures stored { IsStored (keyed_fn K.prf K.pad) self.now.told }
     {
-        self.steady.transcript()
+        self.far.transcript()
+    }
+
+    /// The disk of the store.
+    pub fn disk(&self) -> &D
+        ensures { D.content result.now ≡ self.now.told.file }
+    {
+        self.far.disk()
     }
 
     /// A call fails: nothing more is received, and the count rises.
@@ -87,16 +115,16 @@ impl<K: Keyed, T: Tables> Loopback<K, T> {
     }
 }
 
-impl<K: Keyed, T: Tables> Link for Loopback<K, T> {
+impl<K: Keyed, T: Tables, D: Disk> Link for Loopback<K, T, D> {
     ghost reply_due = { λ l. not (is_nil l.told.due) };
 
     ghost faults = { λ l. l.faults };
 
     ghost transcript = { λ l. Some l.told.events };
 
-    ghost remote = { λ l. Some (record { state = l.told.state }) };
+    ghost remote = { λ l. Some (record { state = l.told.state; file = l.told.file }) };
 
-    ghost began = { λ l. Some (record { state = l.told.began }) };
+    ghost began = { λ l. Some (record { state = l.told.began; file = l.told.began_file }) };
 
     fn send(&mut self, frame: &[u8]) -> Result<(), LinkFault>
         requires frame { IsFrame frame.now }
@@ -118,13 +146,13 @@ impl<K: Keyed, T: Tables> Link for Loopback<K, T> {
     {
         match fail_at(&self.fails, self.calls) {
             None => {
-                self.steady.send(frame)?;
+                self.far.send(frame)?;
                 self.cut = false;
                 self.calls = one_more(self.calls);
                 Ok(())
             }
             Some(true) => {
-                self.steady.send(frame)?;
+                self.far.send(frame)?;
                 Err(self.fail())
             }
             Some(false) => Err(self.fail()),
@@ -139,11 +167,15 @@ impl<K: Keyed, T: Tables> Link for Loopback<K, T> {
         ensures not_listed { IfOk result (λ _. listed_at self.old.fails self.old.calls ≡ None) }
         ensures received { IfOk result (λ n. IsReceived self.old.told self.new.told (take n out.new)) }
         ensures due_after { IfOk result (λ n. IsTrue (not (is_nil self.new.told.due)) ↔ IsOpenPage (take n out.new)) }
-        ensures no_fault { IfOk result (λ n. take n out.new ≢ reply_bytes StoreFault) }
         ensures least { IfOk result (λ n. 4 ≤ n) }
         ensures most { IfOk result (λ n. n ≤ 65544) }
         ensures one_reply { IfOk result (λ n. reply_size (take n out.new) ≡ Some n) }
-        ensures worked { IfOk result (λ _. self.new ≡ worked self.old self.new.told) }
+
+        // Where it hands over the report of a fault of the disk, the count rises.
+        ensures store_fault { IfOk result (λ n. take n out.new ≡ reply_bytes StoreFault → Rose self.old.faults self.new.faults) }
+        ensures steady { IfOk result (λ n. take n out.new ≢ reply_bytes StoreFault → self.new.faults ≡ self.old.faults) }
+        ensures worked { IfOk result (λ n. take n out.new ≢ reply_bytes StoreFault → self.new ≡ worked self.old self.new.told) }
+        ensures reported { IfOk result (λ n. take n out.new ≡ reply_bytes StoreFault → self.new ≡ failed self.old self.new.told) }
 
         // One that is listed is cut.
         ensures listed { (result ≡ Err LinkFault.Cut) ↔ IsSome (listed_at self.old.fails self.old.calls) }
@@ -155,8 +187,11 @@ impl<K: Keyed, T: Tables> Link for Loopback<K, T> {
         if fail_at(&self.fails, self.calls).is_some() {
             return Err(self.fail());
         }
-        let n = self.steady.recv(out)?;
+        let n = self.far.recv(out)?;
         self.calls = one_more(self.calls);
+        if is_store_fault(&out[..n]) {
+            self.faults = one_more(self.faults);
+        }
         Ok(n)
     }
 }

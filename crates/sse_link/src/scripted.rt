@@ -174,7 +174,7 @@ fn leaves_more(reply: &Reply<'_>) -> bool
 }
 
 /// Whether the reply reports a fault of the server's disk.
-fn is_store_fault(reply: &[u8]) -> bool
+pub(crate) fn is_store_fault(reply: &[u8]) -> bool
     ensures { IsTrue result ↔ (reply.now ≡ reply_bytes StoreFault) }
 {
     reply == b"\x00\x00\x00\x01\x88".as_slice()

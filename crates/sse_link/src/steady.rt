@@ -38,7 +38,7 @@ pub struct SteadyLoopback<K: Keyed, T: Tables> {
 }
 
 impl<K: Keyed, T: Tables> Model for SteadyLoopback<K, T> {
-    ghost use Rattle.std.specs.Prelude.{map};
+    ghost use Rattle.std.specs.Prelude.{map, None};
     ghost use Rattle.sse_frames.specs.Replies.{reply_bytes};
     ghost use Rattle.sse_link.specs.Told.{Told, told_code};
 
@@ -54,7 +54,9 @@ impl<K: Keyed, T: Tables> Model for SteadyLoopback<K, T> {
     ghost view = { λ l. record {
       events = recorded l.passed;
       began = l.began.value.state;
+      began_file = None;
       state = l.server.state;
+      file = None;
       due = map reply_bytes (waiting (keyed_fn K.prf K.pad) l.server.state l.due l.page);
     } };
 
@@ -97,9 +99,9 @@ impl<K: Keyed, T: Tables> Link for SteadyLoopback<K, T> {
 
     ghost transcript = { λ l. Some l.events };
 
-    ghost remote = { λ l. Some (record { state = l.state }) };
+    ghost remote = { λ l. Some (record { state = l.state; file = l.file }) };
 
-    ghost began = { λ l. Some (record { state = l.began }) };
+    ghost began = { λ l. Some (record { state = l.began; file = l.began_file }) };
 
     fn send(&mut self, frame: &[u8]) -> Result<(), LinkFault>
         requires frame { IsFrame frame.now }

@@ -2,6 +2,7 @@ ghost use Rattle.std.specs.Prelude.{◌≡◌, IfOk, IfErr, IsOkAnd};
 ghost use Rattle.sse_frames.specs.Frames.{InGrammar, frame_bytes};
 ghost use Rattle.sse_frames.specs.Reading.{frame_outcome};
 ghost use Rattle.sse_frames.specs.FrameViews.{frame_view};
+ghost use Rattle.sse_frames.specs.Sizes.{HasSizes};
 ghost use Rattle.sse_link.specs.BadFrames.{bad_reason};
 ghost use Rattle.sse_frames.specs.Frames.{IsFrame};
 
@@ -12,6 +13,7 @@ use sse_frames::{Frame, FrameFault, read_frame};
 pub fn whole_frame(bytes: &[u8]) -> Result<Frame<'_>, u8>
     ensures grammar { IfOk result (λ frame. InGrammar (frame_view frame)) }
     ensures spelled { IfOk result (λ frame. bytes.now ≡ frame_bytes (frame_view frame)) }
+    ensures sizes { IfOk result (λ frame. HasSizes frame) }
     ensures only { (sent : IsFrame bytes.now) → IsOkAnd result (λ frame. frame_view frame ≡ sent.frame) }
     ensures reason { IfErr result (λ reason. reason ≡ bad_reason (frame_outcome bytes.now)) }
 {

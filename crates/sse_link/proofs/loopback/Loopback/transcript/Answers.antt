@@ -7,4 +7,4 @@ use Rattle.sse_link.proofs.loopback.Loopback.transcript.Goals as goal
 -- the link inside it is honest, and a cut drops what waits
 pub returns-clause-honest : goal.returns-clause-honest
 returns-clause-honest g c = rw (← c.self.view_is)
-    (cut_served (keyed_fn g.K.Keyed.prf g.K.Keyed.pad) (idle c.self.inside.steady.began) (served c.self.inside.steady) c.self.inside.steady.events c.self.inside.cut c.transcript.ensures.honest)
+    (cut_served (keyed_fn g.K.Keyed.prf g.K.Keyed.pad) (idle c.self.inside.far.began) (served c.self.inside.far) c.self.inside.far.events c.self.inside.cut c.transcript.ensures.honest)

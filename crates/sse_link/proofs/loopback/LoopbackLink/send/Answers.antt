@@ -16,6 +16,13 @@ returns-in_ok-send-in-Some-true-clause-listed g c is =
     lost_as_listed f old.fails old.calls old.told _ c.args.frame.now listed
     (record {
       between = c.send-in-Some-true.new.self;
-      sent = subst (λ (v : FailingTold). IsSent f v.told c.send-in-Some-true.new.self c.args.frame.now) c.self.view_is (sent_behind f c.self.inside.steady c.send-in-Some-true.new.self _ c.args.frame.now c.in_ok-send-in-Some-true.ensures.sent);
+      sent = subst (λ (v : FailingTold). IsSent f v.told c.send-in-Some-true.new.self c.args.frame.now) c.self.view_is (sent_behind f c.self.inside.far c.send-in-Some-true.new.self _ c.args.frame.now c.in_ok-send-in-Some-true.ensures.sent);
       dropped_is = ap (λ (t : FailingTold). t.told) c.fail.ensures.failed;
     })
+
+-- and its replies wait
+pub returns-in_ok-send-in-None-clause-sent : goal.returns-in_ok-send-in-None-clause-sent
+returns-in_ok-send-in-None-clause-sent g c =
+    let f = keyed_fn g.K.Keyed.prf g.K.Keyed.pad in
+    subst (λ (v : FailingTold). IsSent f v.told c.send.new.self c.args.frame.now) c.self.view_is
+    (sent_behind f c.self.inside.far c.send.new.self _ c.args.frame.now c.in_ok-send-in-None.ensures.sent)

@@ -1,12 +1,13 @@
 use Rattle.std.proofs.Common.{◌≡◌, true, not, [], ◌∷◌, ◌++◌, map, take, subst, sym, ◌∙◌}
-use Rattle.std.specs.Prelude.{IsTrue, ◌↔◌}
+use Rattle.std.specs.Prelude.{IsTrue, ◌↔◌, None}
 use Rattle.keyed_fn.specs.KeyedFn.{keyed_fn}
 use Rattle.sse_frames.specs.Replies.{reply_bytes}
 use Rattle.server_core.specs.Refusal.{is_nil}
 use Rattle.sse_link.specs.Due.{waiting, IsOpenPage}
 use Rattle.link_events.specs.Events.{Received}
+use Rattle.link_events.specs.declared.mark.Mark.TheVariants.{Stepped, StoreFailed}
 use Rattle.sse_link.specs.Recorded.{recorded}
-use Rattle.sse_link.specs.Steady.{IsSteady}
+use Rattle.sse_link.specs.Steady.{IsTelling}
 use Rattle.sse_link.specs.Told.{Told, IsReceived}
 use Rattle.sse_link.proofs.Kept.{steady_received}
 use Rattle.sse_link.proofs.Pages.{CanWrite-waiting, waiting-first, is_more-waiting}
@@ -22,10 +23,13 @@ invariant_of-self-2 g c =
     let kept : recorded c.received.new.self ≡ recorded inside.passed ++ Received (take c.write_first-n.result c.write_first-n.new.out) ∷ [] =
     c.received.ensures ∙ (λ i. c.make_room.ensures.same i ++ Received (c.in_ok-reply.ensures.copy i) ∷ []) in
     let some : not (is_nil (map reply_bytes (waiting f state inside.due inside.page))) ≡ true = subst (λ (v : Told). not (is_nil v.due) ≡ true) (sym c.self.view_is) c.requires.due in
-    let can = CanWrite-waiting f state inside.due inside.page c.self.invariant.writable some in
-    subst (λ events. IsSteady f events inside.began.value.state state next.result next.new.page) (sym kept)
-    (steady_received f (recorded inside.passed) inside.began.value.state state inside.due next.result inside.page next.new.page _ c.self.invariant next.ensures.due
-    (waiting-first f state inside.due next.result inside.page next.new.page _ (search) c.self.invariant.writable can c.write_first-n.ensures.reply next.ensures.waits))
+    let can = CanWrite-waiting f state inside.due inside.page c.self.invariant.telling.writable some in
+    record {
+      telling = subst (λ events. IsTelling f events inside.began.value.state state next.result next.new.page) (sym kept)
+          (steady_received f (recorded inside.passed) inside.began.value.state state inside.due next.result inside.page next.new.page _ c.self.invariant.telling next.ensures.due
+          (waiting-first f state inside.due next.result inside.page next.new.page _ (search) c.self.invariant.telling.writable can c.write_first-n.ensures.reply next.ensures.waits));
+      no_fault = λ fault. (let other : Stepped ≡ StoreFailed = sym next.ensures.stepped ∙ fault in cc);
+    }
 
 pub returns-clause-received : goal.returns-clause-received
 returns-clause-received g c =
@@ -38,11 +42,11 @@ returns-clause-received g c =
     let kept : recorded c.received.new.self ≡ recorded inside.passed ++ Received reply ∷ [] =
     c.received.ensures ∙ (λ i. c.make_room.ensures.same i ++ Received (c.in_ok-reply.ensures.copy i) ∷ []) in
     let some : not (is_nil (map reply_bytes (waiting f state inside.due inside.page))) ≡ true = subst (λ (v : Told). not (is_nil v.due) ≡ true) (sym c.self.view_is) c.requires.due in
-    let can = CanWrite-waiting f state inside.due inside.page c.self.invariant.writable some in
-    let now : Told = record { events = recorded c.received.new.self; began = inside.began.value.state; state = state; due = due } in
+    let can = CanWrite-waiting f state inside.due inside.page c.self.invariant.telling.writable some in
+    let now : Told = record { events = recorded c.received.new.self; began = inside.began.value.state; began_file = None; state = state; file = None; due = due } in
     subst (λ (v : Told). IsReceived v now reply) c.self.view_is (record {
-      first = waiting-first f state inside.due next.result inside.page next.new.page reply (search) c.self.invariant.writable can c.write_first-n.ensures.reply next.ensures.waits;
-      others = λ i. record { events = kept i; began = inside.began.value.state; state = state; due = due };
+      first = waiting-first f state inside.due next.result inside.page next.new.page reply (search) c.self.invariant.telling.writable can c.write_first-n.ensures.reply next.ensures.waits;
+      others = λ i. record { events = kept i; began = inside.began.value.state; began_file = None; state = state; file = None; due = due };
     })
 
 -- and its bytes say whether others wait

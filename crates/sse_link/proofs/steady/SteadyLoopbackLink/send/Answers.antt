@@ -3,7 +3,7 @@ use Rattle.keyed_fn.specs.KeyedFn.{keyed_fn}
 use Rattle.link_events.specs.Events.{Sent}
 use Rattle.sse_link.specs.Marks.{mark_of}
 use Rattle.sse_link.specs.Recorded.{recorded}
-use Rattle.sse_link.specs.Steady.{IsSteady}
+use Rattle.sse_link.specs.Steady.{IsTelling}
 use Rattle.sse_link.proofs.Kept.{steady_sent}
 use Rattle.sse_link.proofs.steady.SteadyLoopbackLink.send.Goals as goal
 
@@ -15,6 +15,9 @@ invariant_of-self-2 g c =
     let answer = c.answer_bytes-self-inside in
     let kept : recorded c.sent.new.self ≡ recorded inside.passed ++ Sent c.args.frame.now (mark_of answer.result) ∷ [] =
     c.sent.ensures ∙ (λ i. c.make_room.ensures.same i ++ Sent (c.in_ok-bytes.ensures.copy i) (c.mark.ensures i) ∷ []) in
-    subst (λ events. IsSteady f events inside.began.value.state answer.new.server.state answer.result answer.new.page) (sym kept)
-    (steady_sent f (recorded inside.passed) inside.began.value.state inside.server.state answer.new.server.state inside.due answer.result inside.page answer.new.page
-    c.args.frame.now c.self.invariant c.requires.frame answer.ensures.due (answer.ensures.frame c.requires.frame))
+    record {
+      telling = subst (λ events. IsTelling f events inside.began.value.state answer.new.server.state answer.result answer.new.page) (sym kept)
+          (steady_sent f (recorded inside.passed) inside.began.value.state inside.server.state answer.new.server.state inside.due answer.result inside.page answer.new.page
+          c.args.frame.now c.self.invariant.telling c.requires.frame answer.ensures.due (answer.ensures.frame c.requires.frame));
+      no_fault = answer.ensures.no_fault;
+    }
