@@ -1,8 +1,9 @@
 -- Over an honest link frames that were exchanged brought the server where their steps lead, with the answers that it gives;
 -- and where the next one was cut, its replies are the first of those that are to come, or say that memory was wanting. The
 -- greeting leaves the server as it was, and its number is the server's own.
-use Rattle.std.proofs.Common.{◌<◌, ◌≡◌, ◌≢◌, ◌⊎◌, ℕ, zero, suc, ◌+◌, ◌^◌, ◌≤◌, inl, inr, List, [], ◌∷◌, ◌++◌, length, map, take, drop, slice_index, refl, sym, ap, ◌∙◌, subst, arith, append_assoc, length-append}
+use Rattle.std.proofs.Common.{◌<◌, ◌≡◌, ◌≢◌, ◌⊎◌, ℕ, zero, suc, ◌+◌, ◌^◌, ◌≤◌, inl, inr, List, [], ◌∷◌, ◌++◌, length, map, take, drop, slice_index, refl, sym, ap, ◌∙◌, subst, arith, lit≤, append_assoc, length-append}
 use Rattle.std.specs.List.{AllByRecursion}
+use Rattle.std.proofs.lemmas.Bool.{true≢false}
 use Rattle.std.proofs.lemmas.List.{append-nil, map-append, length-map}
 use Rattle.std.proofs.lemmas.List.Elements.{All-from_recursion}
 use Rattle.keyed_fn.specs.KeyedFn.{KeyedFn}
@@ -94,9 +95,9 @@ behind_greeting f s (AddFrame q entries numbers) ids e = tt
 behind_greeting f s (DeleteFrame q numbers) ids e = tt
 behind_greeting f s (SearchFrame token) ids e = tt
 
--- out of memory is no reply that is to come
-not_lacking : (ids : List ℕ) (asks : Asked) (due : List (List ℕ)) → IsBehindGreeting asks → map reply_bytes (expected ids asks) ++ due ≡ reply_bytes reply.NoMemory ∷ [] → ⊥
-not_lacking ids asks due is e = by asks (map reply_bytes (expected ids asks)) (kinds_expected ids asks) (some ids asks is) e
+-- out of memory is no reply that is to come, nor is the report of a store fault
+not_lacking : (why : ReplyText) (ids : List ℕ) (asks : Asked) (due : List (List ℕ)) → 0x87 ≤ kind_of (reply_bytes why) → IsBehindGreeting asks → map reply_bytes (expected ids asks) ++ due ≡ reply_bytes why ∷ [] → ⊥
+not_lacking why ids asks due least is e = by asks (map reply_bytes (expected ids asks)) (kinds_expected ids asks) (some ids asks is) e
   where
     some : (ids : List ℕ) (asks : Asked) → IsBehindGreeting asks → 1 ≤ length (map reply_bytes (expected ids asks))
     some ids ForNext is = absurd is
@@ -111,14 +112,14 @@ not_lacking ids asks due is e = by asks (map reply_bytes (expected ids asks)) (k
         of [] = omega arith
         of (ids ∷ others) = each ids others
 
-    other : (asks : Asked) → kind_to asks ≢ 0x87
-    other ForNext e = omega (arith, e)
-    other (ForTook q) e = omega (arith, e)
-    other ForAnswer e = omega (arith, e)
+    other : (asks : Asked) (kind : ℕ) → 0x87 ≤ kind → kind_to asks ≢ kind
+    other ForNext kind high e = omega (arith, high, e)
+    other (ForTook q) kind high e = omega (arith, high, e)
+    other ForAnswer kind high e = omega (arith, high, e)
 
-    by : (asks : Asked) (replies : List (List ℕ)) → AreOfKind (kind_to asks) replies → 1 ≤ length replies → replies ++ due ≡ reply_bytes reply.NoMemory ∷ [] → ⊥
+    by : (asks : Asked) (replies : List (List ℕ)) → AreOfKind (kind_to asks) replies → 1 ≤ length replies → replies ++ due ≡ reply_bytes why ∷ [] → ⊥
     by asks [] kinds some e = omega (arith, some)
-    by asks (first ∷ replies) kinds some e = let same : first ≡ reply_bytes reply.NoMemory = cc in other asks (sym kinds.0 ∙ ap kind_of same)
+    by asks (first ∷ replies) kinds some e = let same : first ≡ reply_bytes why = cc in other asks (kind_of (reply_bytes why)) least (sym kinds.0 ∙ ap kind_of same)
 
 -- One frame.
 
@@ -138,7 +139,13 @@ first_exchanged f start end answers frame frames later grammar is served =
     let one = IsServed-exchange f start end frame Unknown (map reply_bytes (expected (first_answer answers) (asked frame))) _ grammar
     (subst (λ events. IsServed f start events end) (events-exchange answers frame frames later) served) in (
       one.0,
-      elim one.1 [ inl stepped ↦ stepped | inr lacked ↦ absurd (not_lacking (first_answer answers) (asked frame) one.0.due is lacked.replies_are) ],
+      elim one.1 [
+        | inl stepped ↦ stepped
+        | inr kept ↦ elim kept [
+          | inl lacked ↦ absurd (not_lacking reply.NoMemory (first_answer answers) (asked frame) one.0.due (lit≤ tt) is lacked.replies_are)
+          | inr failed ↦ absurd (not_lacking reply.StoreFault (first_answer answers) (asked frame) one.0.due (lit≤ tt) is failed.replies_are)
+        ]
+      ],
       one.2,
     )
 
@@ -253,24 +260,25 @@ few_expected ids (ForTook q) few = omega arith
 few_expected ids ForAnswer few = length-pages_of (parts 8192 ids) (2 ^ 20) (omega arith) (omega (arith, few, length-parts 8192 ids))
 
 module _ (ids : List ℕ) (answer : IsAnswer ids) (asks : Asked) (replies due : List (List ℕ)) where
-  -- the replies are the first of the server's step, or of out of memory
+  -- the replies are the first of the server's step, or of out of memory, or of a store fault
   abbrev IsFront : Type 0
-  IsFront = (replies ++ due ≡ map reply_bytes (expected ids asks)) ⊎ (replies ++ due ≡ reply_bytes reply.NoMemory ∷ [])
+  IsFront = (replies ++ due ≡ map reply_bytes (expected ids asks)) ⊎ ((replies ++ due ≡ reply_bytes reply.NoMemory ∷ []) ⊎ (replies ++ due ≡ reply_bytes reply.StoreFault ∷ []))
 
   module _ (last : List ℕ) (ends : EndsWith asks replies last) where
     split : replies ++ due ≡ ends.earlier ++ last ∷ due
     split = ap (λ rs. rs ++ due) ends.are ∙ append_assoc ends.earlier (last ∷ []) due
 
-    -- the last reply has the kind of those that are to come, or that of out of memory
-    kind_last : IsFront → (kind_of last ≡ kind_to asks) ⊎ (kind_of last ≡ 0x87)
+    -- the last reply has the kind of those that are to come, or that of out of memory or of a store fault
+    kind_last : IsFront → (kind_of last ≡ kind_to asks) ⊎ (0x87 ≤ kind_of last)
     kind_last (inl e) = inl (kind_within (kind_to asks) ends.earlier last due (subst (AreOfKind (kind_to asks)) (sym e ∙ split) (kinds_expected ids asks)))
-    kind_last (inr e) = inr (kind_within 0x87 ends.earlier last due (subst (AreOfKind 0x87) (sym e ∙ split) (refl, tt)))
+    kind_last (inr (inl e)) = let kind = kind_within 0x87 ends.earlier last due (subst (AreOfKind 0x87) (sym e ∙ split) (refl, tt)) in inr (omega (arith, kind))
+    kind_last (inr (inr e)) = let kind = kind_within 0x88 ends.earlier last due (subst (AreOfKind 0x88) (sym e ∙ split) (refl, tt)) in inr (omega (arith, kind))
 
   -- so it isn't a clash
   no_clash : (what place : ℕ) → EndsWith asks replies (reply_bytes (reply.Clash what place)) → IsFront → ⊥
   no_clash what place ends front = by asks (kind_of (reply_bytes (reply.Clash what place))) refl (kind_last (reply_bytes (reply.Clash what place)) ends front)
     where
-      by : (a : Asked) (kind : ℕ) → kind ≡ 0x84 → (kind ≡ kind_to a) ⊎ (kind ≡ 0x87) → ⊥
+      by : (a : Asked) (kind : ℕ) → kind ≡ 0x84 → (kind ≡ kind_to a) ⊎ (0x87 ≤ kind) → ⊥
       by ForNext kind is (inl e) = omega (arith, is, e)
       by (ForTook q) kind is (inl e) = omega (arith, is, e)
       by ForAnswer kind is (inl e) = omega (arith, is, e)
@@ -285,9 +293,15 @@ module _ (ids : List ℕ) (answer : IsAnswer ids) (asks : Asked) (replies due : 
     rest = due;
     first = e;
   })
-  no_bad start bad (inr e) = bad.no_notice reply.NoMemory tt (notice asks) (only_one bad.ends.earlier bad.reply due (reply_bytes reply.NoMemory) (sym (split bad.reply bad.ends) ∙ e))
+  no_bad start bad (inr (inl e)) = bad.no_notice reply.NoMemory tt (notice asks) (only_one bad.ends.earlier bad.reply due (reply_bytes reply.NoMemory) (sym (split bad.reply bad.ends) ∙ e))
     where
       notice : (a : Asked) → IsNotice a reply.NoMemory
+      notice ForNext = tt
+      notice (ForTook q) = tt
+      notice ForAnswer = tt
+  no_bad start bad (inr (inr e)) = bad.no_notice reply.StoreFault tt (notice asks) (only_one bad.ends.earlier bad.reply due (reply_bytes reply.StoreFault) (sym (split bad.reply bad.ends) ∙ e))
+    where
+      notice : (a : Asked) → IsNotice a reply.StoreFault
       notice ForNext = tt
       notice (ForTook q) = tt
       notice ForAnswer = tt
@@ -330,7 +344,10 @@ cut_outside f mid end (frame ∷ frames) left (Sent bytes mark ∷ cut) cause gr
     let one = IsServed-exchange f mid end frame Unknown came [] grammar.0 (subst (λ events. IsServed f mid events end) events served) in
     let here : (step f mid.state frame).1 ≡ expected (first_answer left) (asked frame) = head replies in
     shows_outside (first_answer left) (first_given (asked frame) left given) (asked frame) came one.0.due cause
-    (elim one.1 [ inl stepped ↦ inl (stepped.replies_are ∙ ap (map reply_bytes) here) | inr lacked ↦ inr lacked.replies_are ]) is.1.2
+    (elim one.1 [
+      | inl stepped ↦ inl (stepped.replies_are ∙ ap (map reply_bytes) here)
+      | inr kept ↦ elim kept [ inl lacked ↦ inr (inl lacked.replies_are) | inr failed ↦ inr (inr failed.replies_are) ]
+    ]) is.1.2
   where
     head : {A : Type 0} {x y : A} {xs ys : List A} → x ∷ xs ≡ y ∷ ys → x ≡ y
     head e = cc
@@ -344,7 +361,7 @@ greeted f start end reply later served =
     let one = IsServed-exchange f start end Hello Unknown (reply ∷ []) later tt served in
     elim one.1 [
       | inl stepped ↦ (one.0, stepped.state, (let same : reply ∷ one.0.due ≡ reply_bytes (Next start.state.next) ∷ [] = stepped.replies_are in cc), one.2)
-      | inr lacked ↦ absurd lacked.takes
+      | inr kept ↦ elim kept [ inl lacked ↦ absurd (true≢false (sym lacked.update)) | inr failed ↦ absurd (true≢false (sym failed.update)) ]
     ]
 
 -- a Next reply has one spelling
