@@ -3,12 +3,14 @@ ghost use Rattle.sse_frames.specs.Frames.{InGrammar, frame_bytes};
 ghost use Rattle.sse_frames.specs.FrameViews.{frame_view};
 
 use crate::frames::{BEGIN, DICT, END, HELLO, SEARCH};
+use crate::stores::store_link;
 use keyed_fn::Toy;
+use memory_disk::MemDisk;
 use server_core::Server;
 use server_tables::BucketTables;
 use sse_frames::{Frame, REPLY_ROOM, read_frame, write_reply};
 use sse_link::{
-    Due, FULL_PAGE, Fail, Link, Loopback, Mark, Passed, ScriptedLink, SteadyLoopback, answer_bytes,
+    Due, FULL_PAGE, Fail, Link, Mark, Passed, ScriptedLink, SteadyLoopback, answer_bytes,
 };
 use std::alloc::{AllocError, Global};
 use std::test::Fail as Failed;
@@ -131,7 +133,11 @@ fn reply<L: Link>(alloc: Global, link: &mut L, bytes: &[u8]) -> Result<String, A
 }
 
 /// The same of frames in a row, a line for each.
-fn replies<L: Link>(alloc: Global, link: &mut L, frames: &[&[u8]]) -> Result<String, AllocError> {
+pub(crate) fn replies<L: Link>(
+    alloc: Global,
+    link: &mut L,
+    frames: &[&[u8]],
+) -> Result<String, AllocError> {
     let mut lines = String::new(alloc);
     for bytes in frames {
         lines.push_str(reply(alloc, link, *bytes)?.as_str())?;
@@ -141,7 +147,7 @@ fn replies<L: Link>(alloc: Global, link: &mut L, frames: &[&[u8]]) -> Result<Str
 }
 
 /// What passed, a line for each frame and each reply.
-fn passed_lines(alloc: Global, passed: &[Passed]) -> Result<String, AllocError> {
+pub(crate) fn passed_lines(alloc: Global, passed: &[Passed]) -> Result<String, AllocError> {
     let mut lines = String::new(alloc);
     for event in passed {
         let (way, bytes) = match event {
@@ -161,6 +167,7 @@ fn way_of(mark: Mark) -> &'static str {
         Mark::Unknown => "sent ",
         Mark::Stepped => "stepped ",
         Mark::LackedMemory => "lacked memory ",
+        Mark::StoreFailed => "not stored ",
     }
 }
 
@@ -216,8 +223,10 @@ fn over_a_link_that_begins_later(alloc: Global) -> Result<String, AllocError> {
 /// The send and the receive of the first frame work, the second send and the next receive fail.
 fn over_a_failing_link(alloc: Global, delivered: bool) -> Result<String, AllocError> {
     let fails = vec![in alloc; Fail { call: 2, delivered }, Fail { call: 4, delivered }]?;
-    let mut link = Loopback::new(alloc, Toy, server(alloc), fails);
-    replies(alloc, &mut link, &[HELLO, BEGIN, HELLO, HELLO])
+    match store_link(alloc, MemDisk::new(alloc, Vec::new(alloc)), fails) {
+        Some(mut link) => replies(alloc, &mut link, &[HELLO, BEGIN, HELLO, HELLO]),
+        None => String::from_str(alloc, "not started"),
+    }
 }
 
 /// What is played back, and all that passed.
