@@ -5,6 +5,7 @@ mod Repairing
 mod Looking
 mod Walking
 pub mod Once
+pub mod FileRecords
 mod Starting
 mod Reading
 mod Refusing

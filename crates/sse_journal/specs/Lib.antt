@@ -7,3 +7,4 @@ pub mod Heads
 pub mod Walks
 pub mod JournalView
 pub mod Reads
+pub mod FileRecords

@@ -1,4 +1,4 @@
-ghost use Rattle.std.specs.Prelude.{◌≡◌, ◌≢◌, ◌⊎◌, ◌↔◌, ℕ, ◌+◌, ◌^◌, ◌<◌, ◌≤◌, List, [], ◌∷◌, ◌++◌, length, Some, None, IfSome, IsSome, OnOk, OnErr, IfOk, IfErr, IsErr, IsErrOf, Ok, Err};
+ghost use Rattle.std.specs.Prelude.{◌≡◌, ◌≢◌, ◌⊎◌, ◌↔◌, ℕ, ◌+◌, ◌^◌, ◌<◌, ◌≤◌, List, [], ◌∷◌, ◌++◌, length, is_some, Some, None, IfSome, IsSome, OnOk, OnErr, IfOk, IfErr, IsErr, IsErrOf, Ok, Err};
 ghost use Rattle.sse_outside.specs.Causes.{Rose};
 ghost use Rattle.sse_outside.specs.Images.{NoOther};
 ghost use Rattle.sse_journal.specs.Files.{IsPayload, Gives, GivesAs, GivesWithOrWithout};
@@ -127,6 +127,7 @@ impl Journal {
         ensures not_counted { OnErr result ((end_of self.new ≡ end_of self.old) × (records_of self.new ≡ records_of self.old)) }
         ensures room { room_of self.old ≤ room_of self.new }
         ensures within_after { OnOk result (IfSome (D.content disk.new) (λ bytes. end_of self.new + 1 ≤ length bytes)) }
+        ensures told { is_some (D.content disk.new) ≡ is_some (D.content disk.old) }
 
         // Whether it is broken.
         ensures broken { IsErrOf result AppendFault.Broken ↔ IsSome (broken_by self.old) }
