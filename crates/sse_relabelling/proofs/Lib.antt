@@ -21,4 +21,17 @@ pub mod SortedInAnyOrder
 pub mod ReorderedDocuments
 pub mod ReorderedSetup
 pub mod ReorderedRuns
+pub mod NamesBeside
+pub mod SumsBeside
+pub mod OpenedAlike
+pub mod SizedValues
+pub mod OneToOne
+pub mod FromDraws
+pub mod Twins
+pub mod AlikeBefore
+pub mod Comparisons
+pub mod Histories
+pub mod ReorderedSessions
+pub mod ByTexts
 mod Rows
+mod TwinRows

@@ -1,2 +1,10 @@
 pub mod Paired
 pub mod Reordered
+pub mod Tables
+pub mod FromDraws
+pub mod Twins
+pub mod Histories
+pub mod OpenedAlike
+pub mod FirstUses
+pub mod Comparison
+pub mod ByTexts

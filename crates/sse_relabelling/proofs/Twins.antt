@@ -8,9 +8,9 @@ use Rattle.sse_model.specs.Names.{Table}
 use Rattle.sse_relabelling.proofs.CollisionFree.{collision_free_there, collision_free_back}
 use Rattle.sse_relabelling.proofs.KeptValues.{relabelled_back}
 use Rattle.sse_relabelling.proofs.SameDraws.{draws_relabelled, wire_relabelled, transcript_relabelled}
-use Rattle.sse_twins.proofs.SizedValues.{sized_there}
-use Rattle.sse_twins.specs.Tables.{IsTableFor, AgreeOn}
-use Rattle.sse_twins.specs.Twins.{AreTwins}
+use Rattle.sse_relabelling.proofs.SizedValues.{sized_there}
+use Rattle.sse_relabelling.specs.Tables.{IsTableFor, AgreeOn}
+use Rattle.sse_relabelling.specs.Twins.{AreTwins}
 
 module _ (o : Offsets) (run other : Run) (history : IsHistory run) (history2 : IsHistory other) (leaks : leak o run ≡ leak o other) where
   -- a table for the first and the one relabelled from it

@@ -14,7 +14,7 @@ use Rattle.sse_leakage.specs.Relabelled.{relabelled}
 use Rattle.sse_model.specs.Histories.{table_of}
 use Rattle.sse_model.specs.Names.{Table}
 use Rattle.sse_simulator.specs.Leaks.{Leak, SetupLeak, AddLeak, DeleteLeak, SearchLeak}
-use Rattle.sse_twins.specs.Comparison.{LeakTheSame, LeaksDiffer, IsComparison}
+use Rattle.sse_relabelling.specs.Comparison.{LeakTheSame, LeaksDiffer, IsComparison}
 
 abbrev doc : ℕ → List (List ℕ) → Document
 doc id words = record { id = id; words = words }

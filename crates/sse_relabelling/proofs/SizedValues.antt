@@ -34,11 +34,11 @@ use Rattle.sse_relabelling.proofs.Pairs.{partner_of, paired-both, paired-parts}
 use Rattle.sse_relabelling.proofs.SameDrawings.{AreTexts, AreAlike, setups}
 use Rattle.sse_relabelling.proofs.SameDraws.{drawn_uses, probed_uses, names_in_lists, alike_drawn, own_drawn}
 use Rattle.sse_relabelling.proofs.Standing.{some_inside}
-use Rattle.sse_twins.specs.Tables.{IsTableFor}
+use Rattle.sse_relabelling.specs.Tables.{IsTableFor}
 
 -- Sizes.
 
-size_in : Shape → Class → ℕ
+pub size_in : Shape → Class → ℕ
 size_in s Tokens = 160
 size_in s ListLabels = 16
 size_in s CellPads = cell_size s
@@ -49,7 +49,7 @@ size_in s Revocations = 16
 size_in s PlaceTags = 16
 
 -- names of one class have values of one size
-size_of_class : (s : Shape) (kind : Kind) (number : ℕ) → size_at s kind number ≡ size_in s (class_at kind number)
+pub size_of_class : (s : Shape) (kind : Kind) (number : ℕ) → size_at s kind number ≡ size_in s (class_at kind number)
 unfolding size_in
 size_of_class s Token number = refl
 size_of_class s ListLabel number = refl
@@ -65,7 +65,7 @@ size_of_class s DummyTag number = refl
 size_of_class s DummyBlock number = refl
 
 -- a plaintext has the size of the pad that covers it
-abbrev IsCovered : Shape → Use → Type 0
+abbrev pub IsCovered : Shape → Use → Type 0
 IsCovered s u = (text : List ℕ) → u.text ≡ Some text → IsBytes (size_at s u.name.kind u.name.number) text
 
 covered_at : (s : Shape) (size : ℕ) (ranks : List ℕ) (p : Position) → HasText size ranks p → HasNames s size p → AllByRecursion (IsCovered s) (uses_at ranks p)
@@ -114,7 +114,7 @@ module _ (o : Offsets) (run : Run) (history : IsHistory run) (ranks : List ℕ) 
   later_covered past (c ∷ cs) = (command_covered past c, later_covered (past ++ c ∷ []) cs)
 
   -- each plaintext of what a run draws has the size of its pad
-  all_covered : AllByRecursion (IsCovered run.setup.shape) (drawn_uses o run ranks)
+  pub all_covered : AllByRecursion (IsCovered run.setup.shape) (drawn_uses o run ranks)
   all_covered =
       lists_covered run.setup.shape ranks (drawings o run) (
         AllByRecursion-append (AreCovered run.setup.shape ranks) (map ForEntry (entry_positions o.epoch run.setup)) (map ForBlock (block_positions o.epoch run.setup))

@@ -16,8 +16,8 @@ use Rattle.sse_relabelling.proofs.KeptValues.{first_ranks}
 use Rattle.sse_relabelling.proofs.OwnValues.{IsOwn}
 use Rattle.sse_relabelling.proofs.SameDraws.{wire_relabelled}
 use Rattle.sse_relabelling.specs.Paired.{Paired}
-use Rattle.sse_twins.proofs.NamesBeside.{names_of_first_uses, values_at_places}
-use Rattle.sse_twins.specs.FirstUses.{first_uses, sum_in_step}
+use Rattle.sse_relabelling.proofs.NamesBeside.{names_of_first_uses, values_at_places}
+use Rattle.sse_relabelling.specs.FirstUses.{first_uses, sum_in_step}
 
 -- values of the second names, where each is that for its place
 values_of_pairs : (m t : Table) (us vs : List Use) → Paired (IsOwn m t) us vs → flat_map (λ (v : Use). m v.name) vs ≡ flat_map (λ (pair : Use × Use). value_for t pair.0 pair.1) (zip us vs)

@@ -21,12 +21,12 @@ use Rattle.sse_relabelling.proofs.SameDraws.{drawn_uses, probed_uses, alike_draw
 use Rattle.sse_relabelling.proofs.SameDrawings.{AreAlike}
 use Rattle.sse_relabelling.proofs.Shifts.{bare_same}
 use Rattle.sse_relabelling.specs.Paired.{Paired}
-use Rattle.sse_twins.specs.FirstUses.{first_uses}
+use Rattle.sse_relabelling.specs.FirstUses.{first_uses}
 
 -- Lists.
 
 -- what is so of images is so of items
-paired-of_map : {A B C D : Type 0} (R : C → D → Type 0) (f : A → C) (g : B → D) (xs : List A) (ys : List B) → Paired R (map f xs) (map g ys) → Paired (λ x y. R (f x) (g y)) xs ys
+pub paired-of_map : {A B C D : Type 0} (R : C → D → Type 0) (f : A → C) (g : B → D) (xs : List A) (ys : List B) → Paired R (map f xs) (map g ys) → Paired (λ x y. R (f x) (g y)) xs ys
 paired-of_map R f g [] [] all = tt
 paired-of_map R f g [] (y ∷ ys) all = absurd all
 paired-of_map R f g (x ∷ xs) [] all = absurd all

@@ -7,7 +7,7 @@ use Rattle.sse_model.specs.Drawn.{IsCollisionFree}
 use Rattle.sse_model.specs.Names.{Table}
 use Rattle.sse_model.specs.Transcript.{transcript}
 use Rattle.sse_model.specs.Wire.{wire}
-use Rattle.sse_twins.specs.Tables.{IsTableFor, AgreeOn}
+use Rattle.sse_relabelling.specs.Tables.{IsTableFor, AgreeOn}
 
 -- under the one table the first run shows what the second shows under the other, and each table is had from the other
 pub record AreTwins (o : Offsets) (run other : Run) (t m : Table) : Type 0 where

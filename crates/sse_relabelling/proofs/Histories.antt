@@ -15,12 +15,12 @@ use Rattle.sse_model.specs.Histories.{table_of}
 use Rattle.sse_model.specs.Transcript.{session}
 use Rattle.sse_relabelling.proofs.SameDraws.{transcript_relabelled}
 use Rattle.sse_simulator.specs.Leaks.{Leak}
-use Rattle.sse_twins.proofs.SumsBeside.{sums_relabelled}
-use Rattle.sse_twins.proofs.Twins.{twins}
-use Rattle.sse_twins.specs.FirstUses.{sum_in_step}
-use Rattle.sse_twins.specs.Histories.{passed, relabelled_from}
-use Rattle.sse_twins.specs.Tables.{IsTableFor}
-use Rattle.sse_twins.specs.Twins.{AreTwins}
+use Rattle.sse_relabelling.proofs.SumsBeside.{sums_relabelled}
+use Rattle.sse_relabelling.proofs.Twins.{twins}
+use Rattle.sse_relabelling.specs.FirstUses.{sum_in_step}
+use Rattle.sse_relabelling.specs.Histories.{passed, relabelled_from}
+use Rattle.sse_relabelling.specs.Tables.{IsTableFor}
+use Rattle.sse_relabelling.specs.Twins.{AreTwins}
 
 none_leak : {A : Type 0} (l : Leak) (ls : List Leak) → [] ≡ l ∷ ls → A
 none_leak l ls e = absurd (let no : [] ≡ l ∷ ls = e in cc)

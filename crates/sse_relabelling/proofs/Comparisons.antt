@@ -8,7 +8,7 @@ use Rattle.sse_comparison.specs.Sums.{Sums, sums}
 use Rattle.sse_leakage.specs.Leaking.{leak}
 use Rattle.sse_leakage.specs.Relabelled.{relabelled}
 use Rattle.sse_model.specs.Names.{Table}
-use Rattle.sse_twins.specs.Comparison.{Comparison, LeakTheSame, LeaksDiffer, IsComparison}
+use Rattle.sse_relabelling.specs.Comparison.{Comparison, LeakTheSame, LeaksDiffer, IsComparison}
 
 module _ (t : Table) (o : Offsets) (run other : Run) where
   -- they leak the same, or there is a first command at which they don't

@@ -12,7 +12,7 @@ use Rattle.sse_relabelling.proofs.Renamed.{uses_renamed}
 use Rattle.sse_relabelling.proofs.RenamedSetup.{IsRenamed}
 use Rattle.sse_relabelling.proofs.SameDrawings.{AreAlike}
 use Rattle.sse_relabelling.specs.Paired.{Paired}
-use Rattle.sse_twins.specs.OpenedAlike.{AreOpenedAlike}
+use Rattle.sse_relabelling.specs.OpenedAlike.{AreOpenedAlike}
 
 module _ (o : Offsets) (run other : Run) (t : Table) (history : IsHistory run) (history2 : IsHistory other) (leaks : leak o run ≡ leak o other) where
   renamed : Paired (λ a b. (i : (w : List ℕ) × SearchedTogether o run other w) → a.name.word ≡ i.0 → (b.name ≡ name a.name.epoch i.1.w2 a.name.kind a.name.number) × (a.text ≡ b.text))

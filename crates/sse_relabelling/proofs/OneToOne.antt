@@ -14,8 +14,8 @@ use Rattle.sse_model.specs.Names.{Name, Table, same_name}
 use Rattle.sse_model.specs.Positions.{Position, entry_positions, block_positions, ranks_of}
 use Rattle.sse_model.specs.Wire.{labels_in}
 use Rattle.sse_relabelling.proofs.KeptValues.{names_used, relabelled_back}
-use Rattle.sse_twins.proofs.SizedValues.{sized_there}
-use Rattle.sse_twins.specs.Tables.{IsTableFor, AgreeOn}
+use Rattle.sse_relabelling.proofs.SizedValues.{sized_there}
+use Rattle.sse_relabelling.specs.Tables.{IsTableFor, AgreeOn}
 
 -- Tables that agree.
 

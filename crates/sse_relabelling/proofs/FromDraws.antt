@@ -30,9 +30,9 @@ use Rattle.sse_relabelling.proofs.Pairs.{paired-flat_map}
 use Rattle.sse_relabelling.proofs.SameDraws.{AreFitting, fitting, draws_relabelled}
 use Rattle.sse_relabelling.specs.Paired.{Paired}
 use Rattle.sse_simulator.specs.Leaks.{Draw}
-use Rattle.sse_twins.proofs.SizedValues.{sized_there}
-use Rattle.sse_twins.specs.FromDraws.{is_pad, without_pads, told_of, told_of_all}
-use Rattle.sse_twins.specs.Tables.{IsTableFor}
+use Rattle.sse_relabelling.proofs.SizedValues.{sized_there}
+use Rattle.sse_relabelling.specs.FromDraws.{is_pad, without_pads, told_of, told_of_all}
+use Rattle.sse_relabelling.specs.Tables.{IsTableFor}
 
 -- Texts.
 
