@@ -8,3 +8,4 @@ pub mod ListedLaws
 pub mod ProbedLaws
 pub mod OwnNames
 pub mod OnceLaws
+pub mod HeldLaws

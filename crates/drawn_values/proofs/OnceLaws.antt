@@ -87,7 +87,7 @@ module _ (words : List (List ℕ)) where
       ∙ numbered-names (front ++ n ∷ []) rest (All-append own front (n ∷ []) all (All-cons own n [] (All-head own n rest more) (All-nil own))) (All-tail own n rest more)
       ∙ ap (λ ns. map (numbered words) (first_names ns)) (append_assoc front (n ∷ []) rest)
 
-flat-numbered : {X Y : Type 0} (f : X → Y) (lists : List (List X)) → flat_map (λ ns. ns) (map (map f) lists) ≡ map f (flat_map (λ ns. ns) lists)
+pub flat-numbered : {X Y : Type 0} (f : X → Y) (lists : List (List X)) → flat_map (λ ns. ns) (map (map f) lists) ≡ map f (flat_map (λ ns. ns) lists)
 flat-numbered f [] = refl
 flat-numbered f (list ∷ lists) = ap (λ rest. map f list ++ rest) (flat-numbered f lists) ∙ sym (map-append f list (flat_map (λ ns. ns) lists))
 

@@ -1,5 +1,6 @@
 pub mod CommandDrawings
 pub mod DrawnNames
+pub mod Held
 pub mod Listed
 pub mod NamesOnce
 pub mod Numbered

@@ -1,4 +1,3 @@
 pub mod Zeros
 pub mod ValueLaws
-pub mod HeldLaws
 pub mod ShapeLaws

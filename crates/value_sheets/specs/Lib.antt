@@ -1,3 +1,2 @@
 pub mod OwnKeys
 pub mod ByKeys
-pub mod Held

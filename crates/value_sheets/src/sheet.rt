@@ -10,7 +10,7 @@ ghost use Rattle.sse_comparison.specs.UsedNames as used;
 ghost use Rattle.sse_model.specs.Histories.{table_of};
 ghost use Rattle.sse_model.specs.Names.{Name as Meant};
 ghost use Rattle.value_sheets.specs.ByKeys.{value_by_keys, value_by_number};
-ghost use Rattle.value_sheets.specs.Held.{Holds};
+ghost use Rattle.drawn_values.specs.Held.{Holds};
 
 use crate::held::HeldKeys;
 use crate::words::keys_of;

@@ -2,7 +2,7 @@ use Rattle.std.proofs.Common.{take, sym, subst}
 use Rattle.std.proofs.lemmas.List.{take_more}
 use Rattle.keyed_fn.specs.KeyedFn.{keyed_fn}
 use Rattle.value_sheets.specs.ByKeys.{value_by_keys}
-use Rattle.value_sheets.specs.Held.{Holds}
+use Rattle.drawn_values.specs.Held.{Holds}
 use Rattle.value_sheets.proofs.sheet.sheet_for.Goals as goal
 
 pub loop-name-preserved : goal.loop-name-preserved

@@ -1,7 +1,7 @@
 use Rattle.std.proofs.Common.{take}
 use Rattle.keyed_fn.specs.KeyedFn.{keyed_fn}
 use Rattle.value_sheets.specs.ByKeys.{value_by_keys}
-use Rattle.value_sheets.specs.Held.{Holds}
+use Rattle.drawn_values.specs.Held.{Holds}
 use Rattle.value_sheets.proofs.sheet.sheet_for.Given as goal
 
 abbrev pub invariant-loop-name : goal.invariant-loop-name

@@ -5,7 +5,7 @@ use Rattle.drawn_values.specs.NamesOnce.{Marks}
 use Rattle.drawn_values.specs.Numbered.{numbered}
 use Rattle.keyed_fn.specs.KeyedFn.{keyed_fn}
 use Rattle.sse_comparison.specs.UsedNames as used
-use Rattle.value_sheets.proofs.HeldLaws.{held, marks}
+use Rattle.drawn_values.proofs.HeldLaws.{held, marks}
 use Rattle.value_sheets.proofs.ValueLaws.{value-numbered}
 use Rattle.value_sheets.specs.ByKeys.{value_by_keys}
 use Rattle.value_sheets.proofs.sheet.sheet_of.Goals as goal

@@ -13,7 +13,7 @@ use Rattle.named_values.specs.Sheets.{Values, value_at}
 use Rattle.named_values.specs.declared.name.Name.{Name}
 use Rattle.sse_model.proofs.Members.{Contains-map}
 use Rattle.sse_model.specs.Names as model
-use Rattle.value_sheets.specs.Held.{Holds}
+use Rattle.drawn_values.specs.Held.{Holds}
 
 or_false : (b : Bool) → (b || false) ≡ b
 or_false true = refl
