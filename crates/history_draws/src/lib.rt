@@ -6,10 +6,17 @@
 #![tactic(auto)]
 
 mod bytes;
+mod counting;
 mod drawn;
 mod frames;
+mod moving;
+mod names;
+mod placing;
 mod ranking;
+mod texts;
 mod values;
 
+pub use counting::{Counted, count};
 pub use drawn::draws;
 pub use frames::wire_frames;
+pub use moving::{MoveFault, move_table};

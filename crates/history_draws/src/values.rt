@@ -11,7 +11,7 @@ use sse_frames::Items;
 use std::alloc::{AllocError, Global};
 
 /// The value of a name. Error: where the sheet has none.
-fn value_in<'a>(sheet: &'a Sheet, name: &Name) -> Result<&'a [u8], AllocError>
+pub(crate) fn value_in<'a>(sheet: &'a Sheet, name: &Name) -> Result<&'a [u8], AllocError>
     ensures { IfOk result (λ value. value.now ≡ given sheet.now name.now) }
 {
     match sheet.get(name) {
