@@ -3,4 +3,4 @@ pub mod ReplySizes
 mod Handled
 mod Kept
 mod StoreSteps
-mod Stored
+pub mod Stored

@@ -2,6 +2,7 @@
 use Rattle.std.proofs.Common.{◌≡◌, inr, ℕ, List, [], ◌∷◌, ◌++◌, refl, sym, ap, ◌∙◌, subst, append_assoc}
 use Rattle.std.specs.Prelude.{Option, Some, None, IfSome, All}
 use Rattle.std.proofs.lemmas.List.{append-nil, map-append}
+use Rattle.std.proofs.lemmas.List.Elements.{All-nil}
 use Rattle.keyed_fn.specs.KeyedFn.{KeyedFn}
 use Rattle.sse_frames.specs.Frames.{FrameText, IsFrame, body_of}
 use Rattle.sse_journal.specs.Files.{IsPayload, Gives, file}
@@ -10,10 +11,10 @@ use Rattle.server_core.specs.State.{ServerState, at_first}
 use Rattle.server_core.specs.Step.{taken, step, steps}
 use Rattle.sse_server.specs.StoreView.{StoreView, IsStoreOf}
 use Rattle.sse_server.specs.Taken.{taken_all, bodies}
-use Rattle.link_events.specs.Events.{Event, Sent, Received, IsStepped}
-use Rattle.link_events.specs.Taken.{taken_one, frames_taken, bodies_taken}
+use Rattle.link_events.specs.Events.{Event, Sent, Received, IsStepped, AreStepped}
+use Rattle.link_events.specs.Taken.{AreSent, taken_one, frames_taken, bodies_taken, NoneRefused, updates_among}
 use Rattle.link_events.specs.declared.mark.Mark.{Mark}
-use Rattle.link_events.proofs.Taken.{AreSent-sent, AreSent-received, AreSent-once, AreStepped-sent, AreStepped-received, frames_taken-push}
+use Rattle.link_events.proofs.Taken.{AreSent-sent, AreSent-received, AreSent-once, AreStepped-sent, AreStepped-received, frames_taken-push, frames_taken-updates}
 use Rattle.sse_link.specs.Stored.{HasTaken, HasStored, IsStored}
 use Rattle.sse_link.specs.Told.{Told}
 use Rattle.sse_link.proofs.StoreSteps.{IsStepOf, Takes, Leaves, step_of}
@@ -109,3 +110,11 @@ IsStored-has f told store images has payloads frames are began sent stepped =
     is.journal_is.settled.reads
     ∙ ap (λ ps. Some (file ps)) (map-append body_of here.before (frames_taken f told.began here.frames))
     ∙ (λ i. Some (file (sym same i ++ bodies_taken f told.began (one i))))
+
+-- from a server that has taken nothing, with the journal of nothing, and where no frame is refused: it is the journal of the updates
+pub IsStored-updates : (f : KeyedFn) (told : Told) (frames : List FrameText) → IsStored f told → told.began ≡ at_first → told.began_file ≡ Some (file []) → AreSent frames told.events → AreStepped told.events → NoneRefused at_first frames
+    → told.file ≡ Some (file (bodies (updates_among frames)))
+IsStored-updates f told frames stored began empty sent stepped accepted =
+    stored [] frames (All-nil IsPayload) empty sent stepped
+    ∙ ap (λ s. Some (file (bodies_taken f s frames))) began
+    ∙ ap (λ fs. Some (file (bodies fs))) (frames_taken-updates f at_first frames accepted)
