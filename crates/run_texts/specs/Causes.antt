@@ -27,6 +27,21 @@ abbrev pub LinkCause : ℕ → ℕ → StopCause → Type 0
 LinkCause before now (stops.Command stop) = CommandCause before now stop
 LinkCause before now _ = now ≡ before
 
+-- of what keeps the records, in keeping one
+abbrev pub KeepCause : ℕ → ℕ → DeviceFault → Type 0
+KeepCause before now devices.Failed = Rose before now
+KeepCause before now devices.NoMemory = now ≡ before
+
+-- the same in a command
+abbrev pub KeepCommandCause : ℕ → ℕ → CommandStop → Type 0
+KeepCommandCause before now (commands.Keeping fault) = KeepCause before now fault
+KeepCommandCause before now _ = now ≡ before
+
+-- the same in a run
+abbrev pub RecorderCause : ℕ → ℕ → StopCause → Type 0
+RecorderCause before now (stops.Command stop) = KeepCommandCause before now stop
+RecorderCause before now _ = now ≡ before
+
 -- of the source, in reading a line
 abbrev pub InputCause : ℕ → ℕ → InputStop → Type 0
 InputCause before now inputs.Source = Rose before now
@@ -50,6 +65,11 @@ PrintCause before now devices.NoMemory = now ≡ before
 -- what every part of a run keeps of the source: its count stays where that part went well, and else shows the cause as
 -- this says
 pub record KeepsSource {T E : Type 0} (showing : ℕ → ℕ → E → Type 0) (before now : ℕ) (result : Result T E) : Type 0 where
+  pub steady : OnOk result (now ≡ before)
+  pub cause : IfErr result (showing before now)
+
+-- and of what keeps the records
+pub record KeepsRecorder {T E : Type 0} (showing : ℕ → ℕ → E → Type 0) (before now : ℕ) (result : Result T E) : Type 0 where
   pub steady : OnOk result (now ≡ before)
   pub cause : IfErr result (showing before now)
 

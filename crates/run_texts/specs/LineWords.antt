@@ -1,5 +1,5 @@
 -- How many words of a document a line has.
-use Rattle.std.specs.Prelude.{ℕ, List, length}
+use Rattle.std.specs.Prelude.{ℕ, length}
 use Rattle.sse_script.specs.Lines.{Line, Empty, Key, Doc, SetupLine, AddLine, Del, Find}
 
 -- the words after the identifier, in a line that has one with words

@@ -3,7 +3,7 @@ use Rattle.std.specs.Prelude.{ℕ, List, [], Option, None, Some}
 use Rattle.std.specs.Option.{option_map_or}
 use Rattle.sse_outside.specs.declared.device_fault.DeviceFault.{DeviceFault}
 use Rattle.sse_outside.specs.declared.device_fault.DeviceFault.TheVariants as devices
-use Rattle.sse_script.specs.Shown.{Cause, Stopped, BadWords, BadLine, SourceFault, LinkFault, NoMemory, LabelClash, PlaceClash, NumberClash, Clash, PeerElsewhere, BadReply}
+use Rattle.sse_script.specs.Shown.{Cause, Stopped, BadWords, BadLine, SourceFault, LinkFault, DiskFault, NoMemory, LabelClash, PlaceClash, NumberClash, Clash, PeerElsewhere, BadReply}
 use Rattle.sse_script.specs.Stops.{cause_status}
 use Rattle.sse_script.specs.Texts.{text_of}
 use Rattle.sse_script.specs.declared.read_stop.ReadStop.{ReadStop}
@@ -50,9 +50,15 @@ peer_cause (peers.Clash what place) = Clash what place
 peer_cause (peers.Elsewhere got) = PeerElsewhere 0 0 got
 peer_cause (peers.BadReply start) = BadReply start
 
+-- where the record of a command isn't kept
+abbrev pub keep_cause : DeviceFault → Cause
+keep_cause devices.Failed = DiskFault
+keep_cause devices.NoMemory = NoMemory
+
 -- where a command does
 abbrev pub command_cause : CommandStop → Cause
 command_cause (commands.Planning stop) = plan_cause stop
+command_cause (commands.Keeping fault) = keep_cause fault
 command_cause (commands.Exchange stop) = peer_cause stop
 
 -- the cause that is printed; none where the sink is what failed

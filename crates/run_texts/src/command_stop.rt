@@ -1,12 +1,15 @@
 ghost use Rattle.std.specs.Prelude.{◌≡◌};
 
 use crate::{PeerStop, PlanStop};
+use sse_outside::DeviceFault;
 
 /// What ends a run in a command.
 #[derive(Drop)]
 pub enum CommandStop {
-    /// Nothing of it was sent.
+    /// It wasn't planned.
     Planning(PlanStop),
+    /// Its record wasn't kept, and nothing of it was sent.
+    Keeping(DeviceFault),
     /// It ended in the exchange with the server.
     Exchange(PeerStop),
 }
@@ -18,6 +21,16 @@ impl From<PlanStop> for CommandStop {
 
     fn from(stop: PlanStop) -> CommandStop {
         CommandStop::Planning(stop)
+    }
+}
+
+impl From<DeviceFault> for CommandStop {
+    ghost use Rattle.run_texts.specs.declared.command_stop.CommandStop.TheVariants.{Keeping};
+
+    ghost from_gives = { λ fault stop. stop ≡ Keeping fault };
+
+    fn from(fault: DeviceFault) -> CommandStop {
+        CommandStop::Keeping(fault)
     }
 }
 

@@ -30,7 +30,8 @@ impl StopCause {
         ensures source { result ≡ 3 → self.now ≡ StopCause.Input InputStop.Source }
         ensures sink { result ≡ 4 → self.now ≡ StopCause.Sink }
         ensures link { result ≡ 5 → self.now ≡ StopCause.Command (CommandStop.Exchange PeerStop.Link) }
-        ensures known { (2 ≤ result) × (result ≤ 9) × (result ≢ 6) }
+        ensures disk { result ≡ 6 → self.now ≡ StopCause.Command (CommandStop.Keeping DeviceFault.Failed) }
+        ensures known { (2 ≤ result) × (result ≤ 9) }
     {
         match self {
             StopCause::Words => 2,
@@ -41,6 +42,8 @@ impl StopCause {
             StopCause::Memory => 7,
             StopCause::Command(CommandStop::Planning(PlanStop::Memory)) => 7,
             StopCause::Command(CommandStop::Planning(_)) => 8,
+            StopCause::Command(CommandStop::Keeping(DeviceFault::Failed)) => 6,
+            StopCause::Command(CommandStop::Keeping(DeviceFault::NoMemory)) => 7,
             StopCause::Command(CommandStop::Exchange(stop)) => peer_status(stop),
         }
     }
@@ -55,6 +58,10 @@ impl StopCause {
             StopCause::Sink => None,
             StopCause::Memory => Some(Cause::NoMemory),
             StopCause::Command(CommandStop::Planning(stop)) => Some(cause_of_plan(*stop)),
+            StopCause::Command(CommandStop::Keeping(DeviceFault::Failed)) => Some(Cause::DiskFault),
+            StopCause::Command(CommandStop::Keeping(DeviceFault::NoMemory)) => Some(
+                Cause::NoMemory,
+            ),
             StopCause::Command(CommandStop::Exchange(stop)) => Some(cause_of_peer(stop)),
         }
     }
