@@ -26,7 +26,7 @@ use Rattle.sse_model.specs.Drawn.{IsCollisionFree}
 use Rattle.sse_model.specs.Epochs.{keys_under}
 use Rattle.sse_model.specs.Histories.{table_of, frames_sent}
 use Rattle.sse_script.specs.Shown.{Added, Found}
-use Rattle.script_meaning.specs.Carries.{Carries, frames_by}
+use Rattle.script_meaning.specs.Carries.{Carries, frames_by, records_by}
 use Rattle.script_meaning.specs.Continues.{at_run, GoesOn, frames_since, Continued}
 use Rattle.script_meaning.specs.Headline.{IsOverHonest}
 use Rattle.script_meaning.specs.Lines.{Command as CommandLine}
@@ -102,23 +102,28 @@ greeted = sent Hello ∷ received (Next 3) ∷ []
 abbrev passing : List Event
 passing = greeted ++ acknowledged 3 adding ++ map sent asking ++ received (Page true (1 ∷ 5 ∷ [])) ∷ []
 
+abbrev records : List (List ℕ)
+records = records_by toy (at_run key docs run) (Does (Add (document 5 (a ∷ [])) ∷ []) (Added 5))
+
 abbrev added_text : List ℕ
 added_text = codes "added 5\n"
 
 abbrev text : List ℕ
 text = added_text ++ codes "found 2: 1 5\n"
 
-adds_row : Carries toy (at_run key docs run) (Does (Add (document 5 (a ∷ [])) ∷ []) (Added 5)) (seen greeted []) (seen (greeted ++ acknowledged 3 adding) added_text)
+adds_row : Carries toy (at_run key docs run) (Does (Add (document 5 (a ∷ [])) ∷ []) (Added 5)) (seen greeted [] []) (seen (greeted ++ acknowledged 3 adding) records added_text)
 unfolding digits
 adds_row = record {
+  kept = refl;
   answers = [];
   sent = record { events = acknowledged 3 adding; adds = refl; exchanged = record { ids = All-nil (All IsIdentifier); count = refl; each = refl }; no_clash = refl };
   printed = refl;
 }
 
-finds_row : Carries toy added finds (seen (greeted ++ acknowledged 3 adding) added_text) (seen passing text)
+finds_row : Carries toy added finds (seen (greeted ++ acknowledged 3 adding) records added_text) (seen passing records text)
 unfolding digits
 finds_row = record {
+  kept = refl;
   answers = (1 ∷ 5 ∷ []) ∷ [];
   sent = record {
     events = map sent asking ++ received (Page true (1 ∷ 5 ∷ [])) ∷ [];
@@ -134,18 +139,18 @@ finds_row = record {
 }
 
 abbrev end : Ended
-end = ended (seen passing text) (Some key) (longer more (Some run)) (AtEnd false)
+end = ended (seen passing records text) (Some key) (longer more (Some run)) (AtEnd false)
 
 -- the number is one of 2 and 3
-greeted_row : IsGreeted 2 3 (seen [] []) (seen greeted [])
-greeted_row = record { greets = record { next = 3; least = lit≤ tt; most = lit≤ tt; events = greeted; adds = refl; each = refl }; unprinted = refl }
+greeted_row : IsGreeted 2 3 (seen [] [] []) (seen greeted [] [])
+greeted_row = record { greets = record { next = 3; least = lit≤ tt; most = lit≤ tt; events = greeted; adds = refl; each = refl }; unkept = refl; unprinted = refl }
 
-goes_on_row : GoesOn toy 2 3 (at_run key docs run) 1 lines false (seen [] []) end
+goes_on_row : GoesOn toy 2 3 (at_run key docs run) 1 lines false (seen [] [] []) end
 unfolding utf8_valid_len is_utf8 chars encode
 goes_on_row = inr (
-  seen greeted [],
+  seen greeted [] [],
   greeted_row,
-  inr (inr (seen (greeted ++ acknowledged 3 adding) added_text, adds_row, inr (inr (seen passing text, finds_row, inl refl)))),
+  inr (inr (seen (greeted ++ acknowledged 3 adding) records added_text, adds_row, inr (inr (seen passing records text, finds_row, inl refl)))),
 )
 
 -- it is honest
@@ -167,7 +172,7 @@ honest_row =
     }
 
 -- so what is said of such sessions is said of this one
-continued_row : Continued toy before key run (follow (at_run key docs run) 1 lines false) (seen [] []) (seen passing text) 0 (steps toy before frames).0
+continued_row : Continued toy before key run (follow (at_run key docs run) 1 lines false) (seen [] [] []) (seen passing records text) 0 (steps toy before frames).0
 unfolding utf8_valid_len is_utf8 chars encode
 continued_row = continued toy toy_laws key run before held_row docs 2 1 lines false (lit< tt, (tt, tt)) kept_row 2 3 (lit< tt) (omega (arith, next_row)) (omega (arith, next_row))
-    (seen [] []) end goes_on_row (steps toy before frames).0 honest_row (seen passing text) (record { told = refl; q = 0; printed = sym (append_known-nothing (Some text)) }) whole_free_row calm_row
+    (seen [] [] []) end goes_on_row (steps toy before frames).0 honest_row (seen passing records text) (record { told = refl; kept = refl; q = 0; printed = sym (append_known-nothing (Some text)) }) whole_free_row calm_row

@@ -2,14 +2,15 @@
 -- that, no collision and no reply stops it where the history up to its stop has no collision; and where nothing stopped it from
 -- outside either, it did what its lines mean.
 use Rattle.std.proofs.Common.{◌≡◌, ℕ, Bool, ◌^◌, ◌<◌, ◌≤◌, inl, inr, List, [], ◌∷◌, ◌++◌, length, map, take, Some, None, refl, sym, ap, ◌∙◌, subst, arith, length-append}
-use Rattle.std.specs.Prelude.{flat_map, Option}
+use Rattle.std.specs.Prelude.{filter, flat_map, Option, option_map}
 use Rattle.std.specs.Io.KnownBytes.{append_known}
 use Rattle.std.specs.List.{AllByRecursion}
 use Rattle.std.proofs.lemmas.List.{append_cancel_left, map-append}
 use Rattle.std.proofs.lemmas.List.Concat.{flat_map-append}
 use Rattle.client_registry.proofs.HistoryLaws.{IsKept-first, whole_run}
 use Rattle.client_registry.proofs.OverLaws.{over-append}
-use Rattle.client_registry.specs.Command.{Command}
+use Rattle.client_records.specs.Records.{update_record}
+use Rattle.client_registry.specs.Command.{Command, is_update}
 use Rattle.client_registry.specs.Document.{Document}
 use Rattle.client_registry.specs.Histories.{IsKept, IsFirstOf, longer, shown_by, shown_in_turn, found_in_turn}
 use Rattle.client_registry.specs.Live.{in_order}
@@ -37,6 +38,7 @@ use Rattle.script_meaning.specs.Goes.{Passes, HasPassed, Goes}
 use Rattle.script_meaning.specs.Headline.{IsOverHonest, IsUndisturbed}
 use Rattle.script_meaning.specs.Lines.{Line}
 use Rattle.script_meaning.specs.Meaning.{Meaning, follow}
+use Rattle.script_meaning.specs.Recorded.{records_in}
 use Rattle.script_meaning.specs.Runs.{Ended, Ends}
 use Rattle.script_meaning.specs.Session.{IsFree}
 use Rattle.script_meaning.specs.Stops.{status_of, stop_text}
@@ -44,6 +46,7 @@ use Rattle.script_meaning.proofs.Following.{finds, finds-follow, first-follow, f
 use Rattle.script_meaning.proofs.Going.{Adds-joined, Prints-none}
 use Rattle.script_meaning.proofs.Headline.{AreAnswered, session_outside, session_whole, same_events, with_answers-finds, few, IsFree-first}
 use Rattle.script_meaning.proofs.Kept.{IsWithinItem, IsKeptAt, kept_follow}
+use Rattle.script_meaning.proofs.Recorded.{records-longer, kept_since}
 use Rattle.script_meaning.proofs.RunGoes.{turned_status, went}
 
 -- what holds of each of two lists holds of each of the second
@@ -146,6 +149,19 @@ module _ (f : KeyedFn) (laws : IsKeyedFn f) (key : List ℕ) (run : Run) (before
         append-none [] = refl
         append-none (x ∷ xs) = ap (λ more. x ∷ more) (append-none xs)
 
+    -- at its end the records after the run were kept
+    kept_on : status_of end.stop ≤ 2 → (more : List Command) → end.history ≡ longer more (Some run) → Adds now.kept end.outside.kept (map update_record (filter is_update more))
+    kept_on low_status more history = elim goes_on [
+      | inl away ↦ absurd (omega (arith, low_status, ap status_of away.stops, turned_status low high away.away.events away.cause away.away.turned))
+      | inr opened ↦
+          let w = kept_since f (at_run key docs run) number lines refused opened.0 end opened.2 in
+          let held : w.held ≡ longer more (Some run) = w.whole (λ e. absurd (omega (arith, low_status, e))) (λ e. absurd (omega (arith, low_status, e))) (λ e. absurd (omega (arith, low_status, e))) ∙ history in
+          let same : w.records ≡ map update_record (filter is_update more) =
+          append_cancel_left (records_in f key (Some run)) w.records (map update_record (filter is_update more))
+          (sym w.are ∙ ap (records_in f key) held ∙ records-longer f key (Some run) more refl) in
+          w.kept ∙ (λ i. option_map (λ told. told ++ same i) (opened.1.unkept i))
+    ]
+
     module _ (state : ServerState) (honest : IsOverHonest f before now.told end.outside.told state) where
       served : (events : List Event) → Adds now.told end.outside.told events → IsServed f (idle before) events (idle state)
       served events adds = subst (λ es. IsServed f (idle before) es (idle state)) (same_events honest.past honest.events events now.told end.outside.told honest.told honest.adds adds) honest.honest
@@ -207,6 +223,7 @@ module _ (f : KeyedFn) (laws : IsKeyedFn f) (key : List ℕ) (run : Run) (before
                 history = history;
                 events = o.greets.events ++ o.passes.events;
                 adds = subst (λ told. Adds now.told told (o.greets.events ++ o.passes.events)) (sym ends.told) (Adds-joined now.told o.greeted end.outside.told o.greets.events o.passes.events o.greets.adds o.passes.adds);
+                kept = ends.kept ∙ kept_on low_status commands behind.1;
                 passed = all.2;
                 stored = all.1;
               }

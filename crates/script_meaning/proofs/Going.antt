@@ -27,11 +27,11 @@ use Rattle.script_meaning.proofs.Following.{finds}
 
 -- Events.
 
-pub Adds-nothing : (told : Told) → Adds told told []
+pub Adds-nothing : {A : Type 0} (told : Option (List A)) → Adds told told []
 Adds-nothing None = refl
-Adds-nothing (Some events) = ap (λ es. Some es) (sym (append-nil events))
+Adds-nothing (Some all) = ap (λ xs. Some xs) (sym (append-nil all))
 
-pub Adds-joined : (old between new : Told) (xs ys : List Event) → Adds old between xs → Adds between new ys → Adds old new (xs ++ ys)
+pub Adds-joined : {A : Type 0} (old between new : Option (List A)) (xs ys : List A) → Adds old between xs → Adds between new ys → Adds old new (xs ++ ys)
 Adds-joined None between new xs ys first second = second ∙ ap (option_map (λ told. told ++ ys)) first
 Adds-joined (Some told) between new xs ys first second = second ∙ ap (option_map (λ told. told ++ ys)) first ∙ ap (λ es. Some es) (append_assoc told xs ys)
 

@@ -38,13 +38,15 @@ use Rattle.script_meaning.specs.Lines.{Line, Empty, Key, Command, script_lines}
 use Rattle.script_meaning.specs.Meaning.{Meaning, meant_from, meaning}
 use Rattle.script_meaning.specs.Outcome.{opened}
 use Rattle.script_meaning.specs.Runs.{Ended, Opens, Ends}
-use Rattle.sse_leakage.proofs.Sessions.{session_is_simulated}
-use Rattle.script_meaning.specs.Session.{session_with, session_of, simulated_with, frames_with, frames_of, IsFree}
+use Rattle.script_meaning.specs.Recorded.{records_with}
+use Rattle.script_meaning.specs.Session.{session_with, session_of, frames_with, frames_of, IsFree}
 use Rattle.script_meaning.specs.Stops.{status_of, stop_text}
 use Rattle.script_meaning.proofs.Following.{finds, follow-key, finds-meant}
 use Rattle.script_meaning.proofs.Going.{Adds-nothing, Adds-joined}
 use Rattle.script_meaning.proofs.Honest.{IsServed-bare, behind, cut_outside, behind_greeted, turned_outside}
+use Rattle.script_meaning.proofs.Recorded.{recorded}
 use Rattle.script_meaning.proofs.RunGoes.{goes, turned_status}
+use Rattle.script_meaning.proofs.Simulated.{session_with-simulated}
 use Rattle.script_meaning.proofs.Within.{meaning_is_kept}
 
 -- what passed is one list of events, where the link tells it
@@ -90,7 +92,8 @@ module _ (f : KeyedFn) (start : Served) (frames : List FrameText) (shown : List 
   passes_outside now end answers p free_end served = elim p.left [
     | inl whole ↦ whole.2
     | inr (inl cut) ↦ subst (λ stop. status_of stop ≤ 7) (sym cut.1) (by cut.0 cut.2)
-    | inr (inr collision) ↦ absurd (collision.1 free_end)
+    | inr (inr (inl disk)) ↦ omega (arith, ap status_of disk.1)
+    | inr (inr (inr collision)) ↦ absurd (collision.1 free_end)
   ]
     where
       by : (cause : Cause) → IsCut (drop p.n frames) p.cut cause → cause_status cause ≤ 7
@@ -195,11 +198,6 @@ keyless number (Some Empty ∷ lines) none = keyless (number + 1) lines none
 keyless number (Some (Key key) ∷ lines) none = absurd (let no : Some key ≡ None = sym (follow-key (opened key) (number + 1) lines false) ∙ none in cc)
 keyless number (Some (Command line) ∷ lines) none = refl
 
--- all that passes under a key is what the simulator makes
-pub session_with-simulated : (f : KeyedFn) (key : Option (List ℕ)) (h : History) → IsKept h → simulated_with f key h ≡ Some (session_with f key h)
-session_with-simulated f None h kept = refl
-session_with-simulated f (Some key) h kept = session_is_simulated f (keys_under key h) h kept
-
 pub few : (status : ℕ) → status ≤ 7 → IsUndisturbed status → status ≤ 2
 few status outside calm =
     let source = calm.source in
@@ -287,7 +285,9 @@ module _ (f : KeyedFn) (laws : IsKeyedFn f) (bytes : List ℕ) (now : Outside) (
     headline last ends free calm =
         let low : status_of end.stop ≤ 2 = few (status_of end.stop) (honest_status (IsFree-first f end.key m.key end.history m.history g.key g.history free)) calm in
         let well = g.ended low in
-        let all = whole free low in record {
+        let all = whole free low in
+        let records = recorded f 1 (script_lines bytes) now end opens in
+        let history : records.held ≡ m.history = records.whole (λ e. absurd (omega (arith, low, e))) (λ e. absurd (omega (arith, low, e))) (λ e. absurd (omega (arith, low, e))) ∙ well.2 in record {
           status_is = ap status_of well.0;
           q = ends.q;
           printed =
@@ -299,5 +299,6 @@ module _ (f : KeyedFn) (laws : IsKeyedFn f) (bytes : List ℕ) (now : Outside) (
           adds = subst (λ told. Adds now.told told all.events) (sym ends.told) all.adds;
           session = all.session;
           simulated = record { passed = session_of f m; made = session_with-simulated f m.key m.history kept; same = all.session };
+          kept = ends.kept ∙ records.kept ∙ (λ i. option_map (λ told. told ++ records_with f (well.1 i) (history i)) now.kept);
           stored = all.stored;
         }

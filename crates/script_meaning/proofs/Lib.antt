@@ -7,11 +7,12 @@ pub mod Following
 pub mod Going
 pub mod RunGoes
 pub mod Honest
+pub mod Sent
+pub mod Simulated
+pub mod Recorded
 pub mod Headline
 pub mod Continuing
 mod RunRows
 mod UpdateRows
 mod ContinuedRows
-pub mod Sent
 mod ClashRows
-pub mod Simulated

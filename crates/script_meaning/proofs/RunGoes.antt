@@ -16,10 +16,10 @@ use Rattle.link_events.specs.Events.{Event, Sent, Received}
 use Rattle.sse_model.specs.Compared.{Collision, Labels, Places, Numbers}
 use Rattle.sse_model.specs.Epochs.{keys_under}
 use Rattle.sse_model.specs.Histories.{frames_sent, HasNoCollision}
-use Rattle.sse_script.specs.Shown.{Cause, NoMemory}
+use Rattle.sse_script.specs.Shown.{Cause, DiskFault, NoMemory}
 use Rattle.sse_script.specs.Stops.{cause_status}
 use Rattle.sse_script.specs.TextLines.{lines_of}
-use Rattle.script_meaning.specs.Carries.{Outside, keys_at, frames_by, collision_cause, clash_in_hand, text_with, Carries, FindsClash, IsCutShort, IsUnprinted}
+use Rattle.script_meaning.specs.Carries.{Outside, keys_at, frames_by, collision_cause, clash_in_hand, text_with, Carries, FindsClash, LacksMemory, IsUnkept, IsCutShort, IsUnprinted}
 use Rattle.script_meaning.specs.Exchange.{Told, Adds, AreCut, IsCut}
 use Rattle.script_meaning.specs.Goes.{Passes, Prints, GoesFirst}
 use Rattle.script_meaning.specs.Greeting.{IsTurned}
@@ -36,7 +36,7 @@ use Rattle.script_meaning.proofs.Going.{Adds-nothing, AreExchanged-none, append_
 
 -- Which statuses a stop within a line has.
 
-clash_status : (o : Option Collision) (cause : Cause) → option_map collision_cause o ≡ Some cause → cause_status cause ≡ 8
+pub clash_status : (o : Option Collision) (cause : Cause) → option_map collision_cause o ≡ Some cause → cause_status cause ≡ 8
 clash_status None cause e = absurd (cc)
 clash_status (Some (Labels first second)) cause e = ap cause_status (let same : cause ≡ collision_cause (Labels first second) = cc in same)
 clash_status (Some (Places first second)) cause e = ap cause_status (let same : cause ≡ collision_cause (Places first second) = cc in same)
@@ -143,7 +143,7 @@ module _ (f : KeyedFn) where
               cut = [];
               parts = refl;
               exchanged = AreExchanged-none;
-              left = inr (inr (refl, λ free. never c.cause c.found (no_clash-next f place line kept (subst (λ h. HasNoCollision f (keys_at place) h) s.history (subst (λ k. IsFree f k end.history) s.key free)))));
+              left = inr (inr (inr (refl, λ free. never c.cause c.found (no_clash-next f place line kept (subst (λ h. HasNoCollision f (keys_at place) h) s.history (subst (λ k. IsFree f k end.history) s.key free))))));
               whole = λ few. absurd (omega (arith, few, status));
             };
             prints = Prints-none whole [] now.written end.outside.written (ap (λ (o : Outside). o.written) c.nothing);
@@ -152,6 +152,47 @@ module _ (f : KeyedFn) where
         where
           never : (cause : Cause) → clash_in_hand f place result ≡ Some cause → clash_in_hand f place result ≡ None → ⊥
           never cause some none = cc
+
+      -- nothing of it was sent, and nothing printed
+      went-unsent : (cause : Cause) → end.stop ≡ At cause → (cause ≡ DiskFault) ⊎ (cause ≡ NoMemory) → end.outside.told ≡ now.told → end.outside.written ≡ now.written → Went f place.key place.history whole now end
+      went-unsent cause stops which unsent unprinted =
+          let status : 6 ≤ status_of end.stop = elim which [ inl disk ↦ omega (arith, ap status_of stops, ap cause_status disk) | inr memory ↦ omega (arith, ap status_of stops, ap cause_status memory) ] in record {
+            same_key = s.key;
+            history = first_of;
+            since = since_of;
+            more = frames_by f place result;
+            frames = frames_of;
+            answers = [];
+            passes = record {
+              events = [];
+              adds = unsent ∙ Adds-nothing now.told;
+              n = 0;
+              before = [];
+              cut = [];
+              parts = refl;
+              exchanged = AreExchanged-none;
+              left = elim which [
+                | inl disk ↦ inr (inr (inl (refl, stops ∙ ap (λ c. At c) disk)))
+                | inr memory ↦ inr (inl (NoMemory, stops ∙ ap (λ c. At c) memory, nothing_of (frames_by f place result)))
+              ];
+              whole = λ few. absurd (omega (arith, few, status));
+            };
+            prints = Prints-none whole [] now.written end.outside.written unprinted;
+            ended_well = λ few. absurd (omega (arith, few, status));
+          }
+        where
+          nothing_of : (frames : List FrameText) → IsCut frames [] NoMemory
+          nothing_of [] = (refl, refl)
+          nothing_of (frame ∷ frames) = inr refl
+
+      went-memory : LacksMemory now end.outside end.stop → Went f place.key place.history whole now end
+      went-memory c = went-unsent NoMemory c.stops (inr refl) (ap (λ (o : Outside). o.told) c.nothing) (ap (λ (o : Outside). o.written) c.nothing)
+
+      went-unkept : IsUnkept f place result now end.outside end.stop → Went f place.key place.history whole now end
+      went-unkept u = elim u.stops [
+        | inl disk ↦ went-unsent DiskFault disk (inl refl) u.unsent u.unprinted
+        | inr memory ↦ went-unsent NoMemory memory (inr refl) u.unsent u.unprinted
+      ]
 
       went-cut : IsCutShort f place result now end.outside end.stop → Went f place.key place.history whole now end
       went-cut c = record {
@@ -191,7 +232,13 @@ module _ (f : KeyedFn) where
           by stop (inr memory) = (omega (arith, ap status_of memory), omega (arith, ap status_of memory))
 
       went-stopped : Went f place.key place.history whole now end
-      went-stopped = elim s.within [ inl c ↦ went-clash c | inr (inl c) ↦ went-cut c | inr (inr u) ↦ went-unprinted u ]
+      went-stopped = elim s.within [
+        | inl c ↦ went-clash c
+        | inr (inl c) ↦ went-memory c
+        | inr (inr (inl u)) ↦ went-unkept u
+        | inr (inr (inr (inl c))) ↦ went-cut c
+        | inr (inr (inr (inr u))) ↦ went-unprinted u
+      ]
 
     -- A line that is carried out.
 

@@ -1,6 +1,6 @@
 -- A short script under the toy function, with a setup, a search and its answer, meets all that the headline supposes; and
 -- its session, cut by a fault of the link after each of its events, is a run that shows this cause.
-use Rattle.std.proofs.Common.{◌≡◌, ℕ, ◌+◌, inl, inr, true, false, List, [], ◌∷◌, ◌++◌, map, take, drop, Some, None, refl, sym, subst, arith, lit≤}
+use Rattle.std.proofs.Common.{◌≡◌, ◌⊎◌, ℕ, ◌+◌, inl, inr, true, false, List, [], ◌∷◌, ◌++◌, map, take, drop, Some, None, refl, sym, ap, subst, arith, lit≤}
 use Rattle.std.specs.Prelude.{codes, replicate, All}
 use Rattle.std.specs.Fmt.{digits}
 use Rattle.std.specs.FinMap as map
@@ -31,12 +31,14 @@ use Rattle.sse_model.proofs.CollisionTest.{IsCollisionFree-from_test}
 use Rattle.sse_model.proofs.HistoryLaws.{frames_sent-in_grammar}
 use Rattle.sse_model.specs.Drawn.{IsCollisionFree}
 use Rattle.sse_model.specs.Histories.{table_of}
-use Rattle.sse_script.specs.Shown.{LinkFault}
+use Rattle.sse_script.specs.Shown.{DiskFault, LinkFault}
 use Rattle.sse_script.specs.Shown.{Found}
 use Rattle.line_documents.specs.LineDocument.{document}
 use Rattle.script_meaning.proofs.Headline.{headline}
 use Rattle.script_meaning.proofs.Within.{meaning_is_kept}
 use Rattle.script_meaning.proofs.Going.{Adds-nothing, AreExchanged-none, append_known-nothing}
+use Rattle.client_records.specs.Records.{setup_record}
+use Rattle.keyed_fn.specs.KeyFormulas.{mark_of}
 use Rattle.script_meaning.specs.Carries.{Outside, Carries, frames_by}
 use Rattle.script_meaning.specs.Exchange.{AreExchanged, AreCut, IsCut, IsAwaiting, bare, as_event}
 use Rattle.script_meaning.specs.Greeting.{IsTurned}
@@ -120,60 +122,67 @@ set_up_text = codes "set up 1 words 0 blocks\n"
 abbrev found_text : List ℕ
 found_text = codes "found 1: 1\n"
 
-abbrev pub seen : List Event → List ℕ → Outside
-seen events text = record { told = Some events; written = Some text }
+abbrev pub seen : List Event → List (List ℕ) → List ℕ → Outside
+seen events records text = record { told = Some events; kept = Some records; written = Some text }
+
+abbrev pub set_up_records : List (List ℕ)
+set_up_records = setup_record (mark_of toy key) setup ∷ []
 
 -- The run.
 
 pub collects_row : (o : Outside) → Carries toy (opened key) (Collects (document 1 (a ∷ []))) o o
 collects_row o = record {
+  kept = Adds-nothing o.kept;
   answers = [];
   sent = record { events = []; adds = Adds-nothing o.told; exchanged = AreExchanged-none; no_clash = refl };
   printed = sym (append_known-nothing o.written);
 }
 
-pub sets_up_row : Carries toy place (SetsUp setup) (seen greeting []) (seen (greeting ++ acknowledged 0 setting_up) set_up_text)
+pub sets_up_row : Carries toy place (SetsUp setup) (seen greeting [] []) (seen (greeting ++ acknowledged 0 setting_up) set_up_records set_up_text)
 unfolding digits
 sets_up_row = record {
+  kept = refl;
   answers = [];
   sent = record { events = acknowledged 0 setting_up; adds = refl; exchanged = setup_row; no_clash = refl };
   printed = refl;
 }
 
-finds_row : Carries toy searching (Does (Search a ∷ []) (Found (1 ∷ []))) (seen (greeting ++ acknowledged 0 setting_up) set_up_text) (seen passing (set_up_text ++ found_text))
+finds_row : Carries toy searching (Does (Search a ∷ []) (Found (1 ∷ []))) (seen (greeting ++ acknowledged 0 setting_up) set_up_records set_up_text) (seen passing set_up_records (set_up_text ++ found_text))
 unfolding digits
 finds_row = record {
+  kept = refl;
   answers = (1 ∷ []) ∷ [];
   sent = record { events = answered; adds = refl; exchanged = search_row; no_clash = refl };
   printed = refl;
 }
 
 abbrev end : Ended
-end = ended (seen passing (set_up_text ++ found_text)) (Some key) (Some run) (AtEnd false)
+end = ended (seen passing set_up_records (set_up_text ++ found_text)) (Some key) (Some run) (AtEnd false)
 
-pub greeted_row : IsGreeted 0 0 (seen [] []) (seen greeting [])
-greeted_row = record { greets = record { next = 0; least = lit≤ tt; most = lit≤ tt; events = greeting; adds = refl; each = refl }; unprinted = refl }
+pub greeted_row : IsGreeted 0 0 (seen [] [] []) (seen greeting [] [])
+greeted_row = record { greets = record { next = 0; least = lit≤ tt; most = lit≤ tt; events = greeting; adds = refl; each = refl }; unkept = refl; unprinted = refl }
 
-opens_row : Opens toy 1 (script_lines script) (seen [] []) end
+opens_row : Opens toy 1 (script_lines script) (seen [] [] []) end
 unfolding hex_on_literals utf8_valid_len is_utf8 chars encode
 opens_row = inr (inr (
-  seen greeting [],
+  seen greeting [] [],
   greeted_row,
   inr (inr (
-    seen greeting [],
-    collects_row (seen greeting []),
+    seen greeting [] [],
+    collects_row (seen greeting [] []),
     inr (inr (
-      seen (greeting ++ acknowledged 0 setting_up) set_up_text,
+      seen (greeting ++ acknowledged 0 setting_up) set_up_records set_up_text,
       sets_up_row,
-      inr (inr (seen passing (set_up_text ++ found_text), finds_row, inl refl)),
+      inr (inr (seen passing set_up_records (set_up_text ++ found_text), finds_row, inl refl)),
     )),
   )),
 ))
 
 -- over a link that lies, what was received is printed
-lies_row : Carries toy searching (Does (Search a ∷ []) (Found (1 ∷ []))) (seen [] []) (seen (map sent asking ++ received (Page true (77 ∷ [])) ∷ []) (codes "found 1: 77\n"))
+lies_row : Carries toy searching (Does (Search a ∷ []) (Found (1 ∷ []))) (seen [] [] []) (seen (map sent asking ++ received (Page true (77 ∷ [])) ∷ []) [] (codes "found 1: 77\n"))
 unfolding digits
 lies_row = record {
+  kept = refl;
   answers = (77 ∷ []) ∷ [];
   sent = record {
     events = map sent asking ++ received (Page true (77 ∷ [])) ∷ [];
@@ -240,10 +249,10 @@ calm_row = record {
 }
 
 -- so what is said of such runs is said of this one
-headline_row : Headline toy server.at_first (meaning script) (seen [] []) (seen passing (set_up_text ++ found_text)) 0 (steps toy server.at_first frames).0
+headline_row : Headline toy server.at_first (meaning script) (seen [] [] []) (seen passing set_up_records (set_up_text ++ found_text)) 0 (steps toy server.at_first frames).0
 unfolding hex_on_literals utf8_valid_len is_utf8 chars encode
-headline_row = headline toy toy_laws script (seen [] []) end opens_row server.at_first (steps toy server.at_first frames).0 (record { next = refl; stage = refl }) honest_row (seen passing (set_up_text ++ found_text))
-    (record { told = refl; q = 0; printed = sym (append_known-nothing (Some (set_up_text ++ found_text))) }) free_row calm_row
+headline_row = headline toy toy_laws script (seen [] [] []) end opens_row server.at_first (steps toy server.at_first frames).0 (record { next = refl; stage = refl }) honest_row (seen passing set_up_records (set_up_text ++ found_text))
+    (record { told = refl; kept = refl; q = 0; printed = sym (append_known-nothing (Some (set_up_text ++ found_text))) }) free_row calm_row
 
 -- The same session, cut by the link after so many of its events.
 
@@ -261,71 +270,96 @@ cut_at fs n before cut exchanged one_more = record { n = n; answers = []; before
 first_frames : (n : ℕ) → map bare (acknowledged 0 (take n setting_up)) ≡ map as_event (exchange [] (take n setting_up)) → 0 ≡ searches (take n setting_up) → AreExchanged [] (take n setting_up) (acknowledged 0 (take n setting_up))
 first_frames n each count = record { ids = All-nil (All IsIdentifier); count = count; each = each }
 
-away : (events : List Event) → IsTurned 0 0 events LinkFault → Opens toy 1 (script_lines script) (seen [] []) (ended (seen events []) (Some key) None (At LinkFault))
+away : (events : List Event) → IsTurned 0 0 events LinkFault → Opens toy 1 (script_lines script) (seen [] [] []) (ended (seen events [] []) (Some key) None (At LinkFault))
 unfolding hex_on_literals utf8_valid_len is_utf8 chars encode
 away events turned =
-    inr (inl (record { cause = LinkFault; stops = refl; away = record { events = events; adds = refl; turned = turned }; unprinted = refl; same_key = refl; history = refl }))
+    inr (inl (record { cause = LinkFault; stops = refl; away = record { events = events; adds = refl; turned = turned }; unkept = refl; unprinted = refl; same_key = refl; history = refl }))
 
-in_setup : (events : List Event) → AreCut setting_up events LinkFault → Opens toy 1 (script_lines script) (seen [] []) (ended (seen (greeting ++ events) []) (Some key) (Some (record { setup = setup; later = [] })) (At LinkFault))
+in_setup : (events : List Event) → AreCut setting_up events LinkFault → Opens toy 1 (script_lines script) (seen [] [] []) (ended (seen (greeting ++ events) set_up_records []) (Some key) (Some (record { setup = setup; later = [] })) (At LinkFault))
 unfolding hex_on_literals utf8_valid_len is_utf8 chars encode
 in_setup events cut = inr (inr (
-  seen greeting [],
+  seen greeting [] [],
   greeted_row,
   inr (inr (
-    seen greeting [],
-    collects_row (seen greeting []),
-    inr (inl (record { within = inr (inl (record { cause = LinkFault; stops = refl; events = events; adds = refl; cut = cut; no_clash = λ some. refl; unprinted = refl })); key = refl; history = refl })),
+    seen greeting [] [],
+    collects_row (seen greeting [] []),
+    inr (inl (record { within = inr (inr (inr (inl (record { cause = LinkFault; stops = refl; kept = refl; events = events; adds = refl; cut = cut; no_clash = λ some. refl; unprinted = refl })))); key = refl; history = refl })),
   )),
 ))
 
-in_search : (events : List Event) → AreCut asking events LinkFault → Opens toy 1 (script_lines script) (seen [] []) (ended (seen (greeting ++ acknowledged 0 setting_up ++ events) set_up_text) (Some key) (Some run) (At LinkFault))
+in_search : (events : List Event) → AreCut asking events LinkFault → Opens toy 1 (script_lines script) (seen [] [] []) (ended (seen (greeting ++ acknowledged 0 setting_up ++ events) set_up_records set_up_text) (Some key) (Some run) (At LinkFault))
 unfolding hex_on_literals utf8_valid_len is_utf8 chars encode
 in_search events cut = inr (inr (
-  seen greeting [],
+  seen greeting [] [],
   greeted_row,
   inr (inr (
-    seen greeting [],
-    collects_row (seen greeting []),
+    seen greeting [] [],
+    collects_row (seen greeting [] []),
     inr (inr (
-      seen (greeting ++ acknowledged 0 setting_up) set_up_text,
+      seen (greeting ++ acknowledged 0 setting_up) set_up_records set_up_text,
       sets_up_row,
-      inr (inl (record { within = inr (inl (record { cause = LinkFault; stops = refl; events = events; adds = refl; cut = cut; no_clash = λ some. refl; unprinted = refl })); key = refl; history = refl })),
+      inr (inl (record { within = inr (inr (inr (inl (record { cause = LinkFault; stops = refl; kept = refl; events = events; adds = refl; cut = cut; no_clash = λ some. refl; unprinted = refl })))); key = refl; history = refl })),
     )),
   )),
 ))
 
-abbrev cut_run : (events : List Event) (text : List ℕ) → History → Type 0
-cut_run events text h = Opens toy 1 (script_lines script) (seen [] []) (ended (seen events text) (Some key) h (At LinkFault))
+-- the disk refuses the setup's record, which is there or isn't: nothing is sent of the setup
+refused_record : (records : List (List ℕ)) → (records ≡ []) ⊎ (records ≡ set_up_records)
+    → Opens toy 1 (script_lines script) (seen [] [] []) (ended (seen greeting records []) (Some key) (Some (record { setup = setup; later = [] })) (At DiskFault))
+unfolding hex_on_literals utf8_valid_len is_utf8 chars encode
+refused_record records kept = inr (inr (
+  seen greeting [] [],
+  greeted_row,
+  inr (inr (
+    seen greeting [] [],
+    collects_row (seen greeting [] []),
+    inr (inl (record {
+      within = inr (inr (inl (record {
+        stops = inl refl;
+        some = λ e. absurd (cc);
+        no_clash = refl;
+        unsent = refl;
+        kept = elim kept [ inl none ↦ inl (ap (λ r. Some r) none) | inr all ↦ inr (ap (λ r. Some r) all) ];
+        unprinted = refl;
+      })));
+      key = refl;
+      history = refl;
+    })),
+  )),
+))
+
+abbrev cut_run : (events : List Event) (records : List (List ℕ)) (text : List ℕ) → History → Type 0
+cut_run events records text h = Opens toy 1 (script_lines script) (seen [] [] []) (ended (seen events records text) (Some key) h (At LinkFault))
 
 abbrev set_up_alone : History
 set_up_alone = Some (record { setup = setup; later = [] })
 
-after_0 : cut_run (take 0 passing) [] None
+after_0 : cut_run (take 0 passing) [] [] None
 after_0 = away [] (inl refl)
 
-after_1 : cut_run (take 1 passing) [] None
+after_1 : cut_run (take 1 passing) [] [] None
 after_1 = away (sent Hello ∷ []) (refl, inl refl)
 
-after_2 : cut_run (take 2 passing) [] set_up_alone
+after_2 : cut_run (take 2 passing) set_up_records [] set_up_alone
 after_2 = in_setup [] (cut_at setting_up 0 [] [] AreExchanged-none (inl refl))
 
-after_3 : cut_run (take 3 passing) [] set_up_alone
+after_3 : cut_run (take 3 passing) set_up_records [] set_up_alone
 after_3 = in_setup _ (cut_at setting_up 0 [] (take 1 (map sent setting_up)) AreExchanged-none (refl, ([], refl, inl (awaits_took 0))))
 
-after_4 : cut_run (take 4 passing) [] set_up_alone
+after_4 : cut_run (take 4 passing) set_up_records [] set_up_alone
 after_4 = in_setup _ (cut_at setting_up 1 (acknowledged 0 (take 1 setting_up)) [] (first_frames 1 refl refl) (inl refl))
 
-after_5 : cut_run (take 5 passing) [] set_up_alone
+after_5 : cut_run (take 5 passing) set_up_records [] set_up_alone
 after_5 = in_setup _ (cut_at setting_up 1 (acknowledged 0 (take 1 setting_up)) (take 1 (map sent (drop 1 setting_up))) (first_frames 1 refl refl) (refl, ([], refl, inl (awaits_took 1))))
 
-after_6 : cut_run (take 6 passing) [] set_up_alone
+after_6 : cut_run (take 6 passing) set_up_records [] set_up_alone
 after_6 = in_setup _ (cut_at setting_up 2 (acknowledged 0 (take 2 setting_up)) [] (first_frames 2 refl refl) (inl refl))
 
-after_7 : cut_run (take 7 passing) [] set_up_alone
+after_7 : cut_run (take 7 passing) set_up_records [] set_up_alone
 after_7 = in_setup _ (cut_at setting_up 2 (acknowledged 0 (take 2 setting_up)) (take 1 (map sent (drop 2 setting_up))) (first_frames 2 refl refl) (refl, ([], refl, inl (awaits_took 2))))
 
-after_8 : cut_run (take 8 passing) set_up_text (Some run)
+after_8 : cut_run (take 8 passing) set_up_records set_up_text (Some run)
 after_8 = in_search [] (cut_at asking 0 [] [] AreExchanged-none (inl refl))
 
-after_9 : cut_run (take 9 passing) set_up_text (Some run)
+after_9 : cut_run (take 9 passing) set_up_records set_up_text (Some run)
 after_9 = in_search _ (cut_at asking 0 [] (map sent asking) AreExchanged-none (refl, ([], refl, inl awaits_answer)))

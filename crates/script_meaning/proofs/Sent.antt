@@ -23,12 +23,12 @@ use Rattle.script_meaning.specs.Runs.{Ended}
 use Rattle.script_meaning.specs.Session.{frames_with}
 use Rattle.script_meaning.proofs.Going.{Adds-nothing, Adds-joined, front_more}
 
-sent_in-append : (xs ys : List Event) → sent_in (xs ++ ys) ≡ sent_in xs ++ sent_in ys
+pub sent_in-append : (xs ys : List Event) → sent_in (xs ++ ys) ≡ sent_in xs ++ sent_in ys
 sent_in-append [] ys = refl
 sent_in-append (Sent bytes mark ∷ xs) ys = ap (λ frames. bytes ∷ frames) (sent_in-append xs ys)
 sent_in-append (Received bytes ∷ xs) ys = sent_in-append xs ys
 
-sent_in-bare : (events : List Event) → sent_in (map bare events) ≡ sent_in events
+pub sent_in-bare : (events : List Event) → sent_in (map bare events) ≡ sent_in events
 sent_in-bare [] = refl
 sent_in-bare (Sent bytes mark ∷ events) = ap (λ frames. bytes ∷ frames) (sent_in-bare events)
 sent_in-bare (Received bytes ∷ events) = sent_in-bare events
@@ -41,12 +41,12 @@ sent_in-replies : (rs : List ReplyText) (later : List texts.Passed) → sent_in 
 sent_in-replies [] later = refl
 sent_in-replies (r ∷ rs) later = sent_in-replies rs later
 
-sent_in-exchange : (answers : List (List ℕ)) (frames : List FrameText) → sent_in (map as_event (exchange answers frames)) ≡ map frame_bytes frames
+pub sent_in-exchange : (answers : List (List ℕ)) (frames : List FrameText) → sent_in (map as_event (exchange answers frames)) ≡ map frame_bytes frames
 sent_in-exchange answers [] = refl
 sent_in-exchange answers (frame ∷ frames) =
     ap (λ rest. frame_bytes frame ∷ rest) (sent_in-replies (expected (first_answer answers) (asked frame)) _ ∙ sent_in-exchange (answers_behind (asked frame) answers) frames)
 
-sent_in-cut : (left : List FrameText) (cut : List Event) (cause : Cause) → IsCut left cut cause → (k : ℕ) × (sent_in cut ≡ map frame_bytes (take k left))
+pub sent_in-cut : (left : List FrameText) (cut : List Event) (cause : Cause) → IsCut left cut cause → (k : ℕ) × (sent_in cut ≡ map frame_bytes (take k left))
 sent_in-cut [] cut cause is = (0, ap sent_in is.0)
 sent_in-cut (frame ∷ left) [] cause is = (0, refl)
 sent_in-cut (frame ∷ left) (Sent bytes mark ∷ cut) cause is = (1, λ i. is.0 i ∷ (ap sent_in is.1.1 ∙ sent_in-received is.1.0) i)
@@ -67,13 +67,14 @@ module _ (f : KeyedFn) (frames : List FrameText) (answers : List (List ℕ)) (no
       cut : IsLeft f end (drop p.n frames) p.cut → (k : ℕ) × (sent_in p.cut ≡ map frame_bytes (take k (drop p.n frames)))
       cut (inl whole) = (0, ap sent_in whole.1)
       cut (inr (inl stopped)) = sent_in-cut (drop p.n frames) p.cut stopped.0 stopped.2
-      cut (inr (inr collision)) = (0, ap sent_in collision.0)
+      cut (inr (inr (inl disk))) = (0, ap sent_in disk.0)
+      cut (inr (inr (inr collision))) = (0, ap sent_in collision.0)
 
       last : (k : ℕ) × (sent_in p.cut ≡ map frame_bytes (take k (drop p.n frames)))
       last = cut p.left
 
 -- Hello, or nothing, was sent of a greeting that was cut
-sent_in-turned : (low high : ℕ) (events : List Event) (cause : Cause) → IsTurned low high events cause → (k : ℕ) × (sent_in events ≡ map frame_bytes (take k (Hello ∷ [])))
+pub sent_in-turned : (low high : ℕ) (events : List Event) (cause : Cause) → IsTurned low high events cause → (k : ℕ) × (sent_in events ≡ map frame_bytes (take k (Hello ∷ [])))
 sent_in-turned low high [] cause is = (0, refl)
 sent_in-turned low high (Sent bytes mark ∷ []) cause is = (1, ap (λ b. b ∷ []) is.0)
 sent_in-turned low high (Sent bytes mark ∷ Received reply ∷ []) cause is = (1, ap (λ b. b ∷ []) is.0)

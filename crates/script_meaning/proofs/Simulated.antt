@@ -1,4 +1,4 @@
--- Over every link, what a run sends is what the simulator makes first.
+-- What a run sends is what the simulator makes of its history: all that passes, and over every link the first of what is sent.
 use Rattle.std.proofs.Common.{◌≡◌, ℕ, List, Some, None, map, take, refl, sym, ap, ◌∙◌}
 use Rattle.std.specs.Prelude.{Option}
 use Rattle.std.proofs.lemmas.List.{take-map}
@@ -10,16 +10,22 @@ use Rattle.sse_frames.specs.Exchange.{sent_among}
 use Rattle.sse_frames.specs.Frames.{FrameText, frame_bytes}
 use Rattle.sse_model.proofs.HistoryLaws.{sent_among-session}
 use Rattle.sse_model.specs.Epochs.{keys_under}
-use Rattle.script_meaning.proofs.Headline.{session_with-simulated}
 use Rattle.script_meaning.proofs.Sent.{frames_with_hello, sent_first}
 use Rattle.script_meaning.specs.Carries.{Outside}
 use Rattle.script_meaning.specs.Goes.{GoesFirst}
 use Rattle.script_meaning.specs.Headline.{SendsSimulated}
 use Rattle.script_meaning.specs.Meaning.{Meaning}
 use Rattle.script_meaning.specs.Runs.{Ended}
-use Rattle.script_meaning.specs.Session.{session_with}
+use Rattle.script_meaning.specs.Session.{session_with, simulated_with}
+use Rattle.sse_leakage.proofs.Sessions.{session_is_simulated}
 
-frames_among : (f : KeyedFn) (key : Option (List ℕ)) (h : History) → frames_with_hello f key h ≡ sent_among (session_with f key h)
+-- all that passes under a key is what the simulator makes
+pub session_with-simulated : (f : KeyedFn) (key : Option (List ℕ)) (h : History) → IsKept h → simulated_with f key h ≡ Some (session_with f key h)
+session_with-simulated f None h kept = refl
+session_with-simulated f (Some key) h kept = session_is_simulated f (keys_under key h) h kept
+
+-- the frames of a session
+pub frames_among : (f : KeyedFn) (key : Option (List ℕ)) (h : History) → frames_with_hello f key h ≡ sent_among (session_with f key h)
 frames_among f None h = refl
 frames_among f (Some key) h = sym (sent_among-session f (keys_under key h) h)
 

@@ -29,9 +29,9 @@ use Rattle.sse_script.specs.Shown.{Added, Deleted, Found}
 use Rattle.line_documents.specs.LineDocument.{document}
 use Rattle.script_meaning.proofs.Going.{AreExchanged-none, append_known-nothing}
 use Rattle.script_meaning.proofs.Headline.{headline}
-use Rattle.script_meaning.proofs.RunRows.{toy, toy_laws, key, a, setup, sent, received, place, setting_up, acknowledged, greeting, set_up_text, seen, collects_row, sets_up_row, greeted_row, stepped, honest_steps, calm_row, awaits_took}
+use Rattle.script_meaning.proofs.RunRows.{toy, toy_laws, key, a, setup, sent, received, place, setting_up, acknowledged, greeting, set_up_records, set_up_text, seen, collects_row, sets_up_row, greeted_row, stepped, honest_steps, calm_row, awaits_took}
 use Rattle.script_meaning.proofs.Within.{meaning_is_kept}
-use Rattle.script_meaning.specs.Carries.{Carries, frames_by}
+use Rattle.script_meaning.specs.Carries.{Carries, frames_by, records_by}
 use Rattle.script_meaning.specs.Exchange.{AreCut, IsAwaiting}
 use Rattle.script_meaning.specs.Headline.{IsOverHonest, Headline}
 use Rattle.script_meaning.specs.Lines.{script_lines}
@@ -103,6 +103,15 @@ added_again = deleted ++ acknowledged 5 adding_again
 abbrev passing : List Event
 passing = added_again ++ answered
 
+abbrev added_records : List (List ℕ)
+added_records = set_up_records ++ records_by toy (behind 0) adds
+
+abbrev deleted_records : List (List ℕ)
+deleted_records = added_records ++ records_by toy (behind 1) deletes
+
+abbrev records : List (List ℕ)
+records = deleted_records ++ records_by toy (behind 2) adds_again
+
 abbrev added_text : List ℕ
 added_text = set_up_text ++ codes "added 5\n"
 
@@ -115,25 +124,28 @@ added_again_text = deleted_text ++ codes "added 5\n"
 abbrev text : List ℕ
 text = added_again_text ++ codes "found 2: 1 5\n"
 
-adds_row : Carries toy (behind 0) adds (seen set_up set_up_text) (seen added added_text)
+adds_row : Carries toy (behind 0) adds (seen set_up set_up_records set_up_text) (seen added added_records added_text)
 unfolding digits
 adds_row = record {
+  kept = refl;
   answers = [];
   sent = record { events = acknowledged 3 adding; adds = refl; exchanged = record { ids = All-nil (All IsIdentifier); count = refl; each = refl }; no_clash = refl };
   printed = refl;
 }
 
-deletes_row : Carries toy (behind 1) deletes (seen added added_text) (seen deleted deleted_text)
+deletes_row : Carries toy (behind 1) deletes (seen added added_records added_text) (seen deleted deleted_records deleted_text)
 unfolding digits
 deletes_row = record {
+  kept = refl;
   answers = [];
   sent = record { events = acknowledged 4 deleting; adds = refl; exchanged = record { ids = All-nil (All IsIdentifier); count = refl; each = refl }; no_clash = refl };
   printed = refl;
 }
 
-adds_again_row : Carries toy (behind 2) adds_again (seen deleted deleted_text) (seen added_again added_again_text)
+adds_again_row : Carries toy (behind 2) adds_again (seen deleted deleted_records deleted_text) (seen added_again records added_again_text)
 unfolding digits
 adds_again_row = record {
+  kept = refl;
   answers = [];
   sent = record { events = acknowledged 5 adding_again; adds = refl; exchanged = record { ids = All-nil (All IsIdentifier); count = refl; each = refl }; no_clash = refl };
   printed = refl;
@@ -142,9 +154,10 @@ adds_again_row = record {
 both : All IsIdentifier (1 ∷ 5 ∷ [])
 both = All-cons IsIdentifier 1 (5 ∷ []) (omega arith, omega arith) (All-cons IsIdentifier 5 [] (omega arith, omega arith) (All-nil IsIdentifier))
 
-finds_row : Carries toy (behind 3) finds (seen added_again added_again_text) (seen passing text)
+finds_row : Carries toy (behind 3) finds (seen added_again records added_again_text) (seen passing records text)
 unfolding digits
 finds_row = record {
+  kept = refl;
   answers = (1 ∷ 5 ∷ []) ∷ [];
   sent = record {
     events = answered;
@@ -158,29 +171,29 @@ finds_row = record {
 -- The run.
 
 abbrev end : Ended
-end = ended (seen passing text) (Some key) (Some run) (AtEnd false)
+end = ended (seen passing records text) (Some key) (Some run) (AtEnd false)
 
-opens_row : Opens toy 1 (script_lines script) (seen [] []) end
+opens_row : Opens toy 1 (script_lines script) (seen [] [] []) end
 unfolding hex_on_literals utf8_valid_len is_utf8 chars encode
 opens_row = inr (inr (
-  seen greeting [],
+  seen greeting [] [],
   greeted_row,
   inr (inr (
-    seen greeting [],
-    collects_row (seen greeting []),
+    seen greeting [] [],
+    collects_row (seen greeting [] []),
     inr (inr (
-      seen set_up set_up_text,
+      seen set_up set_up_records set_up_text,
       sets_up_row,
       inr (inr (
-        seen added added_text,
+        seen added added_records added_text,
         adds_row,
         inr (inr (
-          seen deleted deleted_text,
+          seen deleted deleted_records deleted_text,
           deletes_row,
           inr (inr (
-            seen added_again added_again_text,
+            seen added_again records added_again_text,
             adds_again_row,
-            inr (inr (seen passing text, finds_row, inl refl)),
+            inr (inr (seen passing records text, finds_row, inl refl)),
           )),
         )),
       )),
@@ -216,10 +229,10 @@ honest_row = record {
 }
 
 -- so what is said of such runs is said of this one
-headline_row : Headline toy server.at_first (meaning script) (seen [] []) (seen passing text) 0 (steps toy server.at_first frames).0
+headline_row : Headline toy server.at_first (meaning script) (seen [] [] []) (seen passing records text) 0 (steps toy server.at_first frames).0
 unfolding hex_on_literals utf8_valid_len is_utf8 chars encode
-headline_row = headline toy toy_laws script (seen [] []) end opens_row server.at_first (steps toy server.at_first frames).0 expects_row honest_row (seen passing text)
-    (record { told = refl; q = 0; printed = sym (append_known-nothing (Some text)) }) free_row calm_row
+headline_row = headline toy toy_laws script (seen [] [] []) end opens_row server.at_first (steps toy server.at_first frames).0 expects_row honest_row (seen passing records text)
+    (record { told = refl; kept = refl; q = 0; printed = sym (append_known-nothing (Some text)) }) free_row calm_row
 
 -- The same session, cut by the link after a frame was sent.
 
@@ -234,19 +247,19 @@ cut_frame frame later q asks = record {
   one_more = (refl, ([], refl, inl (subst (λ asks. IsAwaiting asks []) (sym asks) (awaits_took q))));
 }
 
-after_an_addition : Opens toy 1 (script_lines script) (seen [] []) (ended (seen (set_up ++ take 1 (acknowledged 3 adding)) set_up_text) (Some key) (behind 1).history (At LinkFault))
+after_an_addition : Opens toy 1 (script_lines script) (seen [] [] []) (ended (seen (set_up ++ take 1 (acknowledged 3 adding)) added_records set_up_text) (Some key) (behind 1).history (At LinkFault))
 unfolding hex_on_literals utf8_valid_len is_utf8 chars encode
 after_an_addition = inr (inr (
-  seen greeting [],
+  seen greeting [] [],
   greeted_row,
   inr (inr (
-    seen greeting [],
-    collects_row (seen greeting []),
+    seen greeting [] [],
+    collects_row (seen greeting [] []),
     inr (inr (
-      seen set_up set_up_text,
+      seen set_up set_up_records set_up_text,
       sets_up_row,
       inr (inl (record {
-        within = inr (inl (record { cause = LinkFault; stops = refl; events = take 1 (acknowledged 3 adding); adds = refl; cut = cut_frame _ [] 3 refl; no_clash = λ some. refl; unprinted = refl }));
+        within = inr (inr (inr (inl (record { cause = LinkFault; stops = refl; kept = refl; events = take 1 (acknowledged 3 adding); adds = refl; cut = cut_frame _ [] 3 refl; no_clash = λ some. refl; unprinted = refl }))));
         key = refl;
         history = refl;
       })),
@@ -254,22 +267,22 @@ after_an_addition = inr (inr (
   )),
 ))
 
-after_a_deletion : Opens toy 1 (script_lines script) (seen [] []) (ended (seen (added ++ take 1 (acknowledged 4 deleting)) added_text) (Some key) (behind 2).history (At LinkFault))
+after_a_deletion : Opens toy 1 (script_lines script) (seen [] [] []) (ended (seen (added ++ take 1 (acknowledged 4 deleting)) deleted_records added_text) (Some key) (behind 2).history (At LinkFault))
 unfolding hex_on_literals utf8_valid_len is_utf8 chars encode
 after_a_deletion = inr (inr (
-  seen greeting [],
+  seen greeting [] [],
   greeted_row,
   inr (inr (
-    seen greeting [],
-    collects_row (seen greeting []),
+    seen greeting [] [],
+    collects_row (seen greeting [] []),
     inr (inr (
-      seen set_up set_up_text,
+      seen set_up set_up_records set_up_text,
       sets_up_row,
       inr (inr (
-        seen added added_text,
+        seen added added_records added_text,
         adds_row,
         inr (inl (record {
-          within = inr (inl (record { cause = LinkFault; stops = refl; events = take 1 (acknowledged 4 deleting); adds = refl; cut = cut_frame _ [] 4 refl; no_clash = λ some. refl; unprinted = refl }));
+          within = inr (inr (inr (inl (record { cause = LinkFault; stops = refl; kept = refl; events = take 1 (acknowledged 4 deleting); adds = refl; cut = cut_frame _ [] 4 refl; no_clash = λ some. refl; unprinted = refl }))));
           key = refl;
           history = refl;
         })),
@@ -286,16 +299,16 @@ colliding = codes "key " ++ replicate 64 48 ++ codes "\ndoc 1 a\nsetup 1 1\nadd 
 abbrev in_hand : Run
 in_hand = record { setup = setup; later = Add (document 5 ((0x64 ∷ 0x61 ∷ []) ∷ (0x61 ∷ 0x63 ∷ []) ∷ [])) ∷ [] }
 
-collides_row : Opens toy 1 (script_lines colliding) (seen [] []) (ended (seen set_up set_up_text) (Some key) (Some in_hand) (At (LabelClash 0 1)))
+collides_row : Opens toy 1 (script_lines colliding) (seen [] [] []) (ended (seen set_up set_up_records set_up_text) (Some key) (Some in_hand) (At (LabelClash 0 1)))
 unfolding hex_on_literals utf8_valid_len is_utf8 chars encode
 collides_row = inr (inr (
-  seen greeting [],
+  seen greeting [] [],
   greeted_row,
   inr (inr (
-    seen greeting [],
-    collects_row (seen greeting []),
+    seen greeting [] [],
+    collects_row (seen greeting [] []),
     inr (inr (
-      seen set_up set_up_text,
+      seen set_up set_up_records set_up_text,
       sets_up_row,
       inr (inl (record { within = inl (record { cause = LabelClash 0 1; found = refl; stops = refl; nothing = refl }); key = refl; history = refl })),
     )),

@@ -1,8 +1,9 @@
 -- A session that goes on from a place of a script whose history is set up, with a server that holds what its frames left: what a
 -- run of it does, and what it did where nothing disturbed it.
-use Rattle.std.specs.Prelude.{◌≡◌, ◌⊎◌, ℕ, Bool, List, ◌++◌, flat_map, map, take, Option, Some}
+use Rattle.std.specs.Prelude.{◌≡◌, ◌⊎◌, ℕ, Bool, List, ◌++◌, filter, flat_map, map, take, Option, Some}
 use Rattle.std.specs.Io.KnownBytes.{append_known}
-use Rattle.client_registry.specs.Command.{Command}
+use Rattle.client_records.specs.Records.{update_record}
+use Rattle.client_registry.specs.Command.{Command, is_update}
 use Rattle.client_registry.specs.Document.{Document}
 use Rattle.client_registry.specs.Histories.{longer}
 use Rattle.client_registry.specs.Run.{Run}
@@ -39,7 +40,7 @@ abbrev pub frames_since : KeyedFn → (key : List ℕ) → Run → List Command 
 frames_since f key run more = frames_of_next f (keys_under key (Some run)) (Some run) more
 
 -- between these two moments lines of this meaning were carried out after a run, with this status: as in a whole run (Headline),
--- what passed being the greeting and the exchange of the frames after the run alone
+-- what passed being the greeting and the exchange of the frames after the run alone, and what is kept the records after the run
 pub record Continued (f : KeyedFn) (before : ServerState) (key : List ℕ) (run : Run) (m : Meaning) (now last : Outside) (status : ℕ) (behind : ServerState) : Type 0 where
   pub status_is : status ≡ status_of m.end
   pub q : ℕ
@@ -48,5 +49,6 @@ pub record Continued (f : KeyedFn) (before : ServerState) (key : List ℕ) (run 
   pub history : m.history ≡ longer more (Some run)
   pub events : List Event
   pub adds : Adds now.told last.told events
+  pub kept : Adds now.kept last.kept (map update_record (filter is_update more))
   pub passed : map bare events ≡ map as_event (greeting before.next ++ exchange (shown_behind run more) (frames_since f key run more))
   pub stored : behind ≡ (steps f before (frames_since f key run more)).0

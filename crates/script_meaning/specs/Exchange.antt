@@ -29,9 +29,9 @@ sent_in (Received bytes ∷ events) = sent_in events
 abbrev pub Told : Type 0
 Told = Option (List Event)
 
--- these events passed between what a link told and what it tells, where it tells what passes
-abbrev pub Adds : Told → Told → List Event → Type 0
-Adds old new events = new ≡ option_map (λ told. told ++ events) old
+-- these were added to what was told, where it is told: events that passed, or records that are kept
+abbrev pub Adds : {A : Type 0} → Option (List A) → Option (List A) → List A → Type 0
+Adds old new more = new ≡ option_map (λ told. told ++ more) old
 
 -- these events are the exchange of these frames, the searches among them with these answers
 pub record AreExchanged (answers : List (List ℕ)) (frames : List FrameText) (events : List Event) : Type 0 where

@@ -6,7 +6,7 @@ use Rattle.client_registry.specs.Histories.{IsFirstOf}
 use Rattle.keyed_fn.specs.KeyedFn.{KeyedFn}
 use Rattle.sse_frames.specs.Frames.{FrameText}
 use Rattle.link_events.specs.Events.{Event}
-use Rattle.sse_script.specs.Shown.{Cause}
+use Rattle.sse_script.specs.Shown.{Cause, DiskFault}
 use Rattle.script_meaning.specs.Carries.{Outside, text_with}
 use Rattle.script_meaning.specs.Exchange.{Told, Adds, AreExchanged, IsCut}
 use Rattle.script_meaning.specs.Greeting.{Greets, TurnsAway}
@@ -16,11 +16,12 @@ use Rattle.script_meaning.specs.Session.{frames_with, IsFree}
 use Rattle.script_meaning.specs.Stops.{At, status_of}
 
 -- why a run sent no more than it did: no frame is left, where neither a collision nor a reply stopped it; of the first frame
--- that is left a part passed; or a collision was found, of a history that is to have none
+-- that is left a part passed; the disk refused its records; or a collision was found, of a history that is to have none
 abbrev pub IsLeft : KeyedFn → Ended → List FrameText → (cut : List Event) → Type 0
 IsLeft f end left cut =
     ((left ≡ []) × (cut ≡ []) × (status_of end.stop ≤ 7))
     ⊎ ((cause : Cause) × (end.stop ≡ At cause) × IsCut left cut cause)
+    ⊎ ((cut ≡ []) × (end.stop ≡ At DiskFault))
     ⊎ ((cut ≡ []) × (IsFree f end.key end.history → ⊥))
 
 -- the first n of these frames were exchanged, with these answers, and at most a part of the next; all of them, where the run

@@ -13,6 +13,7 @@ use Rattle.sse_script.specs.Texts.{text_of}
 use Rattle.script_meaning.specs.Carries.{Outside}
 use Rattle.script_meaning.specs.Exchange.{Told, Adds, as_event, bare, sent_in}
 use Rattle.script_meaning.specs.Meaning.{Meaning}
+use Rattle.script_meaning.specs.Recorded.{records_with}
 use Rattle.script_meaning.specs.Session.{frames_of, session_of, simulated_with}
 use Rattle.script_meaning.specs.Stops.{stop_text, status_of}
 
@@ -50,8 +51,8 @@ pub record SendsSimulated (f : KeyedFn) (key : Option (List ℕ)) (h : History) 
 
 -- between these two moments a script of this meaning was carried out, with this status: its lines were printed, each search
 -- with the identifiers of the live documents that hold its word, and a front of the line that says why it stopped; all that
--- passed is what the meaning's history makes, which is what the simulator makes of its leakage and its draws, and the server at
--- the other end is one that was sent its frames from its first state on
+-- passed is what the meaning's history makes, which is what the simulator makes of its leakage and its draws; the client keeps
+-- the history's records, and the server at the other end is one that was sent its frames from its first state on
 pub record Headline (f : KeyedFn) (before : ServerState) (m : Meaning) (now end : Outside) (status : ℕ) (behind : ServerState) : Type 0 where
   pub status_is : status ≡ status_of m.end
   pub q : ℕ
@@ -60,4 +61,5 @@ pub record Headline (f : KeyedFn) (before : ServerState) (m : Meaning) (now end 
   pub adds : Adds now.told end.told events
   pub session : map bare events ≡ map as_event (session_of f m)
   pub simulated : IsSimulated f m.key m.history events
+  pub kept : Adds now.kept end.kept (records_with f m.key m.history)
   pub stored : behind ≡ (steps f before (frames_of f m)).0

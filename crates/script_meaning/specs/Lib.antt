@@ -9,5 +9,6 @@ pub mod Carries
 pub mod Runs
 pub mod Session
 pub mod Goes
+pub mod Recorded
 pub mod Headline
 pub mod Continues

@@ -51,9 +51,10 @@ Runs f place number (Some (Command line) ∷ lines) refused now end =
     ⊎ Stops f place result now end
     ⊎ ((next : Outside) × Carries f place result now next × Runs f (after result place) (number + 1) lines (refused || is_refusal result) next end)
 
--- a session is opened with a server that expects an update from low to high, which prints nothing
+-- a session is opened with a server that expects an update from low to high, which keeps nothing and prints nothing
 pub record IsGreeted (low high : ℕ) (now next : Outside) : Type 0 where
   pub greets : Greets low high now.told next.told
+  pub unkept : next.kept ≡ now.kept
   pub unprinted : next.written ≡ now.written
 
 -- or a run with this key and history stops before it is opened
@@ -61,6 +62,7 @@ pub record IsTurnedAway (low high : ℕ) (key : List ℕ) (before : History) (no
   pub cause : Cause
   pub stops : end.stop ≡ At cause
   pub away : TurnsAway low high now.told end.outside.told cause
+  pub unkept : end.outside.kept ≡ now.kept
   pub unprinted : end.outside.written ≡ now.written
   pub same_key : end.key ≡ Some key
   pub history : end.history ≡ before
@@ -75,9 +77,10 @@ Opens f number (Some (Key key) ∷ lines) now end =
     ⊎ ((next : Outside) × IsGreeted 0 0 now next × Runs f (opened key) (number + 1) lines false next end)
 Opens f number _ now end = StopsHere now None empty (At (BadLine number)) end
 
--- what follows the stop: a front of the last line is printed, and nothing else passes
+-- what follows the stop: a front of the last line is printed, and nothing else passes or is kept
 pub record Ends (end : Ended) (last : Outside) : Type 0 where
   pub told : last.told ≡ end.outside.told
+  pub kept : last.kept ≡ end.outside.kept
   pub q : ℕ
   pub printed : last.written ≡ append_known end.outside.written (take q (stop_text end.stop))
 
