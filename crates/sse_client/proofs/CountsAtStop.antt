@@ -12,7 +12,7 @@ use Rattle.sse_outside.specs.declared.device_fault.DeviceFault.TheVariants as de
 use Rattle.sse_link.specs.declared.link_fault.LinkFault.{LinkFault}
 use Rattle.sse_link.specs.declared.link_fault.LinkFault.TheVariants as links
 use Rattle.script_meaning.specs.Stops.{status_of, stop_text}
-use Rattle.run_texts.specs.Causes.{LinkCause, PeerCause, PrintCause, SinkCause, SourceCause}
+use Rattle.run_texts.specs.Causes.{LinkCause, PeerCause, PrintCause, RecorderCause, SinkCause, SourceCause}
 use Rattle.run_texts.specs.Stops.{last_line, stop_of_sink, stop_status}
 use Rattle.run_texts.specs.declared.command_stop.CommandStop.TheVariants as commands
 use Rattle.run_texts.specs.declared.input_stop.InputStop.TheVariants as inputs
@@ -84,11 +84,23 @@ link_same before now (stops.Input stop) cause other = cause
 link_same before now stops.Sink cause other = cause
 link_same before now stops.Memory cause other = cause
 link_same before now (stops.Command (commands.Planning stop)) cause other = cause
+link_same before now (stops.Command (commands.Keeping fault)) cause other = cause
 link_same before now (stops.Command (commands.Exchange peers.Link)) cause other = absurd (other refl)
 link_same before now (stops.Command (commands.Exchange peers.Memory)) cause other = cause
 link_same before now (stops.Command (commands.Exchange (peers.Clash what place))) cause other = cause
 link_same before now (stops.Command (commands.Exchange (peers.Elsewhere got))) cause other = cause
 link_same before now (stops.Command (commands.Exchange (peers.BadReply start))) cause other = cause
+
+-- and of what keeps the records
+pub recorder_same : (before now : ℕ) (stop : StopCause) → RecorderCause before now stop → stop ≢ stops.Command (commands.Keeping devices.Failed) → now ≡ before
+recorder_same before now stops.Words cause other = cause
+recorder_same before now (stops.Input stop) cause other = cause
+recorder_same before now stops.Sink cause other = cause
+recorder_same before now stops.Memory cause other = cause
+recorder_same before now (stops.Command (commands.Planning stop)) cause other = cause
+recorder_same before now (stops.Command (commands.Keeping devices.Failed)) cause other = absurd (other refl)
+recorder_same before now (stops.Command (commands.Keeping devices.NoMemory)) cause other = cause
+recorder_same before now (stops.Command (commands.Exchange stop)) cause other = cause
 
 -- what stops a run in printing shows in the sink's count
 pub SinkCause-printed : (before now : ℕ) (fault : DeviceFault) → PrintCause before now fault → SinkCause before now (stop_of_sink fault)
@@ -99,6 +111,11 @@ SinkCause-printed before now devices.NoMemory cause = cause
 pub LinkCause-printed : (before now : ℕ) (fault : DeviceFault) → now ≡ before → LinkCause before now (stop_of_sink fault)
 LinkCause-printed before now devices.Failed same = same
 LinkCause-printed before now devices.NoMemory same = same
+
+-- and that of what keeps the records
+pub RecorderCause-printed : (before now : ℕ) (fault : DeviceFault) → now ≡ before → RecorderCause before now (stop_of_sink fault)
+RecorderCause-printed before now devices.Failed same = same
+RecorderCause-printed before now devices.NoMemory same = same
 
 -- and the source's
 pub SourceCause-printed : (before now : ℕ) (fault : DeviceFault) → now ≡ before → SourceCause before now (stop_of_sink fault)

@@ -4,6 +4,7 @@ use Rattle.std.specs.Prelude.{IfSome}
 use Rattle.keyed_fn.specs.KeyedFn.{KeyedFn}
 use Rattle.server_core.specs.State.{ServerState, at_first}
 use Rattle.sse_agreement.specs.Taking.{Expects}
+use Rattle.script_meaning.specs.Carries.{Kept}
 use Rattle.script_meaning.specs.Headline.{IsOverHonest, IsUndisturbed, Headline}
 use Rattle.script_meaning.specs.Meaning.{meaning}
 use Rattle.script_meaning.specs.Session.{IsFree}
@@ -12,7 +13,7 @@ use Rattle.link_events.specs.Events.{Event, Remote}
 use Rattle.link_events.specs.Served as links
 use Rattle.link_events.specs.Served.{IsServed, idle}
 use Rattle.sse_link.specs.Told.{Told, told_first, served}
-use Rattle.sse_client.specs.Stands.{outside_of, HasHonestStatus, HasHeadline}
+use Rattle.sse_client.specs.Stands.{seen, outside_of, HasHonestStatus, HasHeadline}
 use Rattle.sse_client.specs.OverServer.{HasRunOverServer, PrintsAsRun, PrintsAsMeant}
 use Rattle.sse_client.proofs.WholeRun.{IfSome-then}
 
@@ -41,35 +42,35 @@ module _ (f : KeyedFn) (old new : Told) (fresh : old ≡ told_first at_first) (k
   over : IsOverHonest f at_first (Some old.events) (Some new.events) new.state
   over = over_honest f old.events new.events new.state (ap (λ (t : Told). t.events) fresh) over_server-honest
 
-  module _ (remaining before after : Option (List ℕ)) (status : ℕ) where
-    pub over_server-runs : IfSome remaining (λ bytes. HasHonestStatus f bytes (outside_of (Some old.events) before) (outside_of (Some new.events) after) status)
-        → IfSome remaining (λ bytes. HasRunOverServer f bytes (outside_of (Some old.events) before) (outside_of (Some new.events) after) status)
-    over_server-runs = IfSome-then remaining (λ bytes. HasHonestStatus f bytes (outside_of (Some old.events) before) (outside_of (Some new.events) after) status)
-        (λ bytes. HasRunOverServer f bytes (outside_of (Some old.events) before) (outside_of (Some new.events) after) status)
+  module _ (records records_now : Kept) (remaining before after : Option (List ℕ)) (status : ℕ) where
+    pub over_server-runs : IfSome remaining (λ bytes. HasHonestStatus f bytes (outside_of (seen (Some old.events) records) before) (outside_of (seen (Some new.events) records_now) after) status)
+        → IfSome remaining (λ bytes. HasRunOverServer f bytes (outside_of (seen (Some old.events) records) before) (outside_of (seen (Some new.events) records_now) after) status)
+    over_server-runs = IfSome-then remaining (λ bytes. HasHonestStatus f bytes (outside_of (seen (Some old.events) records) before) (outside_of (seen (Some new.events) records_now) after) status)
+        (λ bytes. HasRunOverServer f bytes (outside_of (seen (Some old.events) records) before) (outside_of (seen (Some new.events) records_now) after) status)
         (λ bytes run. record { run = run.run; stopped = run.stopped at_first new.state fresh_expects over })
 
-    pub over_server-headline : IsUndisturbed status → IfSome remaining (λ bytes. HasHeadline f bytes (outside_of (Some old.events) before) (outside_of (Some new.events) after) status)
-        → IfSome remaining (λ bytes. IsFree f (meaning bytes).key (meaning bytes).history → Headline f at_first (meaning bytes) (outside_of (Some old.events) before) (outside_of (Some new.events) after) status new.state)
-    over_server-headline calm = IfSome-then remaining (λ bytes. HasHeadline f bytes (outside_of (Some old.events) before) (outside_of (Some new.events) after) status)
-        (λ bytes. IsFree f (meaning bytes).key (meaning bytes).history → Headline f at_first (meaning bytes) (outside_of (Some old.events) before) (outside_of (Some new.events) after) status new.state)
+    pub over_server-headline : IsUndisturbed status → IfSome remaining (λ bytes. HasHeadline f bytes (outside_of (seen (Some old.events) records) before) (outside_of (seen (Some new.events) records_now) after) status)
+        → IfSome remaining (λ bytes. IsFree f (meaning bytes).key (meaning bytes).history → Headline f at_first (meaning bytes) (outside_of (seen (Some old.events) records) before) (outside_of (seen (Some new.events) records_now) after) status new.state)
+    over_server-headline calm = IfSome-then remaining (λ bytes. HasHeadline f bytes (outside_of (seen (Some old.events) records) before) (outside_of (seen (Some new.events) records_now) after) status)
+        (λ bytes. IsFree f (meaning bytes).key (meaning bytes).history → Headline f at_first (meaning bytes) (outside_of (seen (Some old.events) records) before) (outside_of (seen (Some new.events) records_now) after) status new.state)
         (λ bytes headline free. headline at_first new.state fresh_expects over free calm)
 
 -- A link that is made and dropped: what is printed.
 
 module _ (f : KeyedFn) (old new : Told) (first : ServerState) (fresh : old ≡ told_first first) (honest : links.IsHonest f at_first new.events new.state) (remaining before after : Option (List ℕ)) (status : ℕ) where
-  pub in_memory-runs : IfSome remaining (λ bytes. HasRunOverServer f bytes (outside_of (Some old.events) before) (outside_of (Some new.events) after) status)
+  pub in_memory-runs : IfSome remaining (λ bytes. HasRunOverServer f bytes (outside_of (seen (Some old.events) None) before) (outside_of (seen (Some new.events) None) after) status)
       → IfSome remaining (λ bytes. PrintsAsRun f bytes before after status)
-  in_memory-runs = IfSome-then remaining (λ bytes. HasRunOverServer f bytes (outside_of (Some old.events) before) (outside_of (Some new.events) after) status) (λ bytes. PrintsAsRun f bytes before after status)
+  in_memory-runs = IfSome-then remaining (λ bytes. HasRunOverServer f bytes (outside_of (seen (Some old.events) None) before) (outside_of (seen (Some new.events) None) after) status) (λ bytes. PrintsAsRun f bytes before after status)
       (λ bytes run. record {
         told = Some new.events;
         state = new.state;
         over = over_honest f [] new.events new.state refl honest;
-        runs = subst (λ (t : Told). HasRunOverServer f bytes (outside_of (Some t.events) before) (outside_of (Some new.events) after) status) fresh run;
+        runs = subst (λ (t : Told). HasRunOverServer f bytes (outside_of (seen (Some t.events) None) before) (outside_of (seen (Some new.events) None) after) status) fresh run;
       })
 
-  pub in_memory-headline : IfSome remaining (λ bytes. IsFree f (meaning bytes).key (meaning bytes).history → Headline f at_first (meaning bytes) (outside_of (Some old.events) before) (outside_of (Some new.events) after) status new.state)
+  pub in_memory-headline : IfSome remaining (λ bytes. IsFree f (meaning bytes).key (meaning bytes).history → Headline f at_first (meaning bytes) (outside_of (seen (Some old.events) None) before) (outside_of (seen (Some new.events) None) after) status new.state)
       → IfSome remaining (λ bytes. PrintsAsMeant f bytes before after status)
   in_memory-headline =
-      IfSome-then remaining (λ bytes. IsFree f (meaning bytes).key (meaning bytes).history → Headline f at_first (meaning bytes) (outside_of (Some old.events) before) (outside_of (Some new.events) after) status new.state)
+      IfSome-then remaining (λ bytes. IsFree f (meaning bytes).key (meaning bytes).history → Headline f at_first (meaning bytes) (outside_of (seen (Some old.events) None) before) (outside_of (seen (Some new.events) None) after) status new.state)
       (λ bytes. PrintsAsMeant f bytes before after status)
       (λ bytes headline free. record { status_is = (headline free).status_is; q = (headline free).q; printed = (headline free).printed })

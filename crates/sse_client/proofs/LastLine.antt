@@ -8,14 +8,13 @@ use Rattle.sse_outside.proofs.Fronts.{Rose-later}
 use Rattle.sse_outside.specs.Fronts.{TookFront, TookOrRose}
 use Rattle.sse_script.specs.TextLines.{lines_left}
 use Rattle.script_meaning.specs.Carries.{Outside}
-use Rattle.script_meaning.specs.Exchange.{Told}
 use Rattle.script_meaning.specs.Stops as ends
 use Rattle.script_meaning.specs.Stops.{status_of, stop_text}
 use Rattle.sse_client.specs.LastLine.{HasLastLine, HasShortLine, IsWholeOrRose}
-use Rattle.sse_client.specs.Stands.{outside_of, OpensTo}
+use Rattle.sse_client.specs.Stands.{Seen, outside_of, OpensTo}
 use Rattle.sse_client.proofs.WholeRun.{has_run}
 
-module _ (f : KeyedFn) (now : Outside) (told told' : Told) (written written' : Option (List ℕ)) (stop : ends.Stop) (status : ℕ) (same : told' ≡ told) (is : status ≡ status_of stop) where
+module _ (f : KeyedFn) (now : Outside) (told told' : Seen) (written written' : Option (List ℕ)) (stop : ends.Stop) (status : ℕ) (same : told' ≡ told) (is : status ≡ status_of stop) where
   -- a run with its last line
   pub has_last_line : (remaining : Option (List ℕ)) → OpensTo f (lines_left [] remaining) now (outside_of told written) stop → written' ≡ append_known written (stop_text stop)
       → IfSome remaining (λ bytes. HasLastLine f bytes now (outside_of told' written') status)

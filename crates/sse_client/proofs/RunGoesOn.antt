@@ -21,13 +21,12 @@ use Rattle.sse_script.specs.declared.line.Line.TheVariants as reads
 use Rattle.script_meaning.proofs.Following.{after-key}
 use Rattle.script_meaning.proofs.Steps.{IsBad, IsBadFirst, Continues, runs-reading, runs-end, runs-bad, runs-stopped, continues-empty, continues-next, ContinuesOpening, opens-reading, opens-end, opens-bad, opening-empty}
 use Rattle.script_meaning.specs.Carries.{Outside, with_answers, text_with}
-use Rattle.script_meaning.specs.Exchange.{Told}
 use Rattle.script_meaning.specs.Lines.{Empty, Command, Request, line_read, line_in}
 use Rattle.script_meaning.specs.Outcome.{Place, Outcome, outcome, after, shown_by}
 use Rattle.script_meaning.specs.Runs.{Ended, ended, Moment, moment, RunsFrom, OpensFrom, OpensAtKey}
 use Rattle.script_meaning.specs.Stops as ends
 use Rattle.run_texts.specs.LineResultViews.{line_result_view, refuses}
-use Rattle.sse_client.specs.Stands.{IsAt, Takes, outside_of, stop_view, CarriesOut, StopsRun, EndsFrom}
+use Rattle.sse_client.specs.Stands.{IsAt, Seen, Takes, outside_of, stop_view, CarriesOut, StopsRun, EndsFrom}
 use Rattle.sse_client.specs.Turns.{IsThere, LeadsTo, ending}
 use Rattle.sse_client.specs.declared.lines.Refusals.{Refusals}
 use Rattle.sse_client.specs.declared.lines.Turn.{Turn}
@@ -45,13 +44,13 @@ use Rattle.run_texts.specs.declared.stop_cause.StopCause.TheVariants as stops
 text_of_came : (answers : List (List ℕ)) (came : LineResult) (result : Outcome) → line_result_view came ≡ with_answers (map in_order answers) (shown_by result) → flat_map text_of (line_result_view came) ≡ text_with answers (shown_by result)
 text_of_came answers came result e = ap (flat_map text_of) e
 
-module _ (f : KeyedFn) (stage next : Stage) (came : LineResult) (request : Request) (old new : Told) (before after_it : Option (List ℕ)) (takes : Takes f stage request old new next came) where
+module _ (f : KeyedFn) (stage next : Stage) (came : LineResult) (request : Request) (old new : Seen) (before after_it : Option (List ℕ)) (takes : Takes f stage request old new next came) where
   -- its lines were printed
   pub carries-printed : after_it ≡ append_known before (flat_map text_of (line_result_view came)) → CarriesOut f stage request (outside_of old before) (outside_of new after_it) next (refuses came)
   carries-printed printed = λ place at.
       let g = takes place at in
       record {
-        carries = record { answers = g.answers; sent = g.sent; printed = printed ∙ ap (append_known before) (text_of_came g.answers came (outcome place request) g.shown) };
+        carries = record { kept = g.kept; answers = g.answers; sent = g.sent; printed = printed ∙ ap (append_known before) (text_of_came g.answers came (outcome place request) g.shown) };
         stands = g.stands;
         refuses = g.refuses;
       }
@@ -64,12 +63,13 @@ module _ (f : KeyedFn) (stage next : Stage) (came : LineResult) (request : Reque
   pub stops-unprinted : (fault : DeviceFault) → TookFront before after_it (flat_map text_of (line_result_view came)) → StopsRun f stage request (outside_of old before) (outside_of new after_it) (stop_view (stop_of_sink fault))
   stops-unprinted fault front = λ place at.
       let g = takes place at in
-      inr (inr (record {
+      inr (inr (inr (inr (record {
         stops = sink_stop fault;
+        kept = g.kept;
         answers = g.answers;
         sent = g.sent;
         printed = subst (TookFront before after_it) (text_of_came g.answers came (outcome place request) g.shown) front;
-      }))
+      }))))
 
 -- Lines.
 

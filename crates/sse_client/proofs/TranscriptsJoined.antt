@@ -10,10 +10,13 @@ use Rattle.sse_script.specs.Shown as cause
 use Rattle.script_meaning.specs.Exchange.{Told, Adds}
 use Rattle.sse_frames.specs.Frames.{FrameText}
 use Rattle.run_texts.specs.declared.peer_stop.PeerStop.{PeerStop}
-use Rattle.run_texts.specs.Causes.{KeepsSink, KeepsSource, SinkCause}
+use Rattle.run_texts.specs.Causes.{KeepsRecorder, KeepsSink, KeepsSource, SinkCause}
 use Rattle.run_texts.specs.declared.stop_cause.StopCause.{StopCause}
 use Rattle.sse_client.specs.Calls.{KeepsLink, LinkShows, Sends}
 use Rattle.sse_client.specs.Exchanges.{HasCut}
+use Rattle.sse_client.specs.Keeping.{SendsKept}
+use Rattle.sse_client.specs.Stands.{Seen}
+use Rattle.run_texts.specs.declared.command_stop.CommandStop.{CommandStop}
 use Rattle.sse_client.specs.Progress.{IsAnswered, IsUnanswered, IsOutside}
 use Rattle.run_texts.specs.Stops.{peer_cause}
 use Rattle.sse_client.specs.Stops.{stop_of_link}
@@ -87,6 +90,12 @@ pub Sends-err : {T : Type 0} (old new : LinkShows) (frames : List FrameText) (r 
 Sends-err old new frames (Ok x) stop is cut = absurd is
 Sends-err old new frames (Err e) stop is cut = subst (λ s. HasCut old.told new.told frames (peer_cause s)) (sym is) cut
 
+-- a record was refused for a stop, or what was sent behind it was cut
+pub SendsKept-err : {T : Type 0} (payload : List ℕ) (old new : Seen) (frames : List FrameText) (r : Result T CommandStop) (stop : CommandStop) → IsErrAnd r (λ e. e ≡ stop) → SendsKept {T = T} payload old new frames (Err stop)
+    → SendsKept payload old new frames r
+SendsKept-err payload old new frames (Ok x) stop is sends = absurd is
+SendsKept-err {T = T} payload old new frames (Err e) stop is sends = subst (λ s. SendsKept {T = T} payload old new frames (Err s)) (sym is) sends
+
 -- what a call keeps of a link is kept over an earlier one that went well
 pub KeepsLink-then : {T E : Type 0} (showing : ℕ → ℕ → E → Type 0) (old mid new : LinkShows) (r : Result T E) → mid.began ≡ old.began → mid.faults ≡ old.faults → KeepsLink showing mid new r → KeepsLink showing old new r
 KeepsLink-then showing old mid new r began steady k = record {
@@ -106,6 +115,14 @@ KeepsLink-err showing old new r stop is began cause = record { began = began; st
 
 pub KeepsSource-err : {T E : Type 0} (showing : ℕ → ℕ → E → Type 0) (before now : ℕ) (r : Result T E) (stop : E) → IsErrAnd r (λ e. e ≡ stop) → showing before now stop → KeepsSource showing before now r
 KeepsSource-err showing before now r stop is cause = record { steady = may_stop-ok r stop is _; cause = IfErr-from r stop (showing before now) is cause }
+
+pub KeepsRecorder-err : {T E : Type 0} (showing : ℕ → ℕ → E → Type 0) (before now : ℕ) (r : Result T E) (stop : E) → IsErrAnd r (λ e. e ≡ stop) → showing before now stop → KeepsRecorder showing before now r
+KeepsRecorder-err showing before now r stop is cause = record { steady = may_stop-ok r stop is _; cause = IfErr-from r stop (showing before now) is cause }
+
+-- a call that keeps no record leaves the count
+pub KeepsRecorder-none : {T E : Type 0} (showing : ℕ → ℕ → E → Type 0) (n : ℕ) (r : Result T E) → IfErr r (λ e. (m : ℕ) → showing m m e) → KeepsRecorder showing n n r
+KeepsRecorder-none showing n (Ok x) none = record { steady = refl; cause = tt }
+KeepsRecorder-none showing n (Err e) none = record { steady = tt; cause = none n }
 
 pub KeepsSink-err : {T : Type 0} (before now shortages shortages_now : ℕ) (r : Result T StopCause) (stop : StopCause) → IsErrAnd r (λ e. e ≡ stop) → SinkCause before now stop → shortages ≤ shortages_now → KeepsSink before now shortages shortages_now r
 KeepsSink-err before now shortages shortages_now r stop is cause fewer = record { steady = may_stop-ok r stop is _; cause = IfErr-from r stop (SinkCause before now) is cause; no_fewer = fewer }

@@ -1,6 +1,6 @@
 -- How a session carries out an addition or a deletion: what its plan says at the place where it stands, and that it is done.
 use Rattle.std.proofs.Common.{◌≡◌, ◌≤◌, arith, ◌⊎◌, inl, inr, ℕ, true, false, List, [], ◌∷◌, map, refl, sym, ap, subst, ◌∙◌}
-use Rattle.std.specs.Prelude.{◌≢◌, Option, None, Some, Result, Ok, Err, IfOk, IfErr, IfSome, IsErrAnd, OnErr}
+use Rattle.std.specs.Prelude.{◌≢◌, filter, Option, None, Some, Result, Ok, Err, IfOk, IfErr, IfSome, IsErrAnd, OnErr}
 use Rattle.std.specs.Option.{option_and_then, option_or}
 use Rattle.std.specs.Result.{result_err}
 use Rattle.client_core.specs.StandsFor as core
@@ -13,7 +13,8 @@ use Rattle.client_core.specs.declared.command_fault.CommandFault.{CommandFault}
 use Rattle.client_core.specs.declared.command_fault.CommandFault.TheVariants as commands
 use Rattle.client_core.specs.declared.planned_update.PlannedUpdate.{PlannedUpdate}
 use Rattle.client_core.specs.declared.ready.Ready.{Ready}
-use Rattle.client_registry.specs.Command.{Command, Add, Delete}
+use Rattle.client_records.specs.Records.{update_record}
+use Rattle.client_registry.specs.Command.{Command, Add, Delete, is_update}
 use Rattle.client_registry.specs.Document.{Document}
 use Rattle.client_registry.specs.Histories.{longer}
 use Rattle.client_registry.specs.Run.{Run, at_first}
@@ -28,15 +29,17 @@ use Rattle.line_documents.specs.LineFaults.{SaysRefusal}
 use Rattle.line_documents.specs.declared.line_fault.LineFault.{LineFault}
 use Rattle.line_documents.specs.declared.line_fault.LineFault.TheVariants as lines
 use Rattle.script_meaning.specs.Carries.{keys_at, with_answers, StopsIn}
-use Rattle.script_meaning.specs.Exchange.{Told}
+use Rattle.script_meaning.specs.Exchange.{Adds}
 use Rattle.script_meaning.specs.Outcome.{Place, Outcome, Does, unless}
 use Rattle.script_meaning.specs.Refused.{add_refusal, delete_refusal}
 use Rattle.script_meaning.specs.Stops.{At}
-use Rattle.sse_client.specs.Exchanges.{HasExchanged, HasCut}
+use Rattle.sse_client.specs.Exchanges.{HasExchanged}
+use Rattle.sse_client.specs.Keeping.{SendsKept}
 use Rattle.run_texts.specs.LineResultViews.{line_result_view, refuses}
 use Rattle.client_core.specs.Owes.{AreNumbered}
-use Rattle.sse_client.specs.Stands.{IsAt, GoesOn, outside_of}
-use Rattle.run_texts.specs.Stops.{plan_cause}
+use Rattle.sse_client.specs.Stands.{IsAt, Seen, GoesOn, outside_of}
+use Rattle.run_texts.specs.Stops.{command_cause, plan_cause}
+use Rattle.run_texts.specs.declared.command_stop.CommandStop.{CommandStop}
 use Rattle.sse_client.specs.UpdateFaults.{refusal_in, update_of_line, update_of_command}
 use Rattle.sse_client.specs.UpdatePlans.{IsRefused, IsUpdateFault, IsUpdatePlan, IsPlanOf, clash_of}
 use Rattle.run_texts.specs.declared.line_result.LineResult.{LineResult}
@@ -45,7 +48,7 @@ use Rattle.run_texts.specs.declared.plan_stop.PlanStop.TheVariants as plans
 use Rattle.sse_client.specs.declared.session.Stage.TheVariants.{Searching}
 use Rattle.sse_client.specs.declared.update_fault.UpdateFault.{UpdateFault}
 use Rattle.sse_client.specs.declared.update_fault.UpdateFault.TheVariants as updates
-use Rattle.sse_client.proofs.CommandTaken.{goes-refused, stops-memory}
+use Rattle.sse_client.proofs.CommandTaken.{goes-refused, stops-kept, stops-memory}
 use Rattle.sse_client.proofs.PlansOfUpdates.{IsPlanFor, frames-at, plan-add-at, plan-delete-at, refuses-delete}
 
 -- Plans.
@@ -126,6 +129,11 @@ module _ (f : KeyedFn) (place : Place) (client : Client Ready) (at : IsAt f (Sea
       subst (AreNumbered client.state.frames) (sym (frames-at f place at.stands.0 at.stands.1 c))
       (subst (λ d. AreNumbered client.state.frames (frames_next f (keys_at place) at_first at.stands.0 d)) is (numbered-next f (keys_at place) at.stands.0 u client.state at.stands.2))
 
+-- the record of an update's plan is that of its command
+records_of_update : (u : Update) (c : Command) → command_of_update u ≡ c → update_record (command_of_update u) ∷ [] ≡ map update_record (filter is_update (c ∷ []))
+records_of_update (kinds.Add doc) c is = ap (λ d. map update_record (filter is_update (d ∷ []))) is
+records_of_update (kinds.Delete id) c is = ap (λ d. map update_record (filter is_update (d ∷ []))) is
+
 -- Outcomes.
 
 module _ (f : KeyedFn) (place : Place) (refusal : Option Refusal) (c : Command) (shown : Shown) where
@@ -135,14 +143,18 @@ module _ (f : KeyedFn) (place : Place) (refusal : Option Refusal) (c : Command) 
   accepted-is : refusal ≡ None → unless refusal updating ≡ updating
   accepted-is none = ap (λ r. unless r updating) none
 
-  module _ (client : Client Ready) (at : IsAt f (Searching client) place) (planned : PlannedUpdate) (none : refusal ≡ None) (plan : IsPlanOf f place c planned) (old new : Told) where
-    -- an update whose frame was exchanged is done
-    pub goes-updated : (ready : Client Ready) (came : LineResult) → HasExchanged old new [] (frames_of_next f (keys_at place) place.history (c ∷ []))
+  module _ (client : Client Ready) (at : IsAt f (Searching client) place) (planned : PlannedUpdate) (none : refusal ≡ None) (plan : IsPlanOf f place c planned) (old new : Seen) where
+    abbrev payload : List ℕ
+    payload = update_record (command_of_update planned.update)
+
+    -- an update whose record was kept and whose frame was exchanged is done
+    pub goes-updated : (ready : Client Ready) (came : LineResult) → Adds old.kept new.kept (payload ∷ []) → HasExchanged old.told new.told [] (frames_of_next f (keys_at place) place.history (c ∷ []))
         → line_result_view came ≡ with_answers [] (shown ∷ []) → refuses came ≡ false → ready.key ≡ client.key → ready.state.registry.keys ≡ client.state.registry.keys → StandsFor f (keys_at place) at_first (with_command at.stands.0 c) ready.state
         → GoesOn f old new (Searching ready) came place (unless refusal updating)
-    goes-updated ready came x view fine keyed hashes stands =
+    goes-updated ready came kept x view fine keyed hashes stands =
         subst (GoesOn f old new (Searching ready) came place) (sym (accepted-is none))
         (record {
+          kept = subst (Adds old.kept new.kept) (records_of_update planned.update c plan.command) kept;
           answers = [];
           sent = record { events = x.events; adds = x.adds; exchanged = x.exchanged; no_clash = plan.no_clash };
           shown = view;
@@ -150,25 +162,25 @@ module _ (f : KeyedFn) (place : Place) (refusal : Option Refusal) (c : Command) 
           stands = record { key = keyed ∙ at.key; stands = (with_command at.stands.0 c, ap (longer (c ∷ [])) at.stands.1, stands); hashed = hashes ∙ at.hashed };
         })
 
-    -- one whose exchange was cut stops the run
-    pub stops-updated : (cause : Cause) → HasCut old new (frames_of_next f (keys_at place) place.history (c ∷ [])) cause → (written : Option (List ℕ))
-        → StopsIn f place (unless refusal updating) (outside_of old written) (outside_of new written) (At cause)
-    stops-updated cause cut written =
-        subst (λ result. StopsIn f place result (outside_of old written) (outside_of new written) (At cause)) (sym (accepted-is none))
-        (inr (inl (record { cause = cause; stops = refl; events = cut.events; adds = cut.adds; cut = cut.cut; no_clash = λ _. plan.no_clash; unprinted = refl })))
+    -- one whose record was refused, or whose exchange was cut, stops the run
+    pub stops-updated : (T : Type 0) (stop : CommandStop) → SendsKept {T = T} payload old new (frames_of_next f (keys_at place) place.history (c ∷ [])) (Err stop) → (written : Option (List ℕ))
+        → StopsIn f place (unless refusal updating) (outside_of old written) (outside_of new written) (At (command_cause stop))
+    stops-updated T stop sends written =
+        subst (λ result. StopsIn f place result (outside_of old written) (outside_of new written) (At (command_cause stop))) (sym (accepted-is none))
+        (stops-kept T f place updating old new written (frames_of_next f (keys_at place) place.history (c ∷ [])) payload refl (records_of_update planned.update c plan.command) plan.no_clash stop sends)
 
   -- a refused one is refused
-  pub goes-refused_update : (told : Told) (client : Client Ready) (came : LineResult) (why : Refusal) → IsAt f (Searching client) place → refusal ≡ Some why → line_result_view came ≡ says.Refused why ∷ [] → refuses came ≡ true
-      → GoesOn f told told (Searching client) came place (unless refusal updating)
-  goes-refused_update told client came why at is view refused =
-      subst (GoesOn f told told (Searching client) came place) (sym (ap (λ r. unless r updating) is)) (goes-refused f told (Searching client) came place why view refused at)
+  pub goes-refused_update : (now : Seen) (client : Client Ready) (came : LineResult) (why : Refusal) → IsAt f (Searching client) place → refusal ≡ Some why → line_result_view came ≡ says.Refused why ∷ [] → refuses came ≡ true
+      → GoesOn f now now (Searching client) came place (unless refusal updating)
+  goes-refused_update now client came why at is view refused =
+      subst (GoesOn f now now (Searching client) came place) (sym (ap (λ r. unless r updating) is)) (goes-refused f now (Searching client) came place why view refused at)
 
   -- equal values and want of memory stop the run before anything of it is sent
-  pub stops-unplanned : (told : Told) (stop : PlanStop) → (stop ≡ plans.Memory) ⊎ ((refusal ≡ None) × (clash_of f place c ≡ Some (plan_cause stop))) → (written : Option (List ℕ))
-      → StopsIn f place (unless refusal updating) (outside_of told written) (outside_of told written) (At (plan_cause stop))
-  stops-unplanned told stop why written = elim why [
-    | inl memory ↦ subst (λ s. StopsIn f place (unless refusal updating) (outside_of told written) (outside_of told written) (At (plan_cause s))) (sym memory) (stops-memory f told place (unless refusal updating) written)
-    | inr clash ↦ subst (λ result. StopsIn f place result (outside_of told written) (outside_of told written) (At (plan_cause stop))) (sym (accepted-is clash.0))
+  pub stops-unplanned : (now : Seen) (stop : PlanStop) → (stop ≡ plans.Memory) ⊎ ((refusal ≡ None) × (clash_of f place c ≡ Some (plan_cause stop))) → (written : Option (List ℕ))
+      → StopsIn f place (unless refusal updating) (outside_of now written) (outside_of now written) (At (plan_cause stop))
+  stops-unplanned now stop why written = elim why [
+    | inl memory ↦ subst (λ s. StopsIn f place (unless refusal updating) (outside_of now written) (outside_of now written) (At (plan_cause s))) (sym memory) (stops-memory f now place (unless refusal updating) written)
+    | inr clash ↦ subst (λ result. StopsIn f place result (outside_of now written) (outside_of now written) (At (plan_cause stop))) (sym (accepted-is clash.0))
         (inl (record { cause = plan_cause stop; found = clash.1; stops = refl; nothing = refl }))
   ]
 
@@ -186,7 +198,7 @@ of_stop (Ok x) P Q then p = tt
 of_stop (Err e) P Q then p = then p
 
 -- a stop in what a line comes to
-pub stops_as : (f : KeyedFn) (place : Place) (old new : Told) (written : Option (List ℕ)) (cause : Cause) {r line : Outcome} → r ≡ line → StopsIn f place r (outside_of old written) (outside_of new written) (At cause) → StopsIn f place line (outside_of old written) (outside_of new written) (At cause)
+pub stops_as : (f : KeyedFn) (place : Place) (old new : Seen) (written : Option (List ℕ)) (cause : Cause) {r line : Outcome} → r ≡ line → StopsIn f place r (outside_of old written) (outside_of new written) (At cause) → StopsIn f place line (outside_of old written) (outside_of new written) (At cause)
 stops_as f place old new written cause same stops = subst (λ result. StopsIn f place result (outside_of old written) (outside_of new written) (At cause)) same stops
 
 -- a plan that failed, by its fault

@@ -1,5 +1,5 @@
 -- A whole run: from the start of its script over the key line, the greeting and the lines to its last line.
-use Rattle.std.proofs.Common.{◌≡◌, ℕ, ◌+◌, ◌≤◌, false, List, [], inr, refl, sym, ap, subst}
+use Rattle.std.proofs.Common.{◌≡◌, ℕ, ◌+◌, ◌≤◌, false, List, [], inr, refl, sym, ap, subst, ◌∙◌}
 use Rattle.std.specs.Prelude.{Option, None, Some, Result, Ok, Err, IfSome, IsErrAnd, take}
 use Rattle.std.specs.Io.KnownBytes.{append_known}
 use Rattle.std.proofs.lemmas.List.{append-nil}
@@ -8,6 +8,8 @@ use Rattle.keyed_fn.specs.KeyedFn.{KeyedFn, IsKeyedFn}
 use Rattle.server_core.specs.State.{ServerState}
 use Rattle.sse_agreement.specs.Taking.{Expects}
 use Rattle.script_meaning.proofs.Headline.{honest_status, headline}
+use Rattle.script_meaning.proofs.Recorded.{recorded}
+use Rattle.script_meaning.specs.Lines.{script_lines}
 use Rattle.script_meaning.proofs.Simulated.{sends_simulated}
 use Rattle.script_meaning.proofs.RunGoes.{goes}
 use Rattle.script_meaning.proofs.Within.{meaning_is_kept}
@@ -25,7 +27,7 @@ use Rattle.script_meaning.specs.Runs.{Ended, ended, moment, OpensFrom, OpensAtKe
 use Rattle.script_meaning.specs.Stops as ends
 use Rattle.script_meaning.specs.Stops.{status_of, stop_text}
 use Rattle.run_texts.specs.declared.stop_cause.StopCause.{StopCause}
-use Rattle.sse_client.specs.Stands.{outside_of, stop_view, EndsFrom, OpensTo, HasRun, HasSimulatedRun}
+use Rattle.sse_client.specs.Stands.{Seen, seen, outside_of, stop_view, EndsFrom, OpensTo, HasRun, HasSimulatedRun, HasRecordedRun}
 use Rattle.sse_client.specs.Turns.{ending}
 use Rattle.sse_client.specs.declared.lines.Refusals.{Refusals}
 
@@ -40,7 +42,7 @@ opens_memory f left now = (None, empty, opens-reading f 1 left now 1 left (Conti
 
 -- After the key line, which was read from the start of the script.
 
-module _ (f : KeyedFn) (n : ℕ) (reader : List ℕ) (remaining : Option (List ℕ)) (none : n ≡ 0) (fresh : reader ≡ []) (told : Told) (written : Option (List ℕ)) where
+module _ (f : KeyedFn) (n : ℕ) (reader : List ℕ) (remaining : Option (List ℕ)) (none : n ≡ 0) (fresh : reader ≡ []) (told : Seen) (written : Option (List ℕ)) where
   -- a script from its start
   pub from_start : (end : Ended) → OpensFrom f (n + 1) (lines_left reader remaining) (outside_of told written) end → OpensFrom f 1 (lines_left [] remaining) (outside_of told written) end
   from_start end opens =
@@ -52,35 +54,35 @@ module _ (f : KeyedFn) (n : ℕ) (reader : List ℕ) (remaining : Option (List �
     opens end at = from_start end (reads f (outside_of told written) end at)
 
     -- the greeting was cut
-    pub opens-away : (new : Told) (c : Cause) → TurnsAway 0 0 told new c → OpensTo f (lines_left [] remaining) (outside_of told written) (outside_of new written) (ends.At c)
+    pub opens-away : (new : Told) (c : Cause) → TurnsAway 0 0 told.told new c → OpensTo f (lines_left [] remaining) (outside_of told written) (outside_of (seen new told.kept) written) (ends.At c)
     opens-away new c away =
-        let end = ended (outside_of new written) (Some key) empty (ends.At c) in (
+        let end = ended (outside_of (seen new told.kept) written) (Some key) empty (ends.At c) in (
           Some key,
           empty,
           opens end (at_key-away f key number behind (outside_of told written) end
-              (record { cause = c; stops = refl; away = away; unprinted = refl; same_key = refl; history = refl })),
+              (record { cause = c; stops = refl; away = away; unkept = refl; unprinted = refl; same_key = refl; history = refl })),
         )
 
     -- the session was opened, and the lines were carried out until the run ended
-    pub opens-greeted : (mid : Told) (end : Outside) (stop : ends.Stop) → Greets 0 0 told mid → EndsFrom f (moment (opened key) (number + 1) behind false (outside_of mid written)) end stop
+    pub opens-greeted : (mid : Told) (end : Outside) (stop : ends.Stop) → Greets 0 0 told.told mid → EndsFrom f (moment (opened key) (number + 1) behind false (outside_of (seen mid told.kept) written)) end stop
         → OpensTo f (lines_left [] remaining) (outside_of told written) end stop
     opens-greeted mid end stop greets runs =
         let e = ended end (Some key) runs.0 stop in (
           Some key,
           runs.0,
-          opens e (at_key-greeted f key number behind (outside_of told written) e (outside_of mid written)
-              (record { greets = greets; unprinted = refl }) runs.1),
+          opens e (at_key-greeted f key number behind (outside_of told written) e (outside_of (seen mid told.kept) written)
+              (record { greets = greets; unkept = refl; unprinted = refl }) runs.1),
         )
 
 -- a run with its last line
-unfoldable pub has_run : (f : KeyedFn) (remaining : Option (List ℕ)) (now : Outside) (told told' : Told) (written written' : Option (List ℕ)) (stop : ends.Stop) (status q : ℕ)
+unfoldable pub has_run : (f : KeyedFn) (remaining : Option (List ℕ)) (now : Outside) (told told' : Seen) (written written' : Option (List ℕ)) (stop : ends.Stop) (status q : ℕ)
     → OpensTo f (lines_left [] remaining) now (outside_of told written) stop → told' ≡ told → written' ≡ append_known written (take q (stop_text stop)) → status ≡ status_of stop
     → IfSome remaining (λ bytes. HasRun f bytes now (outside_of told' written') status)
 has_run f None now told told' written written' stop status q o same printed is = tt
 has_run f (Some bytes) now told told' written written' stop status q o same printed is = record {
   end = ended (outside_of told written) o.0 o.1 stop;
   opens = o.2;
-  ends = record { told = same; q = q; printed = printed };
+  ends = record { told = ap (λ (s : Seen). s.told) same; kept = ap (λ (s : Seen). s.kept) same; q = q; printed = printed };
   status_is = is;
 }
 
@@ -113,6 +115,24 @@ run-simulated f bytes now last status run = record {
       subst (SendsSimulated f run.end.key run.end.history now.told) (sym run.ends.told)
       (sends_simulated f (meaning bytes) now run.end (goes f bytes now run.end run.opens) (meaning_is_kept bytes).0);
 }
+
+-- and of the history up to its stop the records were kept, but for the command in hand at most
+pub run-recorded : (f : KeyedFn) (bytes : List ℕ) (now last : Outside) (status : ℕ) → HasRun f bytes now last status → HasRecordedRun f bytes now last status
+run-recorded f bytes now last status run =
+    let r = recorded f 1 (script_lines bytes) now run.end run.opens in record {
+      run = run;
+      recorded = record {
+        held = r.held;
+        first = r.first;
+        most = r.most;
+        kept = run.ends.kept ∙ r.kept;
+        events = r.events;
+        adds = run.ends.told ∙ r.adds;
+        count = r.count;
+        sent = r.sent;
+        whole = λ disk memory clash. r.whole (λ e. disk (run.status_is ∙ e)) (λ e. memory (run.status_is ∙ e)) (λ e. clash (run.status_is ∙ e));
+      };
+    }
 
 -- what follows from each of a known list of bytes
 pub IfSome-then : {T : Type 0} (o : Option T) (P Q : T → Type 0) → ((x : T) → P x → Q x) → IfSome o P → IfSome o Q

@@ -8,6 +8,7 @@ pub mod Exchanges
 pub mod Calls
 pub mod Steps
 pub mod Stands
+pub mod Keeping
 pub mod Turns
 pub mod OverServer
 pub mod LastLine

@@ -1,5 +1,5 @@
 -- What a run over a server in this process that had taken nothing does.
-use Rattle.std.specs.Prelude.{◌≡◌, ◌≤◌, ℕ, List, [], ◌++◌, flat_map, take, Option, Some}
+use Rattle.std.specs.Prelude.{◌≡◌, ◌≤◌, ℕ, List, [], ◌++◌, flat_map, take, Option, None, Some}
 use Rattle.std.specs.Io.KnownBytes.{append_known}
 use Rattle.keyed_fn.specs.KeyedFn.{KeyedFn}
 use Rattle.server_core.specs.State.{ServerState, at_first}
@@ -10,19 +10,19 @@ use Rattle.script_meaning.specs.Meaning.{Meaning, meaning}
 use Rattle.script_meaning.specs.Session.{IsFree}
 use Rattle.script_meaning.specs.Stops.{status_of, stop_text}
 use Rattle.sse_script.specs.Texts.{text_of}
-use Rattle.sse_client.specs.Stands.{outside_of, HasRun}
+use Rattle.sse_client.specs.Stands.{seen, outside_of, HasRun}
 
 -- a whole run: where its history up to its stop has no collision, no collision and no reply stopped it
 pub record HasRunOverServer (f : KeyedFn) (bytes : List ℕ) (now last : Outside) (status : ℕ) : Type 0 where
   pub run : HasRun f bytes now last status
   pub stopped : IsFree f run.end.key run.end.history → status ≤ 7
 
--- the lines and the status of such a run: they are those of one over some honest link
+-- the lines and the status of such a run: they are those of one over some honest link, of which no record is told
 pub record PrintsAsRun (f : KeyedFn) (bytes : List ℕ) (old new : Option (List ℕ)) (status : ℕ) : Type 0 where
   pub told : Told
   pub state : ServerState
   pub over : IsOverHonest f at_first (Some []) told state
-  pub runs : HasRunOverServer f bytes (outside_of (Some []) old) (outside_of told new) status
+  pub runs : HasRunOverServer f bytes (outside_of (seen (Some []) None) old) (outside_of (seen told None) new) status
 
 -- a script of this meaning has this status and printed its lines, and a front of the line that says why it stopped
 pub record PrintsMeaning (m : Meaning) (old new : Option (List ℕ)) (status : ℕ) : Type 0 where

@@ -14,11 +14,12 @@ use Rattle.script_meaning.specs.Meaning.{meaning}
 use Rattle.script_meaning.specs.Session.{IsFree}
 use Rattle.sse_script.specs.Shown.{Cause, BadWords, NoMemory}
 use Rattle.sse_model.specs.Epochs.{keys_under}
-use Rattle.script_meaning.specs.Carries.{Outside, keys_at, with_answers, IsSent, Carries, StopsIn}
-use Rattle.script_meaning.specs.Exchange.{Told}
+use Rattle.script_meaning.specs.Carries.{Outside, Kept, keys_at, records_by, with_answers, IsSent, Carries, StopsIn}
+use Rattle.script_meaning.specs.Exchange.{Told, Adds}
 use Rattle.script_meaning.specs.Lines.{Request, script_lines}
 use Rattle.script_meaning.specs.Outcome.{Place, Outcome, outcome, after, shown_by, is_refusal}
 use Rattle.line_documents.specs.Refused.{bad_word}
+use Rattle.script_meaning.specs.Recorded.{IsRecorded}
 use Rattle.script_meaning.specs.Refused.{delete_refusal}
 use Rattle.script_meaning.specs.Runs.{Ended, ended, Opens, Ends, Moment, RunsFrom, OpensFrom}
 use Rattle.script_meaning.specs.Stops as ends
@@ -61,25 +62,34 @@ MayStop f (Searching client) (Del id) = (place : Place) → IsAt f (Searching cl
 MayStop f (Searching client) (Find word) = bad_word 0 (word ∷ []) ≡ None
 MayStop f _ _ = ⊥
 
--- a session goes on at this stage, with this outcome of a command: it exchanged all frames of what the command comes to at
--- this place, and shows that with the answers that came to its searches
-pub record GoesOn (f : KeyedFn) (old new : Told) (next : Stage) (came : LineResult) (place : Place) (result : Outcome) : Type 0 where
+-- what is seen of a session but for what it prints: what the link told, and the records that are kept
+pub record Seen : Type 0 where
+  pub told : Told
+  pub kept : Kept
+
+abbrev pub seen : Told → Kept → Seen
+seen told kept = record { told = told; kept = kept }
+
+-- a session goes on at this stage, with this outcome of a command: it kept the records of what the command comes to at this
+-- place, exchanged all frames of that, and shows it with the answers that came to its searches
+pub record GoesOn (f : KeyedFn) (old new : Seen) (next : Stage) (came : LineResult) (place : Place) (result : Outcome) : Type 0 where
+  pub kept : Adds old.kept new.kept (records_by f place result)
   pub answers : List (List ℕ)
-  pub sent : IsSent f place result old new answers
+  pub sent : IsSent f place result old.told new.told answers
   pub shown : line_result_view came ≡ with_answers (map in_order answers) (shown_by result)
   pub refuses : refuses came ≡ is_refusal result
   pub stands : IsAt f next (after result place)
 
 -- wherever a session may stand, it does with a command what is to be done there
-abbrev pub Takes : KeyedFn → Stage → Request → Told → Told → Stage → LineResult → Type 0
+abbrev pub Takes : KeyedFn → Stage → Request → Seen → Seen → Stage → LineResult → Type 0
 Takes f stage request old new next came = (place : Place) → IsAt f stage place → GoesOn f old new next came place (outcome place request)
 
 -- what is seen of a run
-abbrev pub outside_of : Told → Option (List ℕ) → Outside
-outside_of told written = record { told = told; written = written }
+abbrev pub outside_of : Seen → Option (List ℕ) → Outside
+outside_of now written = record { told = now.told; kept = now.kept; written = written }
 
 -- wherever a session may stand, a command stops the run there, for this cause, and prints nothing
-abbrev pub StopsWithin : KeyedFn → Stage → Request → Told → Told → Cause → Type 0
+abbrev pub StopsWithin : KeyedFn → Stage → Request → Seen → Seen → Cause → Type 0
 StopsWithin f stage request old new cause =
     (place : Place) → IsAt f stage place → (written : Option (List ℕ)) → StopsIn f place (outcome place request) (outside_of old written) (outside_of new written) (ends.At cause)
 
@@ -136,6 +146,12 @@ pub record HasHonestStatus (f : KeyedFn) (bytes : List ℕ) (now last : Outside)
 pub record HasSimulatedRun (f : KeyedFn) (bytes : List ℕ) (now last : Outside) (status : ℕ) : Type 0 where
   pub run : HasRun f bytes now last status
   pub sends : SendsSimulated f run.end.key run.end.history now.told last.told
+
+-- a whole run of whose history the records were kept, but for the command in hand at most, and of which no frame was sent whose
+-- command's record wasn't kept before
+pub record HasRecordedRun (f : KeyedFn) (bytes : List ℕ) (now last : Outside) (status : ℕ) : Type 0 where
+  pub run : HasRun f bytes now last status
+  pub recorded : IsRecorded f run.end.key run.end.history status now last
 
 -- where nothing disturbed a run, it did what its script means
 abbrev pub HasHeadline : KeyedFn → List ℕ → Outside → Outside → ℕ → Type 0

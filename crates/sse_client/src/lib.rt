@@ -6,6 +6,7 @@
 #![tactic(auto)]
 
 mod exchange;
+mod keeping;
 mod lines;
 mod peer_fault;
 mod reply_buffer;

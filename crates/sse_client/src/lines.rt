@@ -1,12 +1,12 @@
-ghost use Rattle.std.specs.Prelude.{◌≡◌, ◌≤◌, ◌<◌, ◌+◌, ◌^◌, ◌||◌, IfOk};
+ghost use Rattle.std.specs.Prelude.{◌≡◌, ◌≤◌, ◌<◌, ◌+◌, ◌^◌, ◌||◌, IfOk, OnOk};
 ghost use Rattle.std.specs.Io.KnownBytes.{IsAtEnd};
 ghost use Rattle.keyed_fn.specs.KeyedFn.{keyed_fn};
-ghost use Rattle.run_texts.specs.Causes.{KeepsSink, KeepsSource, LinkCause, SourceCause};
+ghost use Rattle.run_texts.specs.Causes.{KeepsRecorder, KeepsSink, KeepsSource, LinkCause, RecorderCause, SourceCause};
 ghost use Rattle.script_meaning.specs.Outcome.{Place};
 ghost use Rattle.script_meaning.specs.Runs.{moment};
 ghost use Rattle.sse_client.specs.Calls.{shows, KeepsLink};
 ghost use Rattle.sse_client.specs.Stages.{key_of};
-ghost use Rattle.sse_client.specs.Stands.{IsAt, outside_of, has_refused, EndsFrom};
+ghost use Rattle.sse_client.specs.Stands.{IsAt, seen, outside_of, has_refused, EndsFrom};
 ghost use Rattle.sse_client.specs.Turns.{ending, IfNext, OnEnd, Turns};
 ghost use Rattle.sse_script.specs.TextLines.{bytes_to_come, lines_left};
 
@@ -17,6 +17,7 @@ use keyed_fn::Keyed;
 use run_texts::{Input, InputStop, StopCause};
 use sse_link::Link;
 use sse_outside::{Sink, Source};
+use sse_recorder::Recorder;
 use sse_script::Line;
 
 /// Whether a command was refused.
@@ -53,26 +54,29 @@ enum Turn {
 }
 
 /// Carries out the lines after the key line, and prints what each comes to.
-pub(crate) fn run_lines<K: Keyed, L: Link, S: Source, W: Sink>(
+pub(crate) fn run_lines<K: Keyed, L: Link, R: Recorder, S: Source, W: Sink>(
     tools: &Tools<'_, K>,
     link: &mut L,
+    recorder: &mut R,
     source: &mut S,
     sink: &mut W,
     input: &mut Input,
     mut session: Session,
 ) -> Result<Refusals, StopCause>
     requires prepared { tools.now.master ≡ key_of session.stage }
+    requires whole { R.whole recorder.old }
     requires few { input.old.number + bytes_to_come input.old.pending (S.handed_out source.old) ≤ 2 ^ 63 }
     ensures ends { (place : Place) → IsAt (keyed_fn K.prf K.pad) session.stage place →
-        EndsFrom (keyed_fn K.prf K.pad) (moment place (input.old.number + 1) (lines_left input.old.pending (S.remaining source.old)) (has_refused session.refusals) (outside_of (L.transcript link.old) (W.written sink.old)))
-        (outside_of (L.transcript link.new) (W.written sink.new)) (ending result) }
+        EndsFrom (keyed_fn K.prf K.pad) (moment place (input.old.number + 1) (lines_left input.old.pending (S.remaining source.old)) (has_refused session.refusals) (outside_of (seen (L.transcript link.old) (R.kept recorder.old)) (W.written sink.old)))
+        (outside_of (seen (L.transcript link.new) (R.kept recorder.new)) (W.written sink.new)) (ending result) }
     ensures at_end { IfOk result (λ _. IsAtEnd (S.remaining source.new)) }
     ensures source { KeepsSource SourceCause (S.faults source.old) (S.faults source.new) result }
     ensures sink { KeepsSink (W.faults sink.old) (W.faults sink.new) (W.shortages sink.old) (W.shortages sink.new) result }
     ensures link { KeepsLink LinkCause (shows (L.transcript link.old) (L.faults link.old) (L.began link.old)) (shows (L.transcript link.new) (L.faults link.new) (L.began link.new)) result }
+    ensures recorder { KeepsRecorder RecorderCause (R.faults recorder.old) (R.faults recorder.new) result }
 {
     'lines: loop {
-        match take_turn(tools, link, source, sink, input, session)? {
+        match take_turn(tools, link, recorder, source, sink, input, session)? {
             Turn::Next(next) => session = next,
             Turn::End(refusals) => return Ok(refusals),
         }
@@ -80,18 +84,20 @@ pub(crate) fn run_lines<K: Keyed, L: Link, S: Source, W: Sink>(
 }
 
 /// Reads the next line and carries it out.
-fn take_turn<K: Keyed, L: Link, S: Source, W: Sink>(
+fn take_turn<K: Keyed, L: Link, R: Recorder, S: Source, W: Sink>(
     tools: &Tools<'_, K>,
     link: &mut L,
+    recorder: &mut R,
     source: &mut S,
     sink: &mut W,
     input: &mut Input,
     session: Session,
 ) -> Result<Turn, StopCause>
     requires prepared { tools.now.master ≡ key_of session.stage }
+    requires whole { R.whole recorder.old }
     requires few { input.old.number + bytes_to_come input.old.pending (S.handed_out source.old) ≤ 2 ^ 63 }
-    ensures turns { Turns (keyed_fn K.prf K.pad) session input.old.number (lines_left input.old.pending (S.remaining source.old)) (outside_of (L.transcript link.old) (W.written sink.old))
-        input.new.number (lines_left input.new.pending (S.remaining source.new)) (outside_of (L.transcript link.new) (W.written sink.new)) result }
+    ensures turns { Turns (keyed_fn K.prf K.pad) session input.old.number (lines_left input.old.pending (S.remaining source.old)) (outside_of (seen (L.transcript link.old) (R.kept recorder.old)) (W.written sink.old))
+        input.new.number (lines_left input.new.pending (S.remaining source.new)) (outside_of (seen (L.transcript link.new) (R.kept recorder.new)) (W.written sink.new)) result }
     ensures same_key { IfOk result (λ turn. IfNext turn (λ next. key_of next.stage ≡ key_of session.stage)) }
     ensures counted { IfOk result (λ turn. IfNext turn (λ _. input.new.number ≡ input.old.number + 1)) }
     ensures less { IfOk result (λ turn. IfNext turn (λ _.
@@ -99,7 +105,9 @@ fn take_turn<K: Keyed, L: Link, S: Source, W: Sink>(
     ensures at_end { IfOk result (λ turn. OnEnd turn (IsAtEnd (S.remaining source.new))) }
     ensures source { KeepsSource SourceCause (S.faults source.old) (S.faults source.new) result }
     ensures sink { KeepsSink (W.faults sink.old) (W.faults sink.new) (W.shortages sink.old) (W.shortages sink.new) result }
+    ensures whole_after { OnOk result (R.whole recorder.new) }
     ensures link { KeepsLink LinkCause (shows (L.transcript link.old) (L.faults link.old) (L.began link.old)) (shows (L.transcript link.new) (L.faults link.new) (L.began link.new)) result }
+    ensures recorder { KeepsRecorder RecorderCause (R.faults recorder.old) (R.faults recorder.new) result }
 {
     let Session {
         stage,
@@ -117,7 +125,7 @@ fn take_turn<K: Keyed, L: Link, S: Source, W: Sink>(
         })),
         Line::Key(_) => Err(StopCause::Input(InputStop::Line(input.number()))),
         line => {
-            let (next, outcome) = take_line(tools, link, &mut buffer, stage, line)?;
+            let (next, outcome) = take_line(tools, link, recorder, &mut buffer, stage, line)?;
             outcome.print(tools.alloc, sink)?;
             let refusals = refusals.or(outcome.is_refusal());
             Ok(Turn::Next(Session {

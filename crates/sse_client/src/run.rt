@@ -3,7 +3,7 @@ ghost use Rattle.std.specs.Io.KnownBytes.{IsAtEnd};
 ghost use Rattle.client_registry.specs.Histories.{empty};
 ghost use Rattle.keyed_fn.specs.KeyedFn.{KeyedFn, keyed_fn};
 ghost use Rattle.link_events.specs.Served as links;
-ghost use Rattle.run_texts.specs.Causes.{InputCause, KeepsSink, KeepsSource, LinkCause, SourceCause};
+ghost use Rattle.run_texts.specs.Causes.{InputCause, KeepsRecorder, KeepsSink, KeepsSource, LinkCause, RecorderCause, SourceCause};
 ghost use Rattle.run_texts.specs.Stops.{input_cause};
 ghost use Rattle.run_texts.specs.Words as asks;
 ghost use Rattle.script_meaning.specs.Carries.{Outside};
@@ -16,7 +16,7 @@ ghost use Rattle.server_core.specs.State.{at_first};
 ghost use Rattle.sse_client.specs.Calls.{shows, KeepsLink};
 ghost use Rattle.sse_client.specs.LastLine.{HasLastLine, HasShortLine, IsWholeOrRose};
 ghost use Rattle.sse_client.specs.OverServer.{HasRunOverServer, PrintsAsRun, PrintsAsMeant};
-ghost use Rattle.sse_client.specs.Stands.{outside_of, OpensTo, HasRun, HasHonestStatus, HasSimulatedRun, HasHeadline};
+ghost use Rattle.sse_client.specs.Stands.{seen, outside_of, OpensTo, HasRun, HasHonestStatus, HasSimulatedRun, HasRecordedRun, HasHeadline};
 ghost use Rattle.sse_client.specs.Turns.{ending};
 ghost use Rattle.sse_link.specs.Told.{told_first};
 ghost use Rattle.sse_outside.specs.Causes.{Rose};
@@ -33,75 +33,83 @@ use crate::tools::Tools;
 use client_core::Client;
 use client_registry::Docs;
 use keyed_fn::Keyed;
-use memory_disk::SteadyDisk;
 use run_texts::{Input, InputStop, Mode, StopCause, finish, mode_of};
 use server_core::Server;
 use server_tables::{BucketTables, Tables};
 use sse_link::{Link, SteadyLoopback};
-use sse_outside::{Disk, Sink, Source, SteadySink, SteadySource};
+use sse_outside::{Sink, Source, SteadySink, SteadySource};
+use sse_recorder::{NoRecords, Recorder};
 use sse_script::Line;
 use std::alloc::Global;
 use word_keys::MasterKey;
 
 /// All that a client program does with these words of its command line: `run` carries out the script
-/// of the source over the link and prints to the sink; the disk isn't touched. Other words end with
-/// status 2 and `stopped: words`, and nothing is read, sent or received.
-pub fn sse_run<K: Keyed, L: Link, D: Disk, S: Source, W: Sink>(
+/// of the source over the link, keeps the record of each setup, addition and deletion before anything
+/// of it is sent, and prints to the sink. Other words end with status 2 and `stopped: words`, and
+/// nothing is read, sent, received or kept.
+pub fn sse_run<K: Keyed, L: Link, R: Recorder, S: Source, W: Sink>(
     alloc: Global,
     words: &[String],
     keyed: &K,
     link: &mut L,
-    disk: &mut D,
+    recorder: &mut R,
     source: &mut S,
     sink: &mut W,
 ) -> u8
+    requires whole { R.whole recorder.old }
     ensures words_source { asks.mode_of (map (λ word. string_bytes word) words.now) ≡ None → source.new ≡ source.old }
     ensures words_link { asks.mode_of (map (λ word. string_bytes word) words.now) ≡ None → link.new ≡ link.old }
     ensures words_status { asks.mode_of (map (λ word. string_bytes word) words.now) ≡ None → result ≡ 2 }
     ensures words_line { (asks.mode_of (map (λ word. string_bytes word) words.now) ≡ Some asks.Run → ⊥) →
         TookOrRose (W.written sink.old) (W.written sink.new) (text_of (Stopped BadWords)) (W.faults sink.old) (W.faults sink.new) (W.shortages sink.old) (W.shortages sink.new) }
     ensures runs { asks.mode_of (map (λ word. string_bytes word) words.now) ≡ Some asks.Run → IfSome (S.remaining source.old) (λ bytes.
-        HasRun (keyed_fn K.prf K.pad) bytes (outside_of (L.transcript link.old) (W.written sink.old)) (outside_of (L.transcript link.new) (W.written sink.new)) result) }
+        HasRun (keyed_fn K.prf K.pad) bytes (outside_of (seen (L.transcript link.old) (R.kept recorder.old)) (W.written sink.old)) (outside_of (seen (L.transcript link.new) (R.kept recorder.new)) (W.written sink.new)) result) }
     ensures simulated { asks.mode_of (map (λ word. string_bytes word) words.now) ≡ Some asks.Run → IfSome (S.remaining source.old) (λ bytes.
-        HasSimulatedRun (keyed_fn K.prf K.pad) bytes (outside_of (L.transcript link.old) (W.written sink.old)) (outside_of (L.transcript link.new) (W.written sink.new)) result) }
+        HasSimulatedRun (keyed_fn K.prf K.pad) bytes (outside_of (seen (L.transcript link.old) (R.kept recorder.old)) (W.written sink.old)) (outside_of (seen (L.transcript link.new) (R.kept recorder.new)) (W.written sink.new)) result) }
+    ensures recorded { asks.mode_of (map (λ word. string_bytes word) words.now) ≡ Some asks.Run → IfSome (S.remaining source.old) (λ bytes.
+        HasRecordedRun (keyed_fn K.prf K.pad) bytes (outside_of (seen (L.transcript link.old) (R.kept recorder.old)) (W.written sink.old)) (outside_of (seen (L.transcript link.new) (R.kept recorder.new)) (W.written sink.new)) result) }
     ensures honest { asks.mode_of (map (λ word. string_bytes word) words.now) ≡ Some asks.Run → IfSome (S.remaining source.old) (λ bytes.
-        HasHonestStatus (keyed_fn K.prf K.pad) bytes (outside_of (L.transcript link.old) (W.written sink.old)) (outside_of (L.transcript link.new) (W.written sink.new)) result) }
+        HasHonestStatus (keyed_fn K.prf K.pad) bytes (outside_of (seen (L.transcript link.old) (R.kept recorder.old)) (W.written sink.old)) (outside_of (seen (L.transcript link.new) (R.kept recorder.new)) (W.written sink.new)) result) }
     ensures headline { asks.mode_of (map (λ word. string_bytes word) words.now) ≡ Some asks.Run → IfSome (S.remaining source.old) (λ bytes.
-        HasHeadline (keyed_fn K.prf K.pad) bytes (outside_of (L.transcript link.old) (W.written sink.old)) (outside_of (L.transcript link.new) (W.written sink.new)) result) }
+        HasHeadline (keyed_fn K.prf K.pad) bytes (outside_of (seen (L.transcript link.old) (R.kept recorder.old)) (W.written sink.old)) (outside_of (seen (L.transcript link.new) (R.kept recorder.new)) (W.written sink.new)) result) }
     ensures at_end { result ≤ 1 → IsAtEnd (S.remaining source.new) }
     ensures source_failed { result ≡ 3 → Rose (S.faults source.old) (S.faults source.new) }
     ensures source_steady { result ≢ 3 → S.faults source.new ≡ S.faults source.old }
     ensures sink_failed { result ≡ 4 → Rose (W.faults sink.old) (W.faults sink.new) }
     ensures sink_steady { result ≤ 1 → W.faults sink.new ≡ W.faults sink.old }
     ensures last_line { asks.mode_of (map (λ word. string_bytes word) words.now) ≡ Some asks.Run → IsWholeOrRose
-        (IfSome (S.remaining source.old) (λ bytes. HasLastLine (keyed_fn K.prf K.pad) bytes (outside_of (L.transcript link.old) (W.written sink.old)) (outside_of (L.transcript link.new) (W.written sink.new)) result))
-        (IfSome (S.remaining source.old) (λ bytes. HasShortLine (keyed_fn K.prf K.pad) bytes (outside_of (L.transcript link.old) (W.written sink.old)) (outside_of (L.transcript link.new) (W.written sink.new)) result))
+        (IfSome (S.remaining source.old) (λ bytes. HasLastLine (keyed_fn K.prf K.pad) bytes (outside_of (seen (L.transcript link.old) (R.kept recorder.old)) (W.written sink.old)) (outside_of (seen (L.transcript link.new) (R.kept recorder.new)) (W.written sink.new)) result))
+        (IfSome (S.remaining source.old) (λ bytes. HasShortLine (keyed_fn K.prf K.pad) bytes (outside_of (seen (L.transcript link.old) (R.kept recorder.old)) (W.written sink.old)) (outside_of (seen (L.transcript link.new) (R.kept recorder.new)) (W.written sink.new)) result))
         result (W.faults sink.old) (W.faults sink.new) (W.shortages sink.old) (W.shortages sink.new) }
     ensures link_failed { result ≡ 5 → Rose (L.faults link.old) (L.faults link.new) }
     ensures link_steady { result ≢ 5 → L.faults link.new ≡ L.faults link.old }
     ensures began { L.began link.new ≡ L.began link.old }
-    ensures disk { disk.new ≡ disk.old }
-    ensures known { (result ≤ 9) × (result ≢ 6) }
+    ensures words_recorder { asks.mode_of (map (λ word. string_bytes word) words.now) ≡ None → recorder.new ≡ recorder.old }
+    ensures recorder_failed { result ≡ 6 → Rose (R.faults recorder.old) (R.faults recorder.new) }
+    ensures recorder_steady { result ≢ 6 → R.faults recorder.new ≡ R.faults recorder.old }
+    ensures known { result ≤ 9 }
 {
     match mode_of(words) {
-        Some(Mode::Run) => whole_run(alloc, keyed, link, source, sink),
+        Some(Mode::Run) => whole_run(alloc, keyed, link, recorder, source, sink),
         None => finish(sink, StopCause::Words),
     }
 }
 
 /// Carries out a script, prints the last line where it stopped, and answers the run's status.
-fn whole_run<K: Keyed, L: Link, S: Source, W: Sink>(
+fn whole_run<K: Keyed, L: Link, R: Recorder, S: Source, W: Sink>(
     alloc: Global,
     keyed: &K,
     link: &mut L,
+    recorder: &mut R,
     source: &mut S,
     sink: &mut W,
 ) -> u8
+    requires whole { R.whole recorder.old }
     ensures runs { IfSome (S.remaining source.old) (λ bytes.
-        HasRun (keyed_fn K.prf K.pad) bytes (outside_of (L.transcript link.old) (W.written sink.old)) (outside_of (L.transcript link.new) (W.written sink.new)) result) }
+        HasRun (keyed_fn K.prf K.pad) bytes (outside_of (seen (L.transcript link.old) (R.kept recorder.old)) (W.written sink.old)) (outside_of (seen (L.transcript link.new) (R.kept recorder.new)) (W.written sink.new)) result) }
     ensures last_line { IsWholeOrRose
-        (IfSome (S.remaining source.old) (λ bytes. HasLastLine (keyed_fn K.prf K.pad) bytes (outside_of (L.transcript link.old) (W.written sink.old)) (outside_of (L.transcript link.new) (W.written sink.new)) result))
-        (IfSome (S.remaining source.old) (λ bytes. HasShortLine (keyed_fn K.prf K.pad) bytes (outside_of (L.transcript link.old) (W.written sink.old)) (outside_of (L.transcript link.new) (W.written sink.new)) result))
+        (IfSome (S.remaining source.old) (λ bytes. HasLastLine (keyed_fn K.prf K.pad) bytes (outside_of (seen (L.transcript link.old) (R.kept recorder.old)) (W.written sink.old)) (outside_of (seen (L.transcript link.new) (R.kept recorder.new)) (W.written sink.new)) result))
+        (IfSome (S.remaining source.old) (λ bytes. HasShortLine (keyed_fn K.prf K.pad) bytes (outside_of (seen (L.transcript link.old) (R.kept recorder.old)) (W.written sink.old)) (outside_of (seen (L.transcript link.new) (R.kept recorder.new)) (W.written sink.new)) result))
         result (W.faults sink.old) (W.faults sink.new) (W.shortages sink.old) (W.shortages sink.new) }
     ensures at_end { result ≤ 1 → IsAtEnd (S.remaining source.new) }
     ensures source_failed { result ≡ 3 → Rose (S.faults source.old) (S.faults source.new) }
@@ -111,9 +119,11 @@ fn whole_run<K: Keyed, L: Link, S: Source, W: Sink>(
     ensures link_failed { result ≡ 5 → Rose (L.faults link.old) (L.faults link.new) }
     ensures link_steady { result ≢ 5 → L.faults link.new ≡ L.faults link.old }
     ensures began { L.began link.new ≡ L.began link.old }
-    ensures known { (result ≤ 9) × (result ≢ 6) }
+    ensures recorder_failed { result ≡ 6 → Rose (R.faults recorder.old) (R.faults recorder.new) }
+    ensures recorder_steady { result ≢ 6 → R.faults recorder.new ≡ R.faults recorder.old }
+    ensures known { result ≤ 9 }
 {
-    match run_script(alloc, keyed, link, source, sink) {
+    match run_script(alloc, keyed, link, recorder, source, sink) {
         Ok(Refusals::None) => 0,
         Ok(Refusals::Some) => 1,
         Err(stop) => finish(sink, stop),
@@ -121,19 +131,22 @@ fn whole_run<K: Keyed, L: Link, S: Source, W: Sink>(
 }
 
 /// Carries out a script: its key line, the greeting, then each line to the end of the input.
-fn run_script<K: Keyed, L: Link, S: Source, W: Sink>(
+fn run_script<K: Keyed, L: Link, R: Recorder, S: Source, W: Sink>(
     alloc: Global,
     keyed: &K,
     link: &mut L,
+    recorder: &mut R,
     source: &mut S,
     sink: &mut W,
 ) -> Result<Refusals, StopCause>
-    ensures ends { OpensTo (keyed_fn K.prf K.pad) (lines_left [] (S.remaining source.old)) (outside_of (L.transcript link.old) (W.written sink.old))
-        (outside_of (L.transcript link.new) (W.written sink.new)) (ending result) }
+    requires whole { R.whole recorder.old }
+    ensures ends { OpensTo (keyed_fn K.prf K.pad) (lines_left [] (S.remaining source.old)) (outside_of (seen (L.transcript link.old) (R.kept recorder.old)) (W.written sink.old))
+        (outside_of (seen (L.transcript link.new) (R.kept recorder.new)) (W.written sink.new)) (ending result) }
     ensures at_end { OnOk result (IsAtEnd (S.remaining source.new)) }
     ensures source { KeepsSource SourceCause (S.faults source.old) (S.faults source.new) result }
     ensures sink { KeepsSink (W.faults sink.old) (W.faults sink.new) (W.shortages sink.old) (W.shortages sink.new) result }
     ensures link { KeepsLink LinkCause (shows (L.transcript link.old) (L.faults link.old) (L.began link.old)) (shows (L.transcript link.new) (L.faults link.new) (L.began link.new)) result }
+    ensures recorder { KeepsRecorder RecorderCause (R.faults recorder.old) (R.faults recorder.new) result }
 {
     let mut input = Input::new(alloc)?;
     let key = key_line(source, &mut input)?;
@@ -151,7 +164,7 @@ fn run_script<K: Keyed, L: Link, S: Source, W: Sink>(
         refusals: Refusals::None,
         buffer,
     };
-    run_lines(&tools, link, source, sink, &mut input, session)
+    run_lines(&tools, link, recorder, source, sink, &mut input, session)
 }
 
 /// Reads up to the key line, which is the first that isn't empty.
@@ -183,49 +196,54 @@ fn key_line<S: Source>(source: &mut S, input: &mut Input) -> Result<MasterKey, I
 /// Where no device failed and memory wasn't wanting, the run did what its script means, unless values collide that
 /// have to differ: it printed its lines, what passed is what the simulator makes of its history's leakage, and the server
 /// holds what that leaves.
-pub fn run_over_server<K: Keyed, T: Tables, D: Disk, S: Source, W: Sink>(
+pub fn run_over_server<K: Keyed, T: Tables, R: Recorder, S: Source, W: Sink>(
     alloc: Global,
     words: &[String],
     keyed: &K,
     link: &mut SteadyLoopback<K, T>,
-    disk: &mut D,
+    recorder: &mut R,
     source: &mut S,
     sink: &mut W,
 ) -> u8
     requires fresh { link.old ≡ told_first at_first }
+    requires whole { R.whole recorder.old }
     ensures words_source { asks.mode_of (map (λ word. string_bytes word) words.now) ≡ None → source.new ≡ source.old }
     ensures words_link { asks.mode_of (map (λ word. string_bytes word) words.now) ≡ None → link.new ≡ link.old }
     ensures words_status { asks.mode_of (map (λ word. string_bytes word) words.now) ≡ None → result ≡ 2 }
     ensures words_line { (asks.mode_of (map (λ word. string_bytes word) words.now) ≡ Some asks.Run → ⊥) →
         TookOrRose (W.written sink.old) (W.written sink.new) (text_of (Stopped BadWords)) (W.faults sink.old) (W.faults sink.new) (W.shortages sink.old) (W.shortages sink.new) }
     ensures runs { asks.mode_of (map (λ word. string_bytes word) words.now) ≡ Some asks.Run → IfSome (S.remaining source.old) (λ bytes.
-        HasRunOverServer (keyed_fn K.prf K.pad) bytes (outside_of (Some link.old.events) (W.written sink.old)) (outside_of (Some link.new.events) (W.written sink.new)) result) }
+        HasRunOverServer (keyed_fn K.prf K.pad) bytes (outside_of (seen (Some link.old.events) (R.kept recorder.old)) (W.written sink.old)) (outside_of (seen (Some link.new.events) (R.kept recorder.new)) (W.written sink.new)) result) }
     ensures simulated { asks.mode_of (map (λ word. string_bytes word) words.now) ≡ Some asks.Run → IfSome (S.remaining source.old) (λ bytes.
-        HasSimulatedRun (keyed_fn K.prf K.pad) bytes (outside_of (Some link.old.events) (W.written sink.old)) (outside_of (Some link.new.events) (W.written sink.new)) result) }
+        HasSimulatedRun (keyed_fn K.prf K.pad) bytes (outside_of (seen (Some link.old.events) (R.kept recorder.old)) (W.written sink.old)) (outside_of (seen (Some link.new.events) (R.kept recorder.new)) (W.written sink.new)) result) }
+    ensures recorded { asks.mode_of (map (λ word. string_bytes word) words.now) ≡ Some asks.Run → IfSome (S.remaining source.old) (λ bytes.
+        HasRecordedRun (keyed_fn K.prf K.pad) bytes (outside_of (seen (Some link.old.events) (R.kept recorder.old)) (W.written sink.old)) (outside_of (seen (Some link.new.events) (R.kept recorder.new)) (W.written sink.new)) result) }
     ensures honest { links.IsHonest (keyed_fn K.prf K.pad) at_first link.new.events link.new.state }
     ensures last_line { asks.mode_of (map (λ word. string_bytes word) words.now) ≡ Some asks.Run → IsWholeOrRose
-        (IfSome (S.remaining source.old) (λ bytes. HasLastLine (keyed_fn K.prf K.pad) bytes (outside_of (Some link.old.events) (W.written sink.old)) (outside_of (Some link.new.events) (W.written sink.new)) result))
-        (IfSome (S.remaining source.old) (λ bytes. HasShortLine (keyed_fn K.prf K.pad) bytes (outside_of (Some link.old.events) (W.written sink.old)) (outside_of (Some link.new.events) (W.written sink.new)) result))
+        (IfSome (S.remaining source.old) (λ bytes. HasLastLine (keyed_fn K.prf K.pad) bytes (outside_of (seen (Some link.old.events) (R.kept recorder.old)) (W.written sink.old)) (outside_of (seen (Some link.new.events) (R.kept recorder.new)) (W.written sink.new)) result))
+        (IfSome (S.remaining source.old) (λ bytes. HasShortLine (keyed_fn K.prf K.pad) bytes (outside_of (seen (Some link.old.events) (R.kept recorder.old)) (W.written sink.old)) (outside_of (seen (Some link.new.events) (R.kept recorder.new)) (W.written sink.new)) result))
         result (W.faults sink.old) (W.faults sink.new) (W.shortages sink.old) (W.shortages sink.new) }
-    ensures headline { asks.mode_of (map (λ word. string_bytes word) words.now) ≡ Some asks.Run → result ≢ 3 → result ≢ 4 → result ≢ 7 → IfSome (S.remaining source.old) (λ bytes.
+    ensures headline { asks.mode_of (map (λ word. string_bytes word) words.now) ≡ Some asks.Run → result ≢ 3 → result ≢ 4 → result ≢ 6 → result ≢ 7 → IfSome (S.remaining source.old) (λ bytes.
         IsFree (keyed_fn K.prf K.pad) (meaning bytes).key (meaning bytes).history →
-        Headline (keyed_fn K.prf K.pad) at_first (meaning bytes) (outside_of (Some link.old.events) (W.written sink.old)) (outside_of (Some link.new.events) (W.written sink.new)) result link.new.state) }
+        Headline (keyed_fn K.prf K.pad) at_first (meaning bytes) (outside_of (seen (Some link.old.events) (R.kept recorder.old)) (W.written sink.old)) (outside_of (seen (Some link.new.events) (R.kept recorder.new)) (W.written sink.new)) result link.new.state) }
     ensures at_end { result ≤ 1 → IsAtEnd (S.remaining source.new) }
     ensures source_failed { result ≡ 3 → Rose (S.faults source.old) (S.faults source.new) }
     ensures source_steady { result ≢ 3 → S.faults source.new ≡ S.faults source.old }
     ensures sink_failed { result ≡ 4 → Rose (W.faults sink.old) (W.faults sink.new) }
     ensures sink_steady { result ≤ 1 → W.faults sink.new ≡ W.faults sink.old }
     ensures no_link_fault { result ≢ 5 }
-    ensures disk { disk.new ≡ disk.old }
-    ensures known { (result ≤ 9) × (result ≢ 6) }
+    ensures words_recorder { asks.mode_of (map (λ word. string_bytes word) words.now) ≡ None → recorder.new ≡ recorder.old }
+    ensures recorder_failed { result ≡ 6 → Rose (R.faults recorder.old) (R.faults recorder.new) }
+    ensures recorder_steady { result ≢ 6 → R.faults recorder.new ≡ R.faults recorder.old }
+    ensures known { result ≤ 9 }
 {
-    let status = sse_run(alloc, words, keyed, link, disk, source, sink);
+    let status = sse_run(alloc, words, keyed, link, recorder, source, sink);
     // Its contract says that all that passed is honest.
     let _passed = link.transcript();
     status
 }
 
-/// The same over a link and a disk that are made here and dropped: what is printed, and the status.
+/// The same over a link that is made here and dropped, keeping no records: what is printed, and the status.
 pub fn run_in_memory<K: Keyed + Copy, S: Source, W: Sink>(
     alloc: Global,
     words: &[String],
@@ -251,8 +269,7 @@ pub fn run_in_memory<K: Keyed + Copy, S: Source, W: Sink>(
 {
     let server = Server::new(BucketTables::new(alloc));
     let mut link = SteadyLoopback::new(alloc, *keyed, server);
-    let mut disk = SteadyDisk::new(alloc);
-    run_over_server(alloc, words, keyed, &mut link, &mut disk, source, sink)
+    run_over_server(alloc, words, keyed, &mut link, &mut NoRecords, source, sink)
 }
 
 /// The same over a script in memory and a sink that keeps what is printed: no device fails, so that the run did what

@@ -1,25 +1,28 @@
-ghost use Rattle.std.specs.Prelude.{◌≡◌, ◌≤◌, ◌^◌, List, [], ◌∷◌, false, Err, length, map, IfOk, IfErr, OnOk, OnErr, IsErrOf, Ok};
+ghost use Rattle.std.specs.Prelude.{◌≡◌, ◌≤◌, ◌^◌, ℕ, List, [], ◌∷◌, false, Err, length, map, IfOk, IfErr, OnOk, OnErr, IsErrOf, Ok};
 ghost use Rattle.std.specs.List.{AllByRecursion};
 ghost use Rattle.client_registry.specs.Setup.{setup_with};
 ghost use Rattle.keyed_fn.specs.KeyedFn.{KeyedFn, keyed_fn};
-ghost use Rattle.run_texts.specs.Causes.{CommandCause, PeerCause};
+ghost use Rattle.run_texts.specs.Causes.{CommandCause, KeepCommandCause, KeepsRecorder};
+ghost use Rattle.client_core.specs.Payloads.{setup_payload};
+ghost use Rattle.sse_client.specs.Keeping.{SendsKept};
+ghost use Rattle.script_meaning.specs.Carries.{Kept};
 ghost use Rattle.run_texts.specs.LineWords.{words_in};
 ghost use Rattle.run_texts.specs.LineResultViews.{line_result_view, refuses};
 ghost use Rattle.run_texts.specs.Stops.{command_cause};
-ghost use Rattle.script_meaning.specs.Exchange.{Told};
 ghost use Rattle.script_meaning.specs.Lines as requests;
 ghost use Rattle.script_meaning.specs.Lines.{Request, line_read};
-ghost use Rattle.sse_client.specs.Calls.{shows, KeepsLink, Sends};
+ghost use Rattle.sse_client.specs.Calls.{shows, KeepsLink};
 ghost use Rattle.client_core.specs.Owes.{AreNumbered};
 ghost use Rattle.sse_client.specs.SetupFaults.{setup_answer};
 ghost use Rattle.sse_client.specs.Stages.{key_of, hash_keys_of};
-ghost use Rattle.sse_client.specs.Stands.{IsReady, MayStop, Takes, StopsWithin};
+ghost use Rattle.sse_client.specs.Stands.{IsReady, MayStop, Seen, seen, Takes, StopsWithin};
 ghost use Rattle.sse_frames.specs.Frames.{FrameText, IsFrame, frame_bytes};
 ghost use Rattle.sse_script.specs.Lines as lines;
 ghost use Rattle.sse_script.specs.Shown as says;
 ghost use Rattle.sse_script.specs.Views.{line_view};
 ghost use Rattle.sse_script.specs.declared.refusal.Refusal.{Refusal as Reason};
 
+use crate::keeping::keep_setup;
 use crate::reply_buffer::ReplyBuffer;
 use crate::searching::search;
 use crate::sending::catch_up;
@@ -29,8 +32,9 @@ use client_core::{Client, Fresh, Planned, Ready, SetupFault};
 use client_registry::Docs;
 use keyed_fn::Keyed;
 use line_documents::{LineFault, add_document, word_of};
-use run_texts::{CommandStop, LineResult, PeerStop, PlanStop};
+use run_texts::{CommandStop, LineResult, PlanStop};
 use sse_link::Link;
+use sse_recorder::Recorder;
 use sse_script::{Fields, Line, Refusal};
 use std::alloc::Global;
 
@@ -42,31 +46,42 @@ pub(crate) enum Stage {
 }
 
 /// Carries out a line of the script that is no key line.
-pub(crate) fn take_line<K: Keyed, L: Link>(
+pub(crate) fn take_line<K: Keyed, L: Link, R: Recorder>(
     tools: &Tools<'_, K>,
     link: &mut L,
+    recorder: &mut R,
     buffer: &mut ReplyBuffer,
     stage: Stage,
     line: Line<'_>,
 ) -> Result<(Stage, LineResult), CommandStop>
     requires prepared { tools.now.master ≡ key_of stage }
     requires words { words_in (line_view line) ≤ 2 ^ 19 }
+    requires whole { R.whole recorder.old }
     ensures takes { IfOk result (λ done. (request : Request) → line_read (line_view line.entry) ≡ requests.Command request →
-        Takes (keyed_fn K.prf K.pad) stage request (L.transcript link.old) (L.transcript link.new) done.0 done.1) }
+        Takes (keyed_fn K.prf K.pad) stage request (seen (L.transcript link.old) (R.kept recorder.old)) (seen (L.transcript link.new) (R.kept recorder.new)) done.0 done.1) }
     ensures stops { IfErr result (λ stop. (request : Request) → line_read (line_view line.entry) ≡ requests.Command request →
-        StopsWithin (keyed_fn K.prf K.pad) stage request (L.transcript link.old) (L.transcript link.new) (command_cause stop)) }
+        StopsWithin (keyed_fn K.prf K.pad) stage request (seen (L.transcript link.old) (R.kept recorder.old)) (seen (L.transcript link.new) (R.kept recorder.new)) (command_cause stop)) }
     ensures may_stop { OnErr result (MayStop (keyed_fn K.prf K.pad) stage (line_view line.entry)) }
     ensures same_key { IfOk result (λ done. key_of done.0 ≡ key_of stage) }
     ensures keeps { KeepsLink CommandCause (shows (L.transcript link.old) (L.faults link.old) (L.began link.old)) (shows (L.transcript link.new) (L.faults link.new) (L.began link.new)) result }
+    ensures whole_after { OnOk result (R.whole recorder.new) }
+    ensures recorder { KeepsRecorder KeepCommandCause (R.faults recorder.old) (R.faults recorder.new) result }
 {
     match line {
         Line::Empty | Line::Key(_) => Ok((stage, LineResult::Nothing)),
         Line::Doc { id, words } => Ok(collect(tools.alloc, stage, id, words)?),
         Line::Setup { b, big, pad } => {
-            set_up(tools, link, buffer, stage, SetupNumbers { b, big, pad })
+            set_up(
+                tools,
+                link,
+                recorder,
+                buffer,
+                stage,
+                SetupNumbers { b, big, pad },
+            )
         }
-        Line::Add { id, words } => add(tools, link, buffer, stage, id, words),
-        Line::Del { id } => delete(tools, link, buffer, stage, id),
+        Line::Add { id, words } => add(tools, link, recorder, buffer, stage, id, words),
+        Line::Del { id } => delete(tools, link, recorder, buffer, stage, id),
         Line::Find { word } => find(tools, link, buffer, stage, word),
     }
 }
@@ -79,7 +94,7 @@ fn collect(
     fields: Fields<'_>,
 ) -> Result<(Stage, LineResult), PlanStop>
     requires { length fields ≤ 2 ^ 19 }
-    ensures takes { IfOk result (λ done. (f : KeyedFn) (told : Told) → Takes f stage (requests.Doc id fields.entry) told told done.0 done.1) }
+    ensures takes { IfOk result (λ done. (f : KeyedFn) (now : Seen) → Takes f stage (requests.Doc id fields.entry) now now done.0 done.1) }
     ensures key { IfOk result (λ done. key_of done.0 ≡ key_of stage) }
     ensures memory { IfErr result (λ stop. stop ≡ PlanStop.Memory) }
     ensures may_stop { OnErr result ((f : KeyedFn) → MayStop f stage (lines.Doc id fields.entry)) }
@@ -119,24 +134,36 @@ struct SetupNumbers {
 }
 
 /// Carries out a `setup` line. After a refusal the documents stay collected.
-fn set_up<K: Keyed, L: Link>(
+fn set_up<K: Keyed, L: Link, R: Recorder>(
     tools: &Tools<'_, K>,
     link: &mut L,
+    recorder: &mut R,
     buffer: &mut ReplyBuffer,
     stage: Stage,
     numbers: SetupNumbers,
 ) -> Result<(Stage, LineResult), CommandStop>
-    ensures takes { IfOk result (λ done. Takes (keyed_fn K.prf K.pad) stage (requests.SetupLine numbers.b numbers.big numbers.pad) (L.transcript link.old) (L.transcript link.new) done.0 done.1) }
-    ensures stops { IfErr result (λ stop. StopsWithin (keyed_fn K.prf K.pad) stage (requests.SetupLine numbers.b numbers.big numbers.pad) (L.transcript link.old) (L.transcript link.new) (command_cause stop)) }
+    requires whole { R.whole recorder.old }
+    ensures takes { IfOk result (λ done. Takes (keyed_fn K.prf K.pad) stage (requests.SetupLine numbers.b numbers.big numbers.pad) (seen (L.transcript link.old) (R.kept recorder.old)) (seen (L.transcript link.new) (R.kept recorder.new)) done.0 done.1) }
+    ensures stops { IfErr result (λ stop. StopsWithin (keyed_fn K.prf K.pad) stage (requests.SetupLine numbers.b numbers.big numbers.pad) (seen (L.transcript link.old) (R.kept recorder.old)) (seen (L.transcript link.new) (R.kept recorder.new)) (command_cause stop)) }
     ensures may_stop { OnErr result (MayStop (keyed_fn K.prf K.pad) stage (lines.SetupLine numbers.b numbers.big numbers.pad)) }
     ensures same_key { IfOk result (λ done. key_of done.0 ≡ key_of stage) }
     ensures keeps { KeepsLink CommandCause (shows (L.transcript link.old) (L.faults link.old) (L.began link.old)) (shows (L.transcript link.new) (L.faults link.new) (L.began link.new)) result }
+    ensures whole_after { OnOk result (R.whole recorder.new) }
+    ensures recorder { KeepsRecorder KeepCommandCause (R.faults recorder.old) (R.faults recorder.new) result }
 {
     match stage {
         Stage::Collecting(client, docs) => {
             let SetupNumbers { b, big, pad } = numbers;
             match client.plan_setup(tools.alloc, tools.keyed, &docs, b, big, pad) {
-                Ok(planned) => Ok(send_setup(tools.alloc, client, planned, docs, link, buffer)?),
+                Ok(planned) => Ok(send_setup(
+                    tools.alloc,
+                    client,
+                    planned,
+                    docs,
+                    link,
+                    recorder,
+                    buffer,
+                )?),
                 Err(fault) => Ok((
                     Stage::Collecting(client, docs),
                     LineResult::Refused(setup_refusal(fault)?),
@@ -150,27 +177,32 @@ fn set_up<K: Keyed, L: Link>(
     }
 }
 
-/// Commits a planned setup and sends it; the counts that are shown are those without dummies.
-fn send_setup<L: Link>(
+/// Keeps the record of a planned setup, commits it and sends it; the counts that are shown are those without dummies.
+fn send_setup<L: Link, R: Recorder>(
     alloc: Global,
     client: Client<Fresh>,
     planned: Planned,
     docs: Docs,
     link: &mut L,
+    recorder: &mut R,
     buffer: &mut ReplyBuffer,
-) -> Result<(Stage, LineResult), PeerStop>
+) -> Result<(Stage, LineResult), CommandStop>
     requires frames { AllByRecursion IsFrame (planned.frames) }
     requires documents { planned.made_of ≡ docs }
+    requires whole { R.whole recorder.old }
     ensures sends { (frames : List FrameText) → planned.frames ≡ map frame_bytes frames → AreNumbered 0 frames →
-        Sends (shows (L.transcript link.old) (L.faults link.old) (L.began link.old)) (shows (L.transcript link.new) (L.faults link.new) (L.began link.new)) frames result }
+        SendsKept (setup_payload planned) (seen (L.transcript link.old) (R.kept recorder.old)) (seen (L.transcript link.new) (R.kept recorder.new)) frames result }
     ensures shown { IfOk result (λ done. line_result_view done.1 ≡ says.SetUp planned.own_words planned.own_blocks ∷ []) }
     ensures accepted { IfOk result (λ done. refuses done.1 ≡ false) }
     ensures stands { (f : KeyedFn) → IfOk result (λ done. IsReady f client.key (record { setup = setup_with docs.documents planned.b planned.big planned.pad; later = [] }) done.0) }
     ensures hash_keys { IfOk result (λ done. hash_keys_of done.0 ≡ docs.keys) }
     ensures key { IfOk result (λ done. key_of done.0 ≡ client.key) }
-    ensures keeps { KeepsLink PeerCause (shows (L.transcript link.old) (L.faults link.old) (L.began link.old)) (shows (L.transcript link.new) (L.faults link.new) (L.began link.new)) result }
+    ensures keeps { KeepsLink CommandCause (shows (L.transcript link.old) (L.faults link.old) (L.began link.old)) (shows (L.transcript link.new) (L.faults link.new) (L.began link.new)) result }
+    ensures whole_after { OnOk result (R.whole recorder.new) }
+    ensures recorder { KeepsRecorder KeepCommandCause (R.faults recorder.old) (R.faults recorder.new) result }
 {
     let (words, blocks) = (planned.own_words(), planned.own_blocks());
+    keep_setup(alloc, &planned, &docs, recorder)?;
     let ready = catch_up(client.commit(alloc, planned, docs), link, buffer)?;
     Ok((Stage::Searching(ready), LineResult::SetUp { words, blocks }))
 }
@@ -190,9 +222,10 @@ fn setup_refusal(fault: SetupFault) -> Result<Refusal, PlanStop>
 }
 
 /// Carries out an `add` line.
-fn add<K: Keyed, L: Link>(
+fn add<K: Keyed, L: Link, R: Recorder>(
     tools: &Tools<'_, K>,
     link: &mut L,
+    recorder: &mut R,
     buffer: &mut ReplyBuffer,
     stage: Stage,
     id: u64,
@@ -200,11 +233,14 @@ fn add<K: Keyed, L: Link>(
 ) -> Result<(Stage, LineResult), CommandStop>
     requires prepared { tools.now.master ≡ key_of stage }
     requires words { length fields ≤ 2 ^ 19 }
-    ensures takes { IfOk result (λ done. Takes (keyed_fn K.prf K.pad) stage (requests.AddLine id fields.entry) (L.transcript link.old) (L.transcript link.new) done.0 done.1) }
-    ensures stops { IfErr result (λ stop. StopsWithin (keyed_fn K.prf K.pad) stage (requests.AddLine id fields.entry) (L.transcript link.old) (L.transcript link.new) (command_cause stop)) }
+    requires whole { R.whole recorder.old }
+    ensures takes { IfOk result (λ done. Takes (keyed_fn K.prf K.pad) stage (requests.AddLine id fields.entry) (seen (L.transcript link.old) (R.kept recorder.old)) (seen (L.transcript link.new) (R.kept recorder.new)) done.0 done.1) }
+    ensures stops { IfErr result (λ stop. StopsWithin (keyed_fn K.prf K.pad) stage (requests.AddLine id fields.entry) (seen (L.transcript link.old) (R.kept recorder.old)) (seen (L.transcript link.new) (R.kept recorder.new)) (command_cause stop)) }
     ensures may_stop { OnErr result (MayStop (keyed_fn K.prf K.pad) stage (lines.AddLine id fields.entry)) }
     ensures same_key { IfOk result (λ done. key_of done.0 ≡ key_of stage) }
     ensures keeps { KeepsLink CommandCause (shows (L.transcript link.old) (L.faults link.old) (L.began link.old)) (shows (L.transcript link.new) (L.faults link.new) (L.began link.new)) result }
+    ensures whole_after { OnOk result (R.whole recorder.new) }
+    ensures recorder { KeepsRecorder KeepCommandCause (R.faults recorder.old) (R.faults recorder.new) result }
 {
     match stage {
         Stage::Collecting(client, docs) => Ok((
@@ -213,25 +249,37 @@ fn add<K: Keyed, L: Link>(
         )),
         Stage::Searching(mut client) => {
             let planned = plan_addition(tools, &mut client, id, fields);
-            send_update(client, planned, LineResult::Added { id }, link, buffer)
+            send_update(
+                tools.alloc,
+                client,
+                planned,
+                LineResult::Added { id },
+                link,
+                recorder,
+                buffer,
+            )
         }
     }
 }
 
 /// Carries out a `del` line.
-fn delete<K: Keyed, L: Link>(
+fn delete<K: Keyed, L: Link, R: Recorder>(
     tools: &Tools<'_, K>,
     link: &mut L,
+    recorder: &mut R,
     buffer: &mut ReplyBuffer,
     stage: Stage,
     id: u64,
 ) -> Result<(Stage, LineResult), CommandStop>
     requires prepared { tools.now.master ≡ key_of stage }
-    ensures takes { IfOk result (λ done. Takes (keyed_fn K.prf K.pad) stage (requests.Del id) (L.transcript link.old) (L.transcript link.new) done.0 done.1) }
-    ensures stops { IfErr result (λ stop. StopsWithin (keyed_fn K.prf K.pad) stage (requests.Del id) (L.transcript link.old) (L.transcript link.new) (command_cause stop)) }
+    requires whole { R.whole recorder.old }
+    ensures takes { IfOk result (λ done. Takes (keyed_fn K.prf K.pad) stage (requests.Del id) (seen (L.transcript link.old) (R.kept recorder.old)) (seen (L.transcript link.new) (R.kept recorder.new)) done.0 done.1) }
+    ensures stops { IfErr result (λ stop. StopsWithin (keyed_fn K.prf K.pad) stage (requests.Del id) (seen (L.transcript link.old) (R.kept recorder.old)) (seen (L.transcript link.new) (R.kept recorder.new)) (command_cause stop)) }
     ensures may_stop { OnErr result (MayStop (keyed_fn K.prf K.pad) stage (lines.Del id)) }
     ensures same_key { IfOk result (λ done. key_of done.0 ≡ key_of stage) }
     ensures keeps { KeepsLink CommandCause (shows (L.transcript link.old) (L.faults link.old) (L.began link.old)) (shows (L.transcript link.new) (L.faults link.new) (L.began link.new)) result }
+    ensures whole_after { OnOk result (R.whole recorder.new) }
+    ensures recorder { KeepsRecorder KeepCommandCause (R.faults recorder.old) (R.faults recorder.new) result }
 {
     match stage {
         Stage::Collecting(client, docs) => Ok((
@@ -240,7 +288,15 @@ fn delete<K: Keyed, L: Link>(
         )),
         Stage::Searching(mut client) => {
             let planned = plan_deletion(tools, &mut client, id);
-            send_update(client, planned, LineResult::Deleted { id }, link, buffer)
+            send_update(
+                tools.alloc,
+                client,
+                planned,
+                LineResult::Deleted { id },
+                link,
+                recorder,
+                buffer,
+            )
         }
     }
 }
@@ -254,10 +310,11 @@ fn find<K: Keyed, L: Link>(
     field: &[u8],
 ) -> Result<(Stage, LineResult), CommandStop>
     requires prepared { tools.now.master ≡ key_of stage }
-    ensures takes { IfOk result (λ done. Takes (keyed_fn K.prf K.pad) stage (requests.Find field.now) (L.transcript link.old) (L.transcript link.new) done.0 done.1) }
-    ensures stops { IfErr result (λ stop. StopsWithin (keyed_fn K.prf K.pad) stage (requests.Find field.now) (L.transcript link.old) (L.transcript link.new) (command_cause stop)) }
+    ensures takes { IfOk result (λ done. (kept : Kept) → Takes (keyed_fn K.prf K.pad) stage (requests.Find field.now) (seen (L.transcript link.old) kept) (seen (L.transcript link.new) kept) done.0 done.1) }
+    ensures stops { IfErr result (λ stop. (kept : Kept) → StopsWithin (keyed_fn K.prf K.pad) stage (requests.Find field.now) (seen (L.transcript link.old) kept) (seen (L.transcript link.new) kept) (command_cause stop)) }
     ensures may_stop { OnErr result (MayStop (keyed_fn K.prf K.pad) stage (lines.Find field.now)) }
     ensures same_key { IfOk result (λ done. key_of done.0 ≡ key_of stage) }
+    ensures no_record { IfErr result (λ stop. (n : ℕ) → KeepCommandCause n n stop) }
     ensures keeps { KeepsLink CommandCause (shows (L.transcript link.old) (L.faults link.old) (L.began link.old)) (shows (L.transcript link.new) (L.faults link.new) (L.began link.new)) result }
 {
     match stage {

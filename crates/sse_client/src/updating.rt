@@ -1,9 +1,9 @@
-ghost use Rattle.std.specs.Prelude.{◌≡◌, ◌≤◌, ◌^◌, ◌∷◌, [], ℕ, List, Option, false, None, Err, length, IfErr, IfOk, IfSome, OnErr};
+ghost use Rattle.std.specs.Prelude.{◌≡◌, ◌≤◌, ◌^◌, ◌∷◌, [], ℕ, List, Option, false, None, Err, length, IfErr, IfOk, IfSome, OnErr, OnOk};
 ghost use Rattle.client_core.specs.StandsFor.{CanCommit};
 ghost use Rattle.client_registry.specs.Command.{Command, Add, Delete};
 ghost use Rattle.keyed_fn.specs.KeyedFn.{KeyedFn, keyed_fn};
 ghost use Rattle.line_documents.specs.LineDocument.{document};
-ghost use Rattle.run_texts.specs.Causes.{CommandCause};
+ghost use Rattle.run_texts.specs.Causes.{CommandCause, KeepCommandCause, KeepsRecorder};
 ghost use Rattle.run_texts.specs.LineResultViews.{line_result_view, refuses};
 ghost use Rattle.run_texts.specs.Stops.{command_cause};
 ghost use Rattle.run_texts.specs.declared.plan_stop.PlanStop.{PlanStop as WhyUnsent};
@@ -13,13 +13,14 @@ ghost use Rattle.script_meaning.specs.Refused.{add_refusal, delete_refusal};
 ghost use Rattle.script_meaning.specs.Stops as ends;
 ghost use Rattle.sse_client.specs.Calls.{shows, KeepsLink};
 ghost use Rattle.sse_client.specs.Stages.{key_of};
-ghost use Rattle.sse_client.specs.Stands.{IsAt, GoesOn, outside_of};
+ghost use Rattle.sse_client.specs.Stands.{IsAt, GoesOn, seen, outside_of};
 ghost use Rattle.sse_client.specs.UpdatePlans.{IsRefused, IsUpdatePlan};
 ghost use Rattle.sse_client.specs.declared.session.Stage.TheVariants.{Searching};
 ghost use Rattle.sse_frames.specs.Frames.{IsFrame};
 ghost use Rattle.sse_script.specs.Shown.{Shown};
 ghost use Rattle.sse_script.specs.declared.refusal.Refusal.{Refusal as Reason};
 
+use crate::keeping::keep_update;
 use crate::reply_buffer::ReplyBuffer;
 use crate::sending::catch_up;
 use crate::session::Stage;
@@ -31,7 +32,9 @@ use keyed_fn::Keyed;
 use line_documents::document_of;
 use run_texts::{CommandStop, LineResult};
 use sse_link::Link;
+use sse_recorder::Recorder;
 use sse_script::{Fields, Refusal};
+use std::alloc::Global;
 
 /// Plans the addition of an `add` line. The session stands where it stood.
 pub(crate) fn plan_addition<K: Keyed>(
@@ -71,29 +74,35 @@ pub(crate) fn plan_deletion<K: Keyed>(
     Ok(client.plan_delete(tools.alloc, tools.keyed, &tools.master, id)?)
 }
 
-/// Carries out an update by its plan, or says why there is none, and the session stands where it stood. `done` is its outcome
-/// once the server has acknowledged it.
-pub(crate) fn send_update<L: Link>(
+/// Carries out an update by its plan, or says why there is none, and the session stands where it stood: its record is kept
+/// before anything of it is sent. `done` is its outcome once the server has acknowledged it.
+pub(crate) fn send_update<L: Link, R: Recorder>(
+    alloc: Global,
     client: Client<Ready>,
     planned: Result<PlannedUpdate, UpdateFault>,
     done: LineResult,
     link: &mut L,
+    recorder: &mut R,
     buffer: &mut ReplyBuffer,
 ) -> Result<(Stage, LineResult), CommandStop>
     requires commits { IfOk planned (CanCommit client.state) }
     requires frame { IfOk planned (λ planned. IsFrame planned.frame) }
     requires accepts { refuses done ≡ false }
+    requires whole { R.whole recorder.old }
     ensures goes_on { IfOk result (λ went. (f : KeyedFn) (place : Place) (refusal : Option Reason) (c : Command) (shown : Shown) → IsAt f (Searching client) place → IsUpdatePlan f place refusal c planned → line_result_view done ≡ with_answers [] (shown ∷ []) →
-        GoesOn f (L.transcript link.old) (L.transcript link.new) went.0 went.1 place (unless refusal (Does (c ∷ []) shown))) }
+        GoesOn f (seen (L.transcript link.old) (R.kept recorder.old)) (seen (L.transcript link.new) (R.kept recorder.new)) went.0 went.1 place (unless refusal (Does (c ∷ []) shown))) }
     ensures stops { IfErr result (λ stop. (f : KeyedFn) (place : Place) (refusal : Option Reason) (c : Command) (shown : Shown) → IsAt f (Searching client) place → IsUpdatePlan f place refusal c planned →
-        (written : Option (List ℕ)) → StopsIn f place (unless refusal (Does (c ∷ []) shown)) (outside_of (L.transcript link.old) written) (outside_of (L.transcript link.new) written) (ends.At (command_cause stop))) }
+        (written : Option (List ℕ)) → StopsIn f place (unless refusal (Does (c ∷ []) shown)) (outside_of (seen (L.transcript link.old) (R.kept recorder.old)) written) (outside_of (seen (L.transcript link.new) (R.kept recorder.new)) written) (ends.At (command_cause stop))) }
     ensures may_stop { OnErr result (IsRefused planned → ⊥) }
     ensures as_planned { (stop : WhyUnsent) → planned ≡ Err (UpdateFault.Stopped stop) → result ≡ Err (CommandStop.Planning stop) }
     ensures same_key { IfOk result (λ went. key_of went.0 ≡ client.key) }
     ensures keeps { KeepsLink CommandCause (shows (L.transcript link.old) (L.faults link.old) (L.began link.old)) (shows (L.transcript link.new) (L.faults link.new) (L.began link.new)) result }
+    ensures whole_after { OnOk result (R.whole recorder.new) }
+    ensures recorder { KeepsRecorder KeepCommandCause (R.faults recorder.old) (R.faults recorder.new) result }
 {
     match planned {
         Ok(planned) => {
+            keep_update(alloc, &planned, recorder)?;
             let ready = catch_up(client.commit(planned), link, buffer)?;
             Ok((Stage::Searching(ready), done))
         }

@@ -1,8 +1,8 @@
 use keyed_fn::Keyed;
-use memory_disk::SteadyDisk;
 use sse_client::sse_run;
 use sse_link::{Link, Passed};
 use sse_outside::{MemSink, MemSource};
+use sse_recorder::NoRecords;
 use std::alloc::{AllocError, Global};
 use std::str;
 
@@ -33,14 +33,13 @@ pub(crate) fn run_over<K: Keyed, L: Link>(
     let bytes = Vec::from_slice(alloc, script)?;
     let mut source = MemSource::new(bytes, Vec::from_slice(alloc, source_fails)?);
     let mut sink = MemSink::new(alloc, Vec::from_slice(alloc, sink_fails)?);
-    let mut disk = SteadyDisk::new(alloc);
     let words = vec![in alloc; String::from_str(alloc, "run")?]?;
     let status = sse_run(
         alloc,
         &words,
         keyed,
         link,
-        &mut disk,
+        &mut NoRecords,
         &mut source,
         &mut sink,
     );

@@ -4,13 +4,13 @@ ghost use Rattle.sse_link.specs.Told.{told_first};
 
 use crate::read_stop::read_stop;
 use keyed_fn::Real;
-use memory_disk::SteadyDisk;
 use run_texts::StopCause;
 use server_core::Server;
 use server_tables::BucketTables;
 use sse_client::run_over_server;
 use sse_link::{Passed, SteadyLoopback};
 use sse_outside::{Sink, SteadySink, SteadySource, print_all};
+use sse_recorder::NoRecords;
 use std::alloc::{AllocError, Global};
 use std::io::BufRead;
 
@@ -62,7 +62,6 @@ fn run_over(
     requires fresh { link.old ≡ told_first at_first }
 {
     let words = vec![in alloc; String::from_str(alloc, "run")?]?;
-    let mut disk = SteadyDisk::new(alloc);
     let mut source = SteadySource::new(script);
     let mut printed = SteadySink::new(alloc);
     Ok(run_over_server(
@@ -70,7 +69,7 @@ fn run_over(
         &words,
         &Real,
         link,
-        &mut disk,
+        &mut NoRecords,
         &mut source,
         &mut printed,
     ))

@@ -6,7 +6,7 @@ use Rattle.script_meaning.specs.Runs.{moment}
 use Rattle.script_meaning.specs.Stops as ends
 use Rattle.sse_script.specs.TextLines.{bytes_to_come, lines_left}
 use Rattle.sse_client.specs.Stages.{key_of}
-use Rattle.sse_client.specs.Stands.{outside_of, stop_view, has_refused}
+use Rattle.sse_client.specs.Stands.{seen, outside_of, stop_view, has_refused}
 use Rattle.sse_client.specs.Turns.{IfNext, LeadsTo, OnEnd}
 use Rattle.sse_client.specs.declared.lines.Turn.{Turn}
 use Rattle.sse_client.proofs.RunGoesOn.{ends-joined, ends-stopped_so, there-joined, there-start}
@@ -20,6 +20,8 @@ lines-init g c = record {
   sink = refl;
   shortages = omega arith;
   began = refl;
+  whole = c.requires.whole;
+  recorder = refl;
   link = refl;
   there = λ place at. there-start (keyed_fn g.K.Keyed.prf g.K.Keyed.pad) place c.args.session.stage c.args.input.now.number _ (has_refused c.args.session.refusals) _ at;
 }
@@ -39,11 +41,13 @@ lines-preserved g c =
       source = c.in_ok-next.ensures.source.steady ∙ c.lines.invariant.source;
       sink = c.in_ok-next.ensures.sink.steady ∙ c.lines.invariant.sink;
       shortages = omega (arith, c.lines.invariant.shortages, c.in_ok-next.ensures.sink.no_fewer);
+      whole = c.in_ok-next.ensures.whole_after;
+      recorder = c.in_ok-next.ensures.recorder.steady ∙ c.lines.invariant.recorder;
       began = c.in_ok-next.ensures.link.began ∙ c.lines.invariant.began;
       link = c.in_ok-next.ensures.link.steady ∙ c.lines.invariant.link;
       there = λ place at.
           let s = c.lines.invariant.there place at in
-          there-joined f _ c.lines.session.stage c.lines.input.number _ (has_refused c.lines.session.refusals) _ s next.stage c.take_turn.new.input.number (lines_left c.take_turn.new.input.pending (g.S.Source.remaining c.take_turn.new.source)) (has_refused next.refusals) (outside_of (g.L.Link.transcript c.take_turn.new.link) (g.W.Sink.written c.take_turn.new.sink)) (subst (λ (t : Turn). LeadsTo f (moment s.place (c.lines.input.number + 1) (lines_left c.lines.input.pending (g.S.Source.remaining c.lines.source)) (has_refused c.lines.session.refusals) (outside_of (g.L.Link.transcript c.lines.link) (g.W.Sink.written c.lines.sink))) c.take_turn.new.input.number (lines_left c.take_turn.new.input.pending (g.S.Source.remaining c.take_turn.new.source)) (outside_of (g.L.Link.transcript c.take_turn.new.link) (g.W.Sink.written c.take_turn.new.sink)) (Ok t)) is (c.in_ok-next.ensures.turns s.place s.at));
+          there-joined f _ c.lines.session.stage c.lines.input.number _ (has_refused c.lines.session.refusals) _ s next.stage c.take_turn.new.input.number (lines_left c.take_turn.new.input.pending (g.S.Source.remaining c.take_turn.new.source)) (has_refused next.refusals) (outside_of (seen (g.L.Link.transcript c.take_turn.new.link) (g.R.Recorder.kept c.take_turn.new.recorder)) (g.W.Sink.written c.take_turn.new.sink)) (subst (λ (t : Turn). LeadsTo f (moment s.place (c.lines.input.number + 1) (lines_left c.lines.input.pending (g.S.Source.remaining c.lines.source)) (has_refused c.lines.session.refusals) (outside_of (seen (g.L.Link.transcript c.lines.link) (g.R.Recorder.kept c.lines.recorder)) (g.W.Sink.written c.lines.sink))) c.take_turn.new.input.number (lines_left c.take_turn.new.input.pending (g.S.Source.remaining c.take_turn.new.source)) (outside_of (seen (g.L.Link.transcript c.take_turn.new.link) (g.R.Recorder.kept c.take_turn.new.recorder)) (g.W.Sink.written c.take_turn.new.sink)) (Ok t)) is (c.in_ok-next.ensures.turns s.place s.at));
     }
 
 pub lines-smaller : goal.lines-smaller
@@ -55,15 +59,15 @@ returns-in_err-next-clause-ends g c = λ place at.
     let f = keyed_fn g.K.Keyed.prf g.K.Keyed.pad in
     let s = c.lines.invariant.there place at in
     let stop = c.in_err-next.field-0.0 in
-    let start = moment place (c.args.input.now.number + 1) (lines_left c.args.input.now.pending (g.S.Source.remaining c.args.source.now)) (has_refused c.args.session.refusals) (outside_of (g.L.Link.transcript c.args.link.now) (g.W.Sink.written c.args.sink.now)) in
-    ends-stopped_so f start (outside_of (g.L.Link.transcript c.take_turn.new.link) (g.W.Sink.written c.take_turn.new.sink)) c.from_residual.result stop c.from_residual.ensures.1
-    (ends-joined f _ c.lines.session.stage c.lines.input.number _ (has_refused c.lines.session.refusals) _ s (outside_of (g.L.Link.transcript c.take_turn.new.link) (g.W.Sink.written c.take_turn.new.sink)) (stop_view stop) (c.in_err-next.ensures.turns s.place s.at))
+    let start = moment place (c.args.input.now.number + 1) (lines_left c.args.input.now.pending (g.S.Source.remaining c.args.source.now)) (has_refused c.args.session.refusals) (outside_of (seen (g.L.Link.transcript c.args.link.now) (g.R.Recorder.kept c.args.recorder.now)) (g.W.Sink.written c.args.sink.now)) in
+    ends-stopped_so f start (outside_of (seen (g.L.Link.transcript c.take_turn.new.link) (g.R.Recorder.kept c.take_turn.new.recorder)) (g.W.Sink.written c.take_turn.new.sink)) c.from_residual.result stop c.from_residual.ensures.1
+    (ends-joined f _ c.lines.session.stage c.lines.input.number _ (has_refused c.lines.session.refusals) _ s (outside_of (seen (g.L.Link.transcript c.take_turn.new.link) (g.R.Recorder.kept c.take_turn.new.recorder)) (g.W.Sink.written c.take_turn.new.sink)) (stop_view stop) (c.in_err-next.ensures.turns s.place s.at))
 
 pub returns-in-End-clause-ends : goal.returns-in-End-clause-ends
 returns-in-End-clause-ends g c = λ place at.
     let f = keyed_fn g.K.Keyed.prf g.K.Keyed.pad in
     let s = c.lines.invariant.there place at in
-    ends-joined f _ c.lines.session.stage c.lines.input.number _ (has_refused c.lines.session.refusals) _ s (outside_of (g.L.Link.transcript c.take_turn.new.link) (g.W.Sink.written c.take_turn.new.sink)) (ends.AtEnd (has_refused c.in-End.refusals)) (subst (λ (t : Turn). LeadsTo f (moment s.place (c.lines.input.number + 1) (lines_left c.lines.input.pending (g.S.Source.remaining c.lines.source)) (has_refused c.lines.session.refusals) (outside_of (g.L.Link.transcript c.lines.link) (g.W.Sink.written c.lines.sink))) c.take_turn.new.input.number (lines_left c.take_turn.new.input.pending (g.S.Source.remaining c.take_turn.new.source)) (outside_of (g.L.Link.transcript c.take_turn.new.link) (g.W.Sink.written c.take_turn.new.sink)) (Ok t)) c.in-End.is (c.in_ok-next.ensures.turns s.place s.at))
+    ends-joined f _ c.lines.session.stage c.lines.input.number _ (has_refused c.lines.session.refusals) _ s (outside_of (seen (g.L.Link.transcript c.take_turn.new.link) (g.R.Recorder.kept c.take_turn.new.recorder)) (g.W.Sink.written c.take_turn.new.sink)) (ends.AtEnd (has_refused c.in-End.refusals)) (subst (λ (t : Turn). LeadsTo f (moment s.place (c.lines.input.number + 1) (lines_left c.lines.input.pending (g.S.Source.remaining c.lines.source)) (has_refused c.lines.session.refusals) (outside_of (seen (g.L.Link.transcript c.lines.link) (g.R.Recorder.kept c.lines.recorder)) (g.W.Sink.written c.lines.sink))) c.take_turn.new.input.number (lines_left c.take_turn.new.input.pending (g.S.Source.remaining c.take_turn.new.source)) (outside_of (seen (g.L.Link.transcript c.take_turn.new.link) (g.R.Recorder.kept c.take_turn.new.recorder)) (g.W.Sink.written c.take_turn.new.sink)) (Ok t)) c.in-End.is (c.in_ok-next.ensures.turns s.place s.at))
 
 pub returns-in-End-clause-at_end : goal.returns-in-End-clause-at_end
 returns-in-End-clause-at_end g c = subst (λ (t : Turn). OnEnd t (IsAtEnd (g.S.Source.remaining c.take_turn.new.source))) c.in-End.is c.in_ok-next.ensures.at_end

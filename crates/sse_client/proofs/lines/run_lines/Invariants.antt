@@ -4,7 +4,7 @@ use Rattle.sse_script.specs.TextLines.{bytes_to_come, lines_left}
 use Rattle.script_meaning.specs.Outcome.{Place}
 use Rattle.script_meaning.specs.Runs.{moment}
 use Rattle.sse_client.specs.Stages.{key_of}
-use Rattle.sse_client.specs.Stands.{IsAt, outside_of, has_refused}
+use Rattle.sse_client.specs.Stands.{IsAt, seen, outside_of, has_refused}
 use Rattle.sse_client.specs.Turns.{IsThere}
 use Rattle.sse_client.proofs.lines.run_lines.Given as goal
 
@@ -16,11 +16,13 @@ invariant-lines g l = record {
   sink : g.W.Sink.faults l.sink ≡ g.W.Sink.faults l.fn.sink;
   shortages : g.W.Sink.shortages l.fn.sink ≤ g.W.Sink.shortages l.sink;
   began : g.L.Link.began l.link ≡ g.L.Link.began l.fn.link;
+  whole : g.R.Recorder.whole l.recorder;
+  recorder : g.R.Recorder.faults l.recorder ≡ g.R.Recorder.faults l.fn.recorder;
   link : g.L.Link.faults l.link ≡ g.L.Link.faults l.fn.link;
   there : (place : Place) → IsAt (keyed_fn g.K.Keyed.prf g.K.Keyed.pad) l.fn.session.stage place
       → IsThere (keyed_fn g.K.Keyed.prf g.K.Keyed.pad)
-      (moment place (l.fn.input.number + 1) (lines_left l.fn.input.pending (g.S.Source.remaining l.fn.source)) (has_refused l.fn.session.refusals) (outside_of (g.L.Link.transcript l.fn.link) (g.W.Sink.written l.fn.sink)))
-      l.session.stage l.input.number (lines_left l.input.pending (g.S.Source.remaining l.source)) (has_refused l.session.refusals) (outside_of (g.L.Link.transcript l.link) (g.W.Sink.written l.sink));
+      (moment place (l.fn.input.number + 1) (lines_left l.fn.input.pending (g.S.Source.remaining l.fn.source)) (has_refused l.fn.session.refusals) (outside_of (seen (g.L.Link.transcript l.fn.link) (g.R.Recorder.kept l.fn.recorder)) (g.W.Sink.written l.fn.sink)))
+      l.session.stage l.input.number (lines_left l.input.pending (g.S.Source.remaining l.source)) (has_refused l.session.refusals) (outside_of (seen (g.L.Link.transcript l.link) (g.R.Recorder.kept l.recorder)) (g.W.Sink.written l.sink));
 }
 
 abbrev pub decreases-lines : goal.decreases-lines

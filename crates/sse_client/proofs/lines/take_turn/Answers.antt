@@ -1,6 +1,6 @@
 use Rattle.std.proofs.Common.{◌||◌, Some, rules, refl, sym, ap, ◌∙◌, subst, arith}
 use Rattle.keyed_fn.specs.KeyedFn.{keyed_fn}
-use Rattle.run_texts.specs.Causes.{LinkCause, SourceCause}
+use Rattle.run_texts.specs.Causes.{LinkCause, RecorderCause, SourceCause}
 use Rattle.run_texts.specs.Stops.{stop_of_sink}
 use Rattle.run_texts.specs.declared.stop_cause.StopCause.TheVariants as stops
 use Rattle.sse_script.specs.Views.{line_view}
@@ -8,9 +8,9 @@ use Rattle.sse_script.specs.declared.line.Line.{Line}
 use Rattle.script_meaning.proofs.Steps.{IsBad}
 use Rattle.script_meaning.specs.Lines.{line_read}
 use Rattle.sse_client.specs.Calls.{shows}
-use Rattle.sse_client.specs.Stands.{has_refused}
-use Rattle.sse_client.proofs.CountsAtStop.{LinkCause-printed, SinkCause-printed, SourceCause-printed}
-use Rattle.sse_client.proofs.TranscriptsJoined.{KeepsLink-err, KeepsSink-err, KeepsSource-err}
+use Rattle.sse_client.specs.Stands.{seen, has_refused}
+use Rattle.sse_client.proofs.CountsAtStop.{LinkCause-printed, RecorderCause-printed, SinkCause-printed, SourceCause-printed}
+use Rattle.sse_client.proofs.TranscriptsJoined.{KeepsLink-err, KeepsRecorder-err, KeepsSink-err, KeepsSource-err}
 use Rattle.sse_client.proofs.RunGoesOn.{line_in-read, line_in-none, command_of, ends-bad, ends-input, ends-end, ends-stopped, carries-printed, leads-bad, leads-stopped, stops-unprinted, there-empty, there-next, there-start}
 use Rattle.sse_client.proofs.lines.take_turn.Goals as goal
 
@@ -71,7 +71,7 @@ returns-in_err-print-in_default-clause-turns g c = λ place at.
     leads-stopped f _ _ _ _ c.from_residual-in_err-print-in_default.result (stop_of_sink fault) c.from_residual-in_err-print-in_default.ensures.1
     (ends-stopped f _ c.args.session.stage c.args.input.now.number _ (has_refused c.args.session.refusals) _ (there-start f place c.args.session.stage c.args.input.now.number _ (has_refused c.args.session.refusals) _ at) _ text command.0 _ _ (c.in_ok-advance.ensures.line (search rules))
     (line_in-read c.in_ok-line.line text c.in_ok-line.ensures.read ∙ ap (λ line. Some line) command.1)
-    (stops-unprinted f c.args.session.stage c.in_ok-next-in_default.next c.in_ok-next-in_default.outcome command.0 (g.L.Link.transcript c.args.link.now) (g.L.Link.transcript c.take_line.new.link) (g.W.Sink.written c.args.sink.now)
+    (stops-unprinted f c.args.session.stage c.in_ok-next-in_default.next c.in_ok-next-in_default.outcome command.0 (seen (g.L.Link.transcript c.args.link.now) (g.R.Recorder.kept c.args.recorder.now)) (seen (g.L.Link.transcript c.take_line.new.link) (g.R.Recorder.kept c.take_line.new.recorder)) (g.W.Sink.written c.args.sink.now)
     (g.W.Sink.written c.print.new.sink) (c.in_ok-next-in_default.ensures.takes command.0 command.1) fault c.in_err-print-in_default.ensures.front))
 
 pub returns-in_ok-print-in_default-clause-turns :
@@ -82,7 +82,7 @@ returns-in_ok-print-in_default-clause-turns g c = λ place at.
     let command = command_of c.in_ok-line.line c.in_default.not-Empty c.in_default.not-Key in
     there-next f _ c.args.session.stage c.args.input.now.number _ (has_refused c.args.session.refusals) _ (there-start f place c.args.session.stage c.args.input.now.number _ (has_refused c.args.session.refusals) _ at) _ text command.0 c.advance.new.self.number _ c.in_ok-next-in_default.next _ (has_refused c.or-refusals.result)
     (c.in_ok-advance.ensures.line (search rules)) (line_in-read c.in_ok-line.line text c.in_ok-line.ensures.read ∙ ap (λ line. Some line) command.1) (omega (arith, c.in_ok-advance.ensures.counted, c.requires.few))
-    (carries-printed f c.args.session.stage c.in_ok-next-in_default.next c.in_ok-next-in_default.outcome command.0 (g.L.Link.transcript c.args.link.now) (g.L.Link.transcript c.take_line.new.link) (g.W.Sink.written c.args.sink.now)
+    (carries-printed f c.args.session.stage c.in_ok-next-in_default.next c.in_ok-next-in_default.outcome command.0 (seen (g.L.Link.transcript c.args.link.now) (g.R.Recorder.kept c.args.recorder.now)) (seen (g.L.Link.transcript c.take_line.new.link) (g.R.Recorder.kept c.take_line.new.recorder)) (g.W.Sink.written c.args.sink.now)
     (g.W.Sink.written c.print.new.sink) (c.in_ok-next-in_default.ensures.takes command.0 command.1) c.in_ok-print-in_default.ensures.all)
     (c.or-refusals.ensures ∙ ap (λ b. has_refused c.args.session.refusals || b) c.is_refusal.ensures)
 
@@ -118,3 +118,9 @@ returns-in_err-print-in_default-clause-link g c =
     let fault = c.in_err-print-in_default.field-0.0 in
     KeepsLink-err LinkCause (shows (g.L.Link.transcript old) (g.L.Link.faults old) (g.L.Link.began old)) (shows (g.L.Link.transcript new) (g.L.Link.faults new) (g.L.Link.began new))
     c.from_residual-in_err-print-in_default.result (stop_of_sink fault) c.from_residual-in_err-print-in_default.ensures.1 c.in_ok-next-in_default.ensures.keeps.began (LinkCause-printed _ _ fault c.in_ok-next-in_default.ensures.keeps.steady)
+
+pub returns-in_err-next-in_default-clause-recorder : goal.returns-in_err-next-in_default-clause-recorder
+returns-in_err-next-in_default-clause-recorder g c = KeepsRecorder-err RecorderCause _ _ c.from_residual-in_err-next-in_default.result (stops.Command c.in_err-next-in_default.field-0.0) c.from_residual-in_err-next-in_default.ensures.1 c.in_err-next-in_default.ensures.recorder.cause
+
+pub returns-in_err-print-in_default-clause-recorder : goal.returns-in_err-print-in_default-clause-recorder
+returns-in_err-print-in_default-clause-recorder g c = KeepsRecorder-err RecorderCause _ _ c.from_residual-in_err-print-in_default.result (stop_of_sink c.in_err-print-in_default.field-0.0) c.from_residual-in_err-print-in_default.ensures.1 (RecorderCause-printed _ _ c.in_err-print-in_default.field-0.0 c.in_ok-next-in_default.ensures.recorder.steady)

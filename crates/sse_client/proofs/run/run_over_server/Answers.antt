@@ -10,11 +10,11 @@ returns-clause-honest g c =
 pub returns-clause-runs : goal.returns-clause-runs
 returns-clause-runs g c = λ asked.
     over_server-runs (keyed_fn g.K.Keyed.prf g.K.Keyed.pad) c.args.link.now c.sse_run-status.new.link c.requires.fresh c.sse_run-status.ensures.began c.transcript-passed.ensures.honest
-    (g.S.Source.remaining c.args.source.now) (g.W.Sink.written c.args.sink.now) (g.W.Sink.written c.sse_run-status.new.sink) c.sse_run-status.result (c.sse_run-status.ensures.honest asked)
+    (g.R.Recorder.kept c.args.recorder.now) (g.R.Recorder.kept c.sse_run-status.new.recorder) (g.S.Source.remaining c.args.source.now) (g.W.Sink.written c.args.sink.now) (g.W.Sink.written c.sse_run-status.new.sink) c.sse_run-status.result (c.sse_run-status.ensures.honest asked)
 
 pub returns-clause-headline : goal.returns-clause-headline
-returns-clause-headline g c = λ asked source sink memory.
+returns-clause-headline g c = λ asked source sink disk memory.
     over_server-headline (keyed_fn g.K.Keyed.prf g.K.Keyed.pad) c.args.link.now c.sse_run-status.new.link c.requires.fresh c.sse_run-status.ensures.began c.transcript-passed.ensures.honest
-    (g.S.Source.remaining c.args.source.now) (g.W.Sink.written c.args.sink.now) (g.W.Sink.written c.sse_run-status.new.sink) c.sse_run-status.result
-    (record { source = source; sink = sink; link = λ e. omega (arith, c.sse_run-status.ensures.link_failed e); disk = c.sse_run-status.ensures.known.1; memory = memory })
+    (g.R.Recorder.kept c.args.recorder.now) (g.R.Recorder.kept c.sse_run-status.new.recorder) (g.S.Source.remaining c.args.source.now) (g.W.Sink.written c.args.sink.now) (g.W.Sink.written c.sse_run-status.new.sink) c.sse_run-status.result
+    (record { source = source; sink = sink; link = λ e. omega (arith, c.sse_run-status.ensures.link_failed e); disk = disk; memory = memory })
     (c.sse_run-status.ensures.headline asked)

@@ -10,7 +10,7 @@ use Rattle.sse_script.specs.Shown.{NoMemory}
 use Rattle.sse_script.specs.TextLines.{lines_left}
 use Rattle.sse_client.specs.Calls.{shows}
 use Rattle.sse_client.specs.Stages.{hash_keys_under}
-use Rattle.sse_client.specs.Stands.{IsAt, outside_of}
+use Rattle.sse_client.specs.Stands.{IsAt, seen, outside_of}
 use Rattle.sse_client.specs.Turns.{ending}
 use Rattle.sse_client.specs.declared.session.Stage.TheVariants.{Collecting}
 use Rattle.sse_client.proofs.WholeRun.{from_start, opens_memory, opens-away, opens-greeted, opens-stopped}
@@ -21,13 +21,13 @@ use Rattle.sse_client.proofs.run.run_script.Goals as goal
 pub returns-in_err-input-clause-ends : goal.returns-in_err-input-clause-ends
 returns-in_err-input-clause-ends g c =
     let f = keyed_fn g.K.Keyed.prf g.K.Keyed.pad in
-    let now = outside_of (g.L.Link.transcript c.args.link.now) (g.W.Sink.written c.args.sink.now) in
+    let now = outside_of (seen (g.L.Link.transcript c.args.link.now) (g.R.Recorder.kept c.args.recorder.now)) (g.W.Sink.written c.args.sink.now) in
     opens-stopped f (lines_left [] (g.S.Source.remaining c.args.source.now)) now now c.from_residual.result stops.Memory c.from_residual.ensures.1 (opens_memory f (lines_left [] (g.S.Source.remaining c.args.source.now)) now)
 
 pub returns-in_err-key-clause-ends : goal.returns-in_err-key-clause-ends
 returns-in_err-key-clause-ends g c =
     let f = keyed_fn g.K.Keyed.prf g.K.Keyed.pad in
-    let told = g.L.Link.transcript c.args.link.now in
+    let told = seen (g.L.Link.transcript c.args.link.now) (g.R.Recorder.kept c.args.recorder.now) in
     let written = g.W.Sink.written c.args.sink.now in
     opens-stopped f (lines_left [] (g.S.Source.remaining c.args.source.now)) (outside_of told written) (outside_of told written) c.from_residual-in_err-key.result (stops.Input c.in_err-key.field-0.0) c.from_residual-in_err-key.ensures.1 (
       None,
@@ -38,29 +38,29 @@ returns-in_err-key-clause-ends g c =
 pub returns-in_err-buffer-clause-ends : goal.returns-in_err-buffer-clause-ends
 returns-in_err-buffer-clause-ends g c =
     let f = keyed_fn g.K.Keyed.prf g.K.Keyed.pad in
-    let told = g.L.Link.transcript c.args.link.now in
+    let told = seen (g.L.Link.transcript c.args.link.now) (g.R.Recorder.kept c.args.recorder.now) in
     let written = g.W.Sink.written c.args.sink.now in
     opens-stopped f (lines_left [] (g.S.Source.remaining c.args.source.now)) (outside_of told written) (outside_of told written) c.from_residual-in_err-buffer.result stops.Memory c.from_residual-in_err-buffer.ensures.1
-    (opens-away f c.in_ok-input.input.number c.in_ok-input.input.pending (g.S.Source.remaining c.args.source.now) c.in_ok-input.ensures.number c.in_ok-input.ensures.pending told written c.in_ok-key.key c.key_line.new.input.number (lines_left c.key_line.new.input.pending (g.S.Source.remaining c.key_line.new.source)) c.in_ok-key.ensures.key told NoMemory (TurnsAway-memory 0 0 told))
+    (opens-away f c.in_ok-input.input.number c.in_ok-input.input.pending (g.S.Source.remaining c.args.source.now) c.in_ok-input.ensures.number c.in_ok-input.ensures.pending told written c.in_ok-key.key c.key_line.new.input.number (lines_left c.key_line.new.input.pending (g.S.Source.remaining c.key_line.new.source)) c.in_ok-key.ensures.key told.told NoMemory (TurnsAway-memory 0 0 told.told))
 
 pub returns-in_err-greet-clause-ends : goal.returns-in_err-greet-clause-ends
 returns-in_err-greet-clause-ends g c =
     let f = keyed_fn g.K.Keyed.prf g.K.Keyed.pad in
-    let told = g.L.Link.transcript c.args.link.now in
+    let told = seen (g.L.Link.transcript c.args.link.now) (g.R.Recorder.kept c.args.recorder.now) in
     let written = g.W.Sink.written c.args.sink.now in
     let new = g.L.Link.transcript c.greet.new.link in
     let stop = c.in_err-greet.field-0.0 in
-    opens-stopped f (lines_left [] (g.S.Source.remaining c.args.source.now)) (outside_of told written) (outside_of new written) c.from_residual-in_err-greet.result (stops.Command (Exchange stop)) c.from_residual-in_err-greet.ensures.1
+    opens-stopped f (lines_left [] (g.S.Source.remaining c.args.source.now)) (outside_of told written) (outside_of (seen new told.kept) written) c.from_residual-in_err-greet.result (stops.Command (Exchange stop)) c.from_residual-in_err-greet.ensures.1
     (opens-away f c.in_ok-input.input.number c.in_ok-input.input.pending (g.S.Source.remaining c.args.source.now) c.in_ok-input.ensures.number c.in_ok-input.ensures.pending told written c.in_ok-key.key c.key_line.new.input.number (lines_left c.key_line.new.input.pending (g.S.Source.remaining c.key_line.new.source)) c.in_ok-key.ensures.key new (peer_cause stop) c.in_err-greet.ensures.turned_away)
 
 pub returns-clause-ends : goal.returns-clause-ends
 returns-clause-ends g c =
-    let told = g.L.Link.transcript c.args.link.now in
+    let told = seen (g.L.Link.transcript c.args.link.now) (g.R.Recorder.kept c.args.recorder.now) in
     let written = g.W.Sink.written c.args.sink.now in
     let f = keyed_fn g.K.Keyed.prf g.K.Keyed.pad in
     let mid = g.L.Link.transcript c.greet.new.link in
     let at : IsAt f (Collecting c.fresh.result c.new-docs.result) (opened c.in_ok-key.key) = record { key = c.fresh.ensures; stands = (c.new-docs.ensures.none, refl); hashed = c.new-docs.ensures.keys ∙ c.hash_keys.ensures ∙ ap (hash_keys_under f) c.prepare-master.ensures } in
-    let last = outside_of (g.L.Link.transcript c.run_lines.new.link) (g.W.Sink.written c.run_lines.new.sink) in
+    let last = outside_of (seen (g.L.Link.transcript c.run_lines.new.link) (g.R.Recorder.kept c.run_lines.new.recorder)) (g.W.Sink.written c.run_lines.new.sink) in
     opens-greeted f c.in_ok-input.input.number c.in_ok-input.input.pending (g.S.Source.remaining c.args.source.now) c.in_ok-input.ensures.number c.in_ok-input.ensures.pending told written c.in_ok-key.key c.key_line.new.input.number (lines_left c.key_line.new.input.pending (g.S.Source.remaining c.key_line.new.source)) c.in_ok-key.ensures.key mid last (ending c.run_lines.result) c.in_ok-greet.ensures.opened (c.run_lines.ensures.ends (opened c.in_ok-key.key) at)
 
 pub returns-clause-source : goal.returns-clause-source

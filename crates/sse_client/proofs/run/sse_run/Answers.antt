@@ -1,6 +1,6 @@
 use Rattle.keyed_fn.specs.KeyedFn.{IsKeyedFn, keyed_fn}
-use Rattle.sse_client.specs.Stands.{outside_of, HasRun, HasHonestStatus, HasSimulatedRun, HasHeadline}
-use Rattle.sse_client.proofs.WholeRun.{IfSome-then, run-honest, run-simulated, run-headline}
+use Rattle.sse_client.specs.Stands.{seen, outside_of, HasRun, HasHonestStatus, HasSimulatedRun, HasRecordedRun, HasHeadline}
+use Rattle.sse_client.proofs.WholeRun.{IfSome-then, run-honest, run-recorded, run-simulated, run-headline}
 use Rattle.sse_client.proofs.run.sse_run.Goals as goal
 
 pub returns-in-Some-Run-clause-honest : goal.returns-in-Some-Run-clause-honest
@@ -13,8 +13,8 @@ returns-in-Some-Run-clause-honest g c = λ asked.
       pad_bytes = g.met.K.Keyed.pad_bytes;
       pad_prefix = g.met.K.Keyed.pad_prefix;
     } in
-    let now = outside_of (g.L.Link.transcript c.args.link.now) (g.W.Sink.written c.args.sink.now) in
-    let last = outside_of (g.L.Link.transcript c.whole_run.new.link) (g.W.Sink.written c.whole_run.new.sink) in
+    let now = outside_of (seen (g.L.Link.transcript c.args.link.now) (g.R.Recorder.kept c.args.recorder.now)) (g.W.Sink.written c.args.sink.now) in
+    let last = outside_of (seen (g.L.Link.transcript c.whole_run.new.link) (g.R.Recorder.kept c.whole_run.new.recorder)) (g.W.Sink.written c.whole_run.new.sink) in
     IfSome-then (g.S.Source.remaining c.args.source.now) (λ bytes. HasRun f bytes now last c.whole_run.result) (λ bytes. HasHonestStatus f bytes now last c.whole_run.result)
     (λ bytes run. record { run = run; stopped = λ before state expects honest free. run-honest f laws bytes now last c.whole_run.result before state run expects honest free })
     c.whole_run.ensures.runs
@@ -29,8 +29,8 @@ returns-in-Some-Run-clause-headline g c = λ asked.
       pad_bytes = g.met.K.Keyed.pad_bytes;
       pad_prefix = g.met.K.Keyed.pad_prefix;
     } in
-    let now = outside_of (g.L.Link.transcript c.args.link.now) (g.W.Sink.written c.args.sink.now) in
-    let last = outside_of (g.L.Link.transcript c.whole_run.new.link) (g.W.Sink.written c.whole_run.new.sink) in
+    let now = outside_of (seen (g.L.Link.transcript c.args.link.now) (g.R.Recorder.kept c.args.recorder.now)) (g.W.Sink.written c.args.sink.now) in
+    let last = outside_of (seen (g.L.Link.transcript c.whole_run.new.link) (g.R.Recorder.kept c.whole_run.new.recorder)) (g.W.Sink.written c.whole_run.new.sink) in
     IfSome-then (g.S.Source.remaining c.args.source.now) (λ bytes. HasRun f bytes now last c.whole_run.result) (λ bytes. HasHeadline f bytes now last c.whole_run.result)
     (λ bytes run before state expects honest free calm. run-headline f laws bytes now last c.whole_run.result before state run expects honest free calm)
     c.whole_run.ensures.runs
@@ -38,8 +38,17 @@ returns-in-Some-Run-clause-headline g c = λ asked.
 pub returns-in-Some-Run-clause-simulated : goal.returns-in-Some-Run-clause-simulated
 returns-in-Some-Run-clause-simulated g c = λ asked.
     let f = keyed_fn g.K.Keyed.prf g.K.Keyed.pad in
-    let now = outside_of (g.L.Link.transcript c.args.link.now) (g.W.Sink.written c.args.sink.now) in
-    let last = outside_of (g.L.Link.transcript c.whole_run.new.link) (g.W.Sink.written c.whole_run.new.sink) in
+    let now = outside_of (seen (g.L.Link.transcript c.args.link.now) (g.R.Recorder.kept c.args.recorder.now)) (g.W.Sink.written c.args.sink.now) in
+    let last = outside_of (seen (g.L.Link.transcript c.whole_run.new.link) (g.R.Recorder.kept c.whole_run.new.recorder)) (g.W.Sink.written c.whole_run.new.sink) in
     IfSome-then (g.S.Source.remaining c.args.source.now) (λ bytes. HasRun f bytes now last c.whole_run.result) (λ bytes. HasSimulatedRun f bytes now last c.whole_run.result)
     (λ bytes run. run-simulated f bytes now last c.whole_run.result run)
+    c.whole_run.ensures.runs
+
+pub returns-in-Some-Run-clause-recorded : goal.returns-in-Some-Run-clause-recorded
+returns-in-Some-Run-clause-recorded g c = λ asked.
+    let f = keyed_fn g.K.Keyed.prf g.K.Keyed.pad in
+    let now = outside_of (seen (g.L.Link.transcript c.args.link.now) (g.R.Recorder.kept c.args.recorder.now)) (g.W.Sink.written c.args.sink.now) in
+    let last = outside_of (seen (g.L.Link.transcript c.whole_run.new.link) (g.R.Recorder.kept c.whole_run.new.recorder)) (g.W.Sink.written c.whole_run.new.sink) in
+    IfSome-then (g.S.Source.remaining c.args.source.now) (λ bytes. HasRun f bytes now last c.whole_run.result) (λ bytes. HasRecordedRun f bytes now last c.whole_run.result)
+    (λ bytes run. run-recorded f bytes now last c.whole_run.result run)
     c.whole_run.ensures.runs

@@ -1,16 +1,16 @@
 use Rattle.std.proofs.Common.{◌≡◌, ℕ, inl, refl, sym, ap, subst, ◌∙◌, arith}
 use Rattle.keyed_fn.specs.KeyedFn.{keyed_fn}
-use Rattle.run_texts.specs.Causes.{LinkCause, SinkCause, SourceCause}
+use Rattle.run_texts.specs.Causes.{LinkCause, RecorderCause, SinkCause, SourceCause}
 use Rattle.run_texts.specs.Stops.{stop_status}
 use Rattle.sse_outside.specs.Causes.{Rose}
 use Rattle.sse_outside.specs.Fronts.{TookOrRose}
 use Rattle.sse_outside.proofs.Fronts.{took_front}
 use Rattle.script_meaning.specs.Stops as ends
 use Rattle.script_meaning.specs.Stops.{status_of, stop_text}
-use Rattle.sse_client.specs.Stands.{outside_of, stop_view, has_refused}
+use Rattle.sse_client.specs.Stands.{seen, outside_of, stop_view, has_refused}
 use Rattle.sse_client.specs.declared.lines.Refusals.{Refusals}
 use Rattle.run_texts.specs.declared.stop_cause.StopCause.TheVariants as stops
-use Rattle.sse_client.proofs.CountsAtStop.{link_same, seen_status, seen_text, sink_same, source_same}
+use Rattle.sse_client.proofs.CountsAtStop.{link_same, recorder_same, seen_status, seen_text, sink_same, source_same}
 use Rattle.sse_client.proofs.LastLine.{has_last_line, last_line}
 use Rattle.sse_client.proofs.WholeRun.{has_run, nothing_more}
 use Rattle.sse_client.proofs.run.whole_run.Goals as goal
@@ -21,8 +21,8 @@ at_end refusals = status_of (ends.AtEnd (has_refused refusals))
 
 pub returns-in-Ok-None-clause-last_line : goal.returns-in-Ok-None-clause-last_line
 returns-in-Ok-None-clause-last_line g c =
-    let now = outside_of (g.L.Link.transcript c.args.link.now) (g.W.Sink.written c.args.sink.now) in
-    let told = g.L.Link.transcript c.run_script.new.link in
+    let now = outside_of (seen (g.L.Link.transcript c.args.link.now) (g.R.Recorder.kept c.args.recorder.now)) (g.W.Sink.written c.args.sink.now) in
+    let told = seen (g.L.Link.transcript c.run_script.new.link) (g.R.Recorder.kept c.run_script.new.recorder) in
     let written = g.W.Sink.written c.run_script.new.sink in
     inl (
       has_last_line (keyed_fn g.K.Keyed.prf g.K.Keyed.pad) now told told written written (ends.AtEnd (has_refused c.in-Ok-None.field-0)) 0 refl (sym (ap at_end c.in-Ok-None.field-0-is)) (g.S.Source.remaining c.args.source.now) c.in-Ok-None.ensures.ends (nothing_more written),
@@ -31,8 +31,8 @@ returns-in-Ok-None-clause-last_line g c =
 
 pub returns-in-Ok-Some-clause-last_line : goal.returns-in-Ok-Some-clause-last_line
 returns-in-Ok-Some-clause-last_line g c =
-    let now = outside_of (g.L.Link.transcript c.args.link.now) (g.W.Sink.written c.args.sink.now) in
-    let told = g.L.Link.transcript c.run_script.new.link in
+    let now = outside_of (seen (g.L.Link.transcript c.args.link.now) (g.R.Recorder.kept c.args.recorder.now)) (g.W.Sink.written c.args.sink.now) in
+    let told = seen (g.L.Link.transcript c.run_script.new.link) (g.R.Recorder.kept c.run_script.new.recorder) in
     let written = g.W.Sink.written c.run_script.new.sink in
     inl (
       has_last_line (keyed_fn g.K.Keyed.prf g.K.Keyed.pad) now told told written written (ends.AtEnd (has_refused c.in-Ok-Some.field-0)) 1 refl (sym (ap at_end c.in-Ok-Some.field-0-is)) (g.S.Source.remaining c.args.source.now) c.in-Ok-Some.ensures.ends (nothing_more written),
@@ -42,9 +42,9 @@ returns-in-Ok-Some-clause-last_line g c =
 pub returns-in-Err-clause-runs : goal.returns-in-Err-clause-runs
 returns-in-Err-clause-runs g c =
     let f = keyed_fn g.K.Keyed.prf g.K.Keyed.pad in
-    let now = outside_of (g.L.Link.transcript c.args.link.now) (g.W.Sink.written c.args.sink.now) in
+    let now = outside_of (seen (g.L.Link.transcript c.args.link.now) (g.R.Recorder.kept c.args.recorder.now)) (g.W.Sink.written c.args.sink.now) in
     let remaining = g.S.Source.remaining c.args.source.now in
-    let told = g.L.Link.transcript c.run_script.new.link in
+    let told = seen (g.L.Link.transcript c.run_script.new.link) (g.R.Recorder.kept c.run_script.new.recorder) in
     let written = g.W.Sink.written c.run_script.new.sink in
     let front =
     took_front written (g.W.Sink.written c.finish.new.sink) (stop_text (stop_view c.in-Err.stop)) (g.W.Sink.faults c.run_script.new.sink) (g.W.Sink.faults c.finish.new.sink)
@@ -53,8 +53,8 @@ returns-in-Err-clause-runs g c =
 
 pub returns-in-Err-clause-last_line : goal.returns-in-Err-clause-last_line
 returns-in-Err-clause-last_line g c =
-    let now = outside_of (g.L.Link.transcript c.args.link.now) (g.W.Sink.written c.args.sink.now) in
-    let told = g.L.Link.transcript c.run_script.new.link in
+    let now = outside_of (seen (g.L.Link.transcript c.args.link.now) (g.R.Recorder.kept c.args.recorder.now)) (g.W.Sink.written c.args.sink.now) in
+    let told = seen (g.L.Link.transcript c.run_script.new.link) (g.R.Recorder.kept c.run_script.new.recorder) in
     let written = g.W.Sink.written c.run_script.new.sink in
     last_line (keyed_fn g.K.Keyed.prf g.K.Keyed.pad) now told told written (g.W.Sink.written c.finish.new.sink) (stop_view c.in-Err.stop) c.finish.result refl (c.finish.ensures.status ∙ sym (seen_status c.in-Err.stop)) (g.S.Source.remaining c.args.source.now)
     (g.W.Sink.faults c.args.sink.now) (g.W.Sink.faults c.run_script.new.sink) (g.W.Sink.faults c.finish.new.sink) (g.W.Sink.shortages c.args.sink.now) (g.W.Sink.shortages c.run_script.new.sink) (g.W.Sink.shortages c.finish.new.sink)
@@ -82,3 +82,11 @@ returns-in-Err-clause-link_failed g c = λ is.
 pub returns-in-Err-clause-link_steady : goal.returns-in-Err-clause-link_steady
 returns-in-Err-clause-link_steady g c = λ other.
     link_same (g.L.Link.faults c.args.link.now) (g.L.Link.faults c.run_script.new.link) c.in-Err.stop c.in-Err.ensures.link.cause (λ e. other (c.finish.ensures.status ∙ ap stop_status e))
+
+pub returns-in-Err-clause-recorder_failed : goal.returns-in-Err-clause-recorder_failed
+returns-in-Err-clause-recorder_failed g c = λ is.
+    subst (RecorderCause (g.R.Recorder.faults c.args.recorder.now) (g.R.Recorder.faults c.run_script.new.recorder)) (c.finish.ensures.disk is) c.in-Err.ensures.recorder.cause
+
+pub returns-in-Err-clause-recorder_steady : goal.returns-in-Err-clause-recorder_steady
+returns-in-Err-clause-recorder_steady g c = λ other.
+    recorder_same (g.R.Recorder.faults c.args.recorder.now) (g.R.Recorder.faults c.run_script.new.recorder) c.in-Err.stop c.in-Err.ensures.recorder.cause (λ e. other (c.finish.ensures.status ∙ ap stop_status e))

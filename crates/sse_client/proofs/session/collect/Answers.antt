@@ -16,17 +16,17 @@ use Rattle.sse_client.proofs.session.collect.Goals as goal
 
 pub returns-in_ok-refusal_of-in-Collecting-clause-takes :
     goal.returns-in_ok-refusal_of-in-Collecting-clause-takes
-returns-in_ok-refusal_of-in-Collecting-clause-takes c = λ f told place a.
+returns-in_ok-refusal_of-in-Collecting-clause-takes c = λ f now place a.
     let here : IsAt f (Collecting c.in-Collecting.client c.in-Collecting.docs) place = subst (λ (s : Stage). IsAt f s place) c.in-Collecting.is a in
-    takes-doc f told c.args.id c.args.fields c.in-Collecting.docs.documents c.add_document-added.new.docs.documents _ _ c.add_document-added.result place here.stands.1 here.stands.0
+    takes-doc f now c.args.id c.args.fields c.in-Collecting.docs.documents c.add_document-added.new.docs.documents _ _ c.add_document-added.result place here.stands.1 here.stands.0
     (λ ds after e is. record { key = here.key ∙ sym (ap (λ (p : Place). p.key) is); stands = (e ∙ sym (ap (λ (p : Place). p.documents) is), subst (λ (p : Place). is_set_up p.history ≡ false) (sym is) here.stands.1); hashed = c.add_document-added.ensures.keys ∙ here.hashed ∙ sym (ap (λ (p : Place). hash_keys_under f p.key) is) })
     (record { added = c.add_document-added.ensures.added; accepted = c.add_document-added.ensures.accepted; refused = c.add_document-added.ensures.refused; kept = of_stop c.add_document-added.result _ _ (λ same. ap (λ (d : Collected). d.documents) same) c.add_document-added.ensures.kept })
     (record { nothing = c.in_ok-refusal_of-in-Collecting.ensures.nothing; refused = c.in_ok-refusal_of-in-Collecting.ensures.refused; memory = c.in_ok-refusal_of-in-Collecting.ensures.memory })
 
 pub returns-in-Searching-clause-takes : goal.returns-in-Searching-clause-takes
-returns-in-Searching-clause-takes c = λ f told place a.
+returns-in-Searching-clause-takes c = λ f now place a.
     let here : IsAt f (Searching c.in-Searching.client) place = subst (λ (s : Stage). IsAt f s place) c.in-Searching.is a in
-    takes-doc_behind f told _ _ place c.args.id c.args.fields (is_up f c.in-Searching.client place here) refl refl here
+    takes-doc_behind f now _ _ place c.args.id c.args.fields (is_up f c.in-Searching.client place here) refl refl here
 
 pub returns-in_err-refusal_of-in-Collecting-clause-may_stop :
     goal.returns-in_err-refusal_of-in-Collecting-clause-may_stop

@@ -5,7 +5,7 @@ use Rattle.script_meaning.specs.Lines as requests
 use Rattle.script_meaning.specs.Refused.{delete_refusal}
 use Rattle.sse_script.specs.Lines as lines
 use Rattle.sse_script.specs.Shown as says
-use Rattle.sse_client.specs.Stands.{IsAt, GoesOn, MayStop}
+use Rattle.sse_client.specs.Stands.{IsAt, seen, GoesOn, MayStop}
 use Rattle.run_texts.specs.Stops.{command_cause}
 use Rattle.sse_client.specs.declared.session.Stage.{Stage}
 use Rattle.sse_client.specs.declared.session.Stage.TheVariants.{Collecting, Searching}
@@ -23,8 +23,8 @@ pub returns-in-Searching-clause-takes : goal.returns-in-Searching-clause-takes
 returns-in-Searching-clause-takes g c =
     let f = keyed_fn g.K.Keyed.prf g.K.Keyed.pad in
     let client = c.in-Searching.client in
-    let old = g.L.Link.transcript c.args.link.now in
-    let new = g.L.Link.transcript c.send_update.new.link in
+    let old = seen (g.L.Link.transcript c.args.link.now) (g.R.Recorder.kept c.args.recorder.now) in
+    let new = seen (g.L.Link.transcript c.send_update.new.link) (g.R.Recorder.kept c.send_update.new.recorder) in
     of_good c.send_update.result _ _ (λ done goes place a.
     let here : IsAt f (Searching client) place = subst (λ (s : Stage). IsAt f s place) c.in-Searching.is a in
     subst (GoesOn f old new done.0 done.1 place) (sym (behind place (requests.Del c.args.id) (is_up f client place here)))
@@ -35,8 +35,8 @@ pub returns-in-Searching-clause-stops : goal.returns-in-Searching-clause-stops
 returns-in-Searching-clause-stops g c =
     let f = keyed_fn g.K.Keyed.prf g.K.Keyed.pad in
     let client = c.in-Searching.client in
-    let old = g.L.Link.transcript c.args.link.now in
-    let new = g.L.Link.transcript c.send_update.new.link in
+    let old = seen (g.L.Link.transcript c.args.link.now) (g.R.Recorder.kept c.args.recorder.now) in
+    let new = seen (g.L.Link.transcript c.send_update.new.link) (g.R.Recorder.kept c.send_update.new.recorder) in
     of_fault c.send_update.result _ _ (λ stop stops place a written.
     let here : IsAt f (Searching client) place = subst (λ (s : Stage). IsAt f s place) c.in-Searching.is a in
     stops_as f place old new written (command_cause stop) (sym (behind place (requests.Del c.args.id) (is_up f client place here)))

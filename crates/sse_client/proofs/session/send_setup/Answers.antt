@@ -1,4 +1,4 @@
-use Rattle.std.proofs.Common.{[], sym, ap, subst, ◌∙◌}
+use Rattle.std.proofs.Common.{[], refl, sym, ap, subst, ◌∙◌}
 use Rattle.client_core.specs.Owes.{AreNumbered}
 use Rattle.client_core.specs.StandsFor.{StandsFor}
 use Rattle.client_core.specs.declared.ready.Ready.{Ready}
@@ -6,13 +6,22 @@ use Rattle.client_registry.specs.Run.{Run, at_first}
 use Rattle.client_registry.specs.Setup.{setup_with}
 use Rattle.sse_model.specs.Epochs.{keys_under}
 use Rattle.std.specs.Prelude.{Some}
-use Rattle.sse_client.specs.Calls.{shows}
-use Rattle.sse_client.proofs.TranscriptsJoined.{Sends-err}
+use Rattle.client_core.specs.Payloads.{setup_payload}
+use Rattle.run_texts.specs.declared.command_stop.CommandStop.TheVariants.{Exchange, Keeping}
+use Rattle.sse_client.specs.Stands.{seen}
+use Rattle.sse_client.proofs.TranscriptsJoined.{SendsKept-err}
 use Rattle.sse_client.proofs.session.send_setup.Goals as goal
 
 pub returns-clause-sends : goal.returns-clause-sends
-returns-clause-sends g c = λ frames planned numbered.
-    c.in_ok-ready.ensures.sends frames (c.commit.ensures.owed ∙ planned) (subst (λ n. AreNumbered n frames) (sym c.commit.ensures.first) numbered)
+returns-clause-sends g c = λ frames planned numbered. (
+  c.in_ok-keep_setup.ensures.kept,
+  c.in_ok-ready.ensures.sends frames (c.commit.ensures.owed ∙ planned) (subst (λ n. AreNumbered n frames) (sym c.commit.ensures.first) numbered),
+)
+
+pub returns-in_err-keep_setup-clause-sends : goal.returns-in_err-keep_setup-clause-sends
+returns-in_err-keep_setup-clause-sends g c = λ frames planned numbered.
+    SendsKept-err (setup_payload c.args.planned) (seen (g.L.Link.transcript c.args.link.now) (g.R.Recorder.kept c.args.recorder.now)) (seen (g.L.Link.transcript c.args.link.now) (g.R.Recorder.kept c.keep_setup.new.recorder)) frames
+    c.from_residual.result (Keeping c.in_err-keep_setup.field-0.0) c.from_residual.ensures.1 (refl, c.in_err-keep_setup.ensures.kept)
 
 pub returns-clause-stands : goal.returns-clause-stands
 returns-clause-stands g c = λ f.
@@ -22,10 +31,11 @@ returns-clause-stands g c = λ f.
 
 pub returns-in_err-ready-clause-sends : goal.returns-in_err-ready-clause-sends
 returns-in_err-ready-clause-sends g c = λ frames planned numbered.
-    let old = c.args.link.now in
-    let new = c.catch_up.new.link in
-    Sends-err (shows (g.L.Link.transcript old) (g.L.Link.faults old) (g.L.Link.began old)) (shows (g.L.Link.transcript new) (g.L.Link.faults new) (g.L.Link.began new)) frames c.from_residual.result c.in_err-ready.field-0.0 c.from_residual.ensures.1
-    (c.in_err-ready.ensures.sends frames (c.commit.ensures.owed ∙ planned) (subst (λ n. AreNumbered n frames) (sym c.commit.ensures.first) numbered))
+    SendsKept-err (setup_payload c.args.planned) (seen (g.L.Link.transcript c.args.link.now) (g.R.Recorder.kept c.args.recorder.now)) (seen (g.L.Link.transcript c.catch_up.new.link) (g.R.Recorder.kept c.keep_setup.new.recorder)) frames
+    c.from_residual-in_err-ready.result (Exchange c.in_err-ready.field-0.0) c.from_residual-in_err-ready.ensures.1 (
+      c.in_ok-keep_setup.ensures.kept,
+      c.in_err-ready.ensures.sends frames (c.commit.ensures.owed ∙ planned) (subst (λ n. AreNumbered n frames) (sym c.commit.ensures.first) numbered),
+    )
 
 pub returns-clause-hash_keys : goal.returns-clause-hash_keys
 returns-clause-hash_keys g c = ap (λ (r : Ready). r.registry.keys) c.in_ok-ready.ensures.ready ∙ c.commit.ensures.hash_keys

@@ -1,4 +1,6 @@
-use Rattle.std.proofs.Common.{ℕ, [], List, refl, sym, ap, subst, ◌∙◌}
+use Rattle.std.proofs.Common.{ℕ, ◌∷◌, [], List, refl, sym, ap, subst, ◌∙◌}
+use Rattle.client_core.specs.Payloads.{setup_payload}
+use Rattle.script_meaning.specs.Exchange.{Adds}
 use Rattle.client_core.specs.declared.planned.Planned.{Planned}
 use Rattle.client_registry.specs.Run.{at_first}
 use Rattle.client_registry.specs.Setup.{setup_with}
@@ -7,8 +9,8 @@ use Rattle.index_setup.specs.Entries.{key_table}
 use Rattle.keyed_fn.specs.KeyedFn.{keyed_fn}
 use Rattle.sse_frames.specs.Frames.{FrameText}
 use Rattle.sse_model.specs.Wire.{frames_of_setup}
-use Rattle.run_texts.specs.Stops.{command_cause, peer_cause}
-use Rattle.run_texts.specs.declared.command_stop.CommandStop.TheVariants.{Exchange, Planning}
+use Rattle.run_texts.specs.Stops.{command_cause}
+use Rattle.run_texts.specs.declared.command_stop.CommandStop.TheVariants.{Planning}
 use Rattle.run_texts.specs.declared.line_result.LineResult.{LineResult}
 use Rattle.run_texts.specs.declared.line_result.LineResult.TheVariants as line_results
 use Rattle.sse_client.specs.declared.session.Stage.{Stage}
@@ -16,7 +18,7 @@ use Rattle.sse_client.specs.declared.session.Stage.TheVariants.{Collecting, Sear
 use Rattle.sse_client.proofs.TranscriptsJoined.{IfErr-from, may_stop}
 use Rattle.sse_client.proofs.SetupPlan.{frames_of_setup-are_numbered, stopped_plan}
 use Rattle.script_meaning.specs.Lines as requests
-use Rattle.sse_client.specs.Stands.{IsAt, IsReady, MayStop, StopsWithin}
+use Rattle.sse_client.specs.Stands.{IsAt, seen, IsReady, MayStop, StopsWithin}
 use Rattle.sse_client.proofs.CommandTaken.{IsCollecting, is_up, takes_if_sent, stops_if_sent, takes-refused_setup, stops-plan, takes-set_up_already}
 use Rattle.sse_client.specs.Stages.{key_of}
 use Rattle.sse_script.specs.Lines as lines
@@ -25,8 +27,8 @@ use Rattle.sse_client.proofs.session.set_up.Goals as goal
 pub returns-in_ok-send_setup-in-Ok-clause-takes : goal.returns-in_ok-send_setup-in-Ok-clause-takes
 returns-in_ok-send_setup-in-Ok-clause-takes g c =
     let f = keyed_fn g.K.Keyed.prf g.K.Keyed.pad in
-    let old = g.L.Link.transcript c.args.link.now in
-    let new = g.L.Link.transcript c.send_setup.new.link in
+    let old = seen (g.L.Link.transcript c.args.link.now) (g.R.Recorder.kept c.args.recorder.now) in
+    let new = seen (g.L.Link.transcript c.send_setup.new.link) (g.R.Recorder.kept c.send_setup.new.recorder) in
     let key = c.in-Collecting.client.key in
     let docs = c.in-Collecting.docs.documents in
     let s = setup_with docs c.args.numbers.b c.args.numbers.big c.args.numbers.pad in
@@ -37,32 +39,35 @@ returns-in_ok-send_setup-in-Ok-clause-takes g c =
     let here : IsAt f (Collecting c.in-Collecting.client c.in-Collecting.docs) place = subst (λ (s : Stage). IsAt f s place) c.in-Collecting.is a in
     (here.key, here.stands.0, here.stands.1, here.hashed) in
     let ready : IsReady f key (record { setup = s; later = [] }) done.0 = subst (λ (p : ℕ × ℕ × ℕ). IsReady f key (record { setup = setup_with docs p.0 p.1 p.2; later = [] }) done.0) (λ i. (shape.0 i, shape.1 i, c.in-Ok.ensures.pad i)) (c.in_ok-send_setup-in-Ok.ensures.stands f) in
+    let spelled = c.in-Ok.ensures.payload in
+    let sends = c.in_ok-send_setup-in-Ok.ensures.sends frames c.in-Ok.ensures.frames (frames_of_setup-are_numbered (key_table f key s) at_first s) in
     takes_if_sent f key old new c.args.stage docs c.in-Collecting.docs.keys c.args.numbers.b c.args.numbers.big c.args.numbers.pad at c.in-Ok.ensures.accepted c.in-Ok.planned.own_words c.in-Ok.planned.own_blocks c.in-Ok.ensures.own_words c.in-Ok.ensures.own_blocks
-    done.0 done.1 (c.in_ok-send_setup-in-Ok.ensures.sends frames c.in-Ok.ensures.frames (frames_of_setup-are_numbered (key_table f key s) at_first s)) c.in_ok-send_setup-in-Ok.ensures.shown c.in_ok-send_setup-in-Ok.ensures.accepted ready
+    done.0 done.1 (subst (λ payload. Adds old.kept new.kept (payload ∷ [])) spelled sends.0) sends.1 c.in_ok-send_setup-in-Ok.ensures.shown c.in_ok-send_setup-in-Ok.ensures.accepted ready
     c.in_ok-send_setup-in-Ok.ensures.key c.in_ok-send_setup-in-Ok.ensures.hash_keys
 
 pub returns-in_err-send_setup-in-Ok-clause-stops : goal.returns-in_err-send_setup-in-Ok-clause-stops
 returns-in_err-send_setup-in-Ok-clause-stops g c =
     let f = keyed_fn g.K.Keyed.prf g.K.Keyed.pad in
-    let old = g.L.Link.transcript c.args.link.now in
-    let new = g.L.Link.transcript c.send_setup.new.link in
+    let old = seen (g.L.Link.transcript c.args.link.now) (g.R.Recorder.kept c.args.recorder.now) in
+    let new = seen (g.L.Link.transcript c.send_setup.new.link) (g.R.Recorder.kept c.send_setup.new.recorder) in
     let key = c.in-Collecting.client.key in
     let docs = c.in-Collecting.docs.documents in
     let s = setup_with docs c.args.numbers.b c.args.numbers.big c.args.numbers.pad in
     let frames : List FrameText = frames_of_setup (key_table f key s) at_first s in
     let stop = c.in_err-send_setup-in-Ok.field-0.0 in
+    let spelled = c.in-Ok.ensures.payload in
     let at : IsCollecting f key docs c.in-Collecting.docs.keys c.args.stage = λ place a.
     let here : IsAt f (Collecting c.in-Collecting.client c.in-Collecting.docs) place = subst (λ (s : Stage). IsAt f s place) c.in-Collecting.is a in
     (here.key, here.stands.0, here.stands.1, here.hashed) in
-    IfErr-from c.from_residual.result (Exchange stop) (λ e. StopsWithin f c.args.stage (requests.SetupLine c.args.numbers.b c.args.numbers.big c.args.numbers.pad) old new (command_cause e)) c.from_residual.ensures.1
-    (stops_if_sent f key old new c.args.stage docs c.in-Collecting.docs.keys c.args.numbers.b c.args.numbers.big c.args.numbers.pad at c.in-Ok.ensures.accepted (peer_cause stop)
+    IfErr-from c.from_residual.result stop (λ e. StopsWithin f c.args.stage (requests.SetupLine c.args.numbers.b c.args.numbers.big c.args.numbers.pad) old new (command_cause e)) c.from_residual.ensures.1
+    (stops_if_sent f key old new c.args.stage docs c.in-Collecting.docs.keys c.args.numbers.b c.args.numbers.big c.args.numbers.pad at c.in-Ok.ensures.accepted (Stage × LineResult) (setup_payload c.in-Ok.planned) stop spelled
     (c.in_err-send_setup-in-Ok.ensures.sends frames c.in-Ok.ensures.frames (frames_of_setup-are_numbered (key_table f key s) at_first s)))
 
 pub returns-in_err-setup_refusal-in-Err-clause-stops :
     goal.returns-in_err-setup_refusal-in-Err-clause-stops
 returns-in_err-setup_refusal-in-Err-clause-stops g c =
     let f = keyed_fn g.K.Keyed.prf g.K.Keyed.pad in
-    let old = g.L.Link.transcript c.args.link.now in
+    let old = seen (g.L.Link.transcript c.args.link.now) (g.R.Recorder.kept c.args.recorder.now) in
     let stop = c.in_err-setup_refusal-in-Err.field-0.0 in
     let key = c.in-Collecting.client.key in
     let docs = c.in-Collecting.docs.documents in
@@ -80,7 +85,7 @@ pub returns-in_ok-setup_refusal-in-Err-clause-takes :
     goal.returns-in_ok-setup_refusal-in-Err-clause-takes
 returns-in_ok-setup_refusal-in-Err-clause-takes g c =
     let f = keyed_fn g.K.Keyed.prf g.K.Keyed.pad in
-    let old = g.L.Link.transcript c.args.link.now in
+    let old = seen (g.L.Link.transcript c.args.link.now) (g.R.Recorder.kept c.args.recorder.now) in
     let docs = c.in-Collecting.docs.documents in
     let shown = c.in_ok-setup_refusal-in-Err.field-0 in
     let next : Stage = Collecting c.in-Collecting.client c.in-Collecting.docs in

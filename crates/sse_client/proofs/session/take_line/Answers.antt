@@ -4,12 +4,14 @@ use Rattle.sse_script.specs.Views.{line_view}
 use Rattle.sse_script.specs.declared.line.Line.{Line}
 use Rattle.script_meaning.specs.Lines as requests
 use Rattle.script_meaning.specs.Lines.{line_read}
+use Rattle.run_texts.specs.Causes.{KeepCommandCause}
 use Rattle.run_texts.specs.Stops.{command_cause, plan_cause}
 use Rattle.run_texts.specs.declared.command_stop.CommandStop.TheVariants.{Planning}
-use Rattle.sse_client.proofs.TranscriptsJoined.{IfErr-from, may_stop}
+use Rattle.sse_client.proofs.TranscriptsJoined.{IfErr-from, KeepsRecorder-none, may_stop}
 use Rattle.sse_client.proofs.CommandTaken.{takes_own, stops_own, stops_if_memory}
+use Rattle.sse_client.proofs.UpdateCarriedOut.{of_good, of_fault}
 use Rattle.std.specs.Prelude.{OnErr}
-use Rattle.sse_client.specs.Stands.{MayStop, StopsWithin}
+use Rattle.sse_client.specs.Stands.{seen, MayStop, StopsWithin}
 use Rattle.sse_client.proofs.session.take_line.Goals as goal
 
 pub returns-in-Empty-clause-takes : goal.returns-in-Empty-clause-takes
@@ -21,58 +23,58 @@ returns-in-Empty-clause-takes g c = λ request e. elim c.in-Empty.is [
 pub returns-in_ok-collect-in-Doc-clause-takes : goal.returns-in_ok-collect-in-Doc-clause-takes
 returns-in_ok-collect-in-Doc-clause-takes g c =
     let f = keyed_fn g.K.Keyed.prf g.K.Keyed.pad in
-    let told = g.L.Link.transcript c.args.link.now in
+    let now = seen (g.L.Link.transcript c.args.link.now) (g.R.Recorder.kept c.args.recorder.now) in
     let own = requests.Doc c.in-Doc.id c.in-Doc.words in
-    takes_own f c.args.stage told told (line_read (line_view c.args.line)) own (ap (λ (line : Line). line_read (line_view line)) c.in-Doc.is) (Ok c.in_ok-collect-in-Doc.field-0) (c.in_ok-collect-in-Doc.ensures.takes f told)
+    takes_own f c.args.stage now now (line_read (line_view c.args.line)) own (ap (λ (line : Line). line_read (line_view line)) c.in-Doc.is) (Ok c.in_ok-collect-in-Doc.field-0) (c.in_ok-collect-in-Doc.ensures.takes f now)
 
 pub returns-in_err-collect-in-Doc-clause-stops : goal.returns-in_err-collect-in-Doc-clause-stops
 returns-in_err-collect-in-Doc-clause-stops g c =
     let f = keyed_fn g.K.Keyed.prf g.K.Keyed.pad in
-    let told = g.L.Link.transcript c.args.link.now in
+    let now = seen (g.L.Link.transcript c.args.link.now) (g.R.Recorder.kept c.args.recorder.now) in
     let own = requests.Doc c.in-Doc.id c.in-Doc.words in
     let stop = c.in_err-collect-in-Doc.field-0.0 in
-    stops_own f c.args.stage told told (line_read (line_view c.args.line)) own (ap (λ (line : Line). line_read (line_view line)) c.in-Doc.is) c.from_residual.result
-    (IfErr-from c.from_residual.result (Planning stop) (λ e. StopsWithin f c.args.stage own told told (command_cause e)) c.from_residual.ensures.1
-    (subst (λ s. StopsWithin f c.args.stage own told told (plan_cause s)) (sym c.in_err-collect-in-Doc.ensures.memory) (stops_if_memory f told c.args.stage own)))
+    stops_own f c.args.stage now now (line_read (line_view c.args.line)) own (ap (λ (line : Line). line_read (line_view line)) c.in-Doc.is) c.from_residual.result
+    (IfErr-from c.from_residual.result (Planning stop) (λ e. StopsWithin f c.args.stage own now now (command_cause e)) c.from_residual.ensures.1
+    (subst (λ s. StopsWithin f c.args.stage own now now (plan_cause s)) (sym c.in_err-collect-in-Doc.ensures.memory) (stops_if_memory f now c.args.stage own)))
 
 pub returns-in-Setup-clause-takes : goal.returns-in-Setup-clause-takes
 returns-in-Setup-clause-takes g c =
-    takes_own (keyed_fn g.K.Keyed.prf g.K.Keyed.pad) c.args.stage (g.L.Link.transcript c.args.link.now) (g.L.Link.transcript c.set_up.new.link) (line_read (line_view c.args.line)) (requests.SetupLine c.in-Setup.b c.in-Setup.big c.in-Setup.pad)
+    takes_own (keyed_fn g.K.Keyed.prf g.K.Keyed.pad) c.args.stage (seen (g.L.Link.transcript c.args.link.now) (g.R.Recorder.kept c.args.recorder.now)) (seen (g.L.Link.transcript c.set_up.new.link) (g.R.Recorder.kept c.set_up.new.recorder)) (line_read (line_view c.args.line)) (requests.SetupLine c.in-Setup.b c.in-Setup.big c.in-Setup.pad)
     (ap (λ (line : Line). line_read (line_view line)) c.in-Setup.is) c.set_up.result c.set_up.ensures.takes
 
 pub returns-in-Setup-clause-stops : goal.returns-in-Setup-clause-stops
 returns-in-Setup-clause-stops g c =
-    stops_own (keyed_fn g.K.Keyed.prf g.K.Keyed.pad) c.args.stage (g.L.Link.transcript c.args.link.now) (g.L.Link.transcript c.set_up.new.link) (line_read (line_view c.args.line)) (requests.SetupLine c.in-Setup.b c.in-Setup.big c.in-Setup.pad)
+    stops_own (keyed_fn g.K.Keyed.prf g.K.Keyed.pad) c.args.stage (seen (g.L.Link.transcript c.args.link.now) (g.R.Recorder.kept c.args.recorder.now)) (seen (g.L.Link.transcript c.set_up.new.link) (g.R.Recorder.kept c.set_up.new.recorder)) (line_read (line_view c.args.line)) (requests.SetupLine c.in-Setup.b c.in-Setup.big c.in-Setup.pad)
     (ap (λ (line : Line). line_read (line_view line)) c.in-Setup.is) c.set_up.result c.set_up.ensures.stops
 
 pub returns-in-Find-clause-takes : goal.returns-in-Find-clause-takes
 returns-in-Find-clause-takes g c =
-    takes_own (keyed_fn g.K.Keyed.prf g.K.Keyed.pad) c.args.stage (g.L.Link.transcript c.args.link.now) (g.L.Link.transcript c.find.new.link) (line_read (line_view c.args.line)) (requests.Find c.in-Find.word.now)
-    (ap (λ (line : Line). line_read (line_view line)) c.in-Find.is) c.find.result c.find.ensures.takes
+    takes_own (keyed_fn g.K.Keyed.prf g.K.Keyed.pad) c.args.stage (seen (g.L.Link.transcript c.args.link.now) (g.R.Recorder.kept c.args.recorder.now)) (seen (g.L.Link.transcript c.find.new.link) (g.R.Recorder.kept c.args.recorder.now)) (line_read (line_view c.args.line)) (requests.Find c.in-Find.word.now)
+    (ap (λ (line : Line). line_read (line_view line)) c.in-Find.is) c.find.result (of_good c.find.result _ _ (λ done takes. takes (g.R.Recorder.kept c.args.recorder.now)) c.find.ensures.takes)
 
 pub returns-in-Find-clause-stops : goal.returns-in-Find-clause-stops
 returns-in-Find-clause-stops g c =
-    stops_own (keyed_fn g.K.Keyed.prf g.K.Keyed.pad) c.args.stage (g.L.Link.transcript c.args.link.now) (g.L.Link.transcript c.find.new.link) (line_read (line_view c.args.line)) (requests.Find c.in-Find.word.now)
-    (ap (λ (line : Line). line_read (line_view line)) c.in-Find.is) c.find.result c.find.ensures.stops
+    stops_own (keyed_fn g.K.Keyed.prf g.K.Keyed.pad) c.args.stage (seen (g.L.Link.transcript c.args.link.now) (g.R.Recorder.kept c.args.recorder.now)) (seen (g.L.Link.transcript c.find.new.link) (g.R.Recorder.kept c.args.recorder.now)) (line_read (line_view c.args.line)) (requests.Find c.in-Find.word.now)
+    (ap (λ (line : Line). line_read (line_view line)) c.in-Find.is) c.find.result (of_fault c.find.result _ _ (λ stop stops. stops (g.R.Recorder.kept c.args.recorder.now)) c.find.ensures.stops)
 
 pub returns-in-Add-clause-takes : goal.returns-in-Add-clause-takes
 returns-in-Add-clause-takes g c =
-    takes_own (keyed_fn g.K.Keyed.prf g.K.Keyed.pad) c.args.stage (g.L.Link.transcript c.args.link.now) (g.L.Link.transcript c.add.new.link) (line_read (line_view c.args.line)) (requests.AddLine c.in-Add.id c.in-Add.words)
+    takes_own (keyed_fn g.K.Keyed.prf g.K.Keyed.pad) c.args.stage (seen (g.L.Link.transcript c.args.link.now) (g.R.Recorder.kept c.args.recorder.now)) (seen (g.L.Link.transcript c.add.new.link) (g.R.Recorder.kept c.add.new.recorder)) (line_read (line_view c.args.line)) (requests.AddLine c.in-Add.id c.in-Add.words)
     (ap (λ (line : Line). line_read (line_view line)) c.in-Add.is) c.add.result c.add.ensures.takes
 
 pub returns-in-Add-clause-stops : goal.returns-in-Add-clause-stops
 returns-in-Add-clause-stops g c =
-    stops_own (keyed_fn g.K.Keyed.prf g.K.Keyed.pad) c.args.stage (g.L.Link.transcript c.args.link.now) (g.L.Link.transcript c.add.new.link) (line_read (line_view c.args.line)) (requests.AddLine c.in-Add.id c.in-Add.words)
+    stops_own (keyed_fn g.K.Keyed.prf g.K.Keyed.pad) c.args.stage (seen (g.L.Link.transcript c.args.link.now) (g.R.Recorder.kept c.args.recorder.now)) (seen (g.L.Link.transcript c.add.new.link) (g.R.Recorder.kept c.add.new.recorder)) (line_read (line_view c.args.line)) (requests.AddLine c.in-Add.id c.in-Add.words)
     (ap (λ (line : Line). line_read (line_view line)) c.in-Add.is) c.add.result c.add.ensures.stops
 
 pub returns-in-Del-clause-takes : goal.returns-in-Del-clause-takes
 returns-in-Del-clause-takes g c =
-    takes_own (keyed_fn g.K.Keyed.prf g.K.Keyed.pad) c.args.stage (g.L.Link.transcript c.args.link.now) (g.L.Link.transcript c.delete.new.link) (line_read (line_view c.args.line)) (requests.Del c.in-Del.id)
+    takes_own (keyed_fn g.K.Keyed.prf g.K.Keyed.pad) c.args.stage (seen (g.L.Link.transcript c.args.link.now) (g.R.Recorder.kept c.args.recorder.now)) (seen (g.L.Link.transcript c.delete.new.link) (g.R.Recorder.kept c.delete.new.recorder)) (line_read (line_view c.args.line)) (requests.Del c.in-Del.id)
     (ap (λ (line : Line). line_read (line_view line)) c.in-Del.is) c.delete.result c.delete.ensures.takes
 
 pub returns-in-Del-clause-stops : goal.returns-in-Del-clause-stops
 returns-in-Del-clause-stops g c =
-    stops_own (keyed_fn g.K.Keyed.prf g.K.Keyed.pad) c.args.stage (g.L.Link.transcript c.args.link.now) (g.L.Link.transcript c.delete.new.link) (line_read (line_view c.args.line)) (requests.Del c.in-Del.id)
+    stops_own (keyed_fn g.K.Keyed.prf g.K.Keyed.pad) c.args.stage (seen (g.L.Link.transcript c.args.link.now) (g.R.Recorder.kept c.args.recorder.now)) (seen (g.L.Link.transcript c.delete.new.link) (g.R.Recorder.kept c.delete.new.recorder)) (line_read (line_view c.args.line)) (requests.Del c.in-Del.id)
     (ap (λ (line : Line). line_read (line_view line)) c.in-Del.is) c.delete.result c.delete.ensures.stops
 
 pub returns-in_err-collect-in-Doc-clause-may_stop :
@@ -92,3 +94,6 @@ returns-in-Del-clause-may_stop g c = subst (λ (line : Line). OnErr c.delete.res
 
 pub returns-in-Find-clause-may_stop : goal.returns-in-Find-clause-may_stop
 returns-in-Find-clause-may_stop g c = subst (λ (line : Line). OnErr c.find.result (MayStop (keyed_fn g.K.Keyed.prf g.K.Keyed.pad) c.args.stage (line_view line))) (sym c.in-Find.is) c.find.ensures.may_stop
+
+pub returns-in-Find-clause-recorder : goal.returns-in-Find-clause-recorder
+returns-in-Find-clause-recorder g c = KeepsRecorder-none KeepCommandCause (g.R.Recorder.faults c.args.recorder.now) c.find.result c.find.ensures.no_record

@@ -1,0 +1,48 @@
+ghost use Rattle.std.specs.Prelude.{◌≡◌, OnOk};
+ghost use Rattle.client_core.specs.Payloads.{setup_payload, update_payload};
+ghost use Rattle.run_texts.specs.Causes.{KeepCause, KeepsRecorder};
+ghost use Rattle.sse_client.specs.Keeping.{HasKept};
+
+use client_core::{Planned, PlannedUpdate};
+use client_registry::Docs;
+use sse_outside::DeviceFault;
+use sse_recorder::Recorder;
+use std::alloc::Global;
+
+/// Keeps the record of a planned setup, made of these documents.
+pub(crate) fn keep_setup<R: Recorder>(
+    alloc: Global,
+    planned: &Planned,
+    docs: &Docs,
+    recorder: &mut R,
+) -> Result<(), DeviceFault>
+    requires documents { planned.now.made_of ≡ docs.now }
+    requires whole { R.whole recorder.old }
+    ensures kept { HasKept (setup_payload planned.now) (R.kept recorder.old) (R.kept recorder.new) result }
+    ensures whole_after { OnOk result (R.whole recorder.new) }
+    ensures faults { KeepsRecorder KeepCause (R.faults recorder.old) (R.faults recorder.new) result }
+{
+    let mut payload = Vec::new(alloc);
+    if planned.payload_into(docs, &mut payload).is_err() {
+        return Err(DeviceFault::NoMemory);
+    }
+    recorder.keep(&payload)
+}
+
+/// Keeps the record of a planned update.
+pub(crate) fn keep_update<R: Recorder>(
+    alloc: Global,
+    planned: &PlannedUpdate,
+    recorder: &mut R,
+) -> Result<(), DeviceFault>
+    requires whole { R.whole recorder.old }
+    ensures kept { HasKept (update_payload planned.now) (R.kept recorder.old) (R.kept recorder.new) result }
+    ensures whole_after { OnOk result (R.whole recorder.new) }
+    ensures faults { KeepsRecorder KeepCause (R.faults recorder.old) (R.faults recorder.new) result }
+{
+    let mut payload = Vec::new(alloc);
+    if planned.payload_into(&mut payload).is_err() {
+        return Err(DeviceFault::NoMemory);
+    }
+    recorder.keep(&payload)
+}
