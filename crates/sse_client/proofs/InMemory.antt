@@ -17,8 +17,8 @@ use Rattle.sse_client.specs.Stands.{seen, outside_of, HasHonestStatus, HasHeadli
 use Rattle.sse_client.specs.OverServer.{HasRunOverServer, PrintsAsRun, PrintsAsMeant}
 use Rattle.sse_client.proofs.WholeRun.{IfSome-then}
 
-abbrev remote : ServerState → Option Remote
-remote state = Some (record { state = state })
+abbrev remote : Told → Option Remote
+remote told = Some (record { state = told.began; file = told.began_file })
 
 abbrev state_in : ServerState → Option Remote → ServerState
 state_in other None = other
@@ -34,7 +34,7 @@ fresh_expects = record { next = refl; stage = refl }
 
 -- A link that is lent.
 
-module _ (f : KeyedFn) (old new : Told) (fresh : old ≡ told_first at_first) (kept : remote new.began ≡ remote old.began) (honest : IsServed f (idle new.began) new.events (served new)) where
+module _ (f : KeyedFn) (old new : Told) (fresh : old ≡ told_first at_first) (kept : remote new ≡ remote old) (honest : IsServed f (idle new.began) new.events (served new)) where
   pub over_server-honest : links.IsHonest f at_first new.events new.state
   over_server-honest =
       subst (λ s. IsServed f (idle s) new.events (idle new.state)) (ap (state_in at_first) kept ∙ ap (λ (t : Told). t.began) fresh) (IsServed-dropped f (idle new.began) (served new) new.events honest)

@@ -3,6 +3,7 @@ use Rattle.std.proofs.Common.{◌≡◌, ◌≢◌, ◌⊎◌, inl, inr, ℕ, ze
 use Rattle.std.specs.Prelude.{if◌then◌else◌, IfErr}
 use Rattle.std.specs.List.{AllByRecursion}
 use Rattle.std.specs.Option.{option_map_or}
+use Rattle.std.proofs.lemmas.Bool.{true≢false}
 use Rattle.keyed_fn.specs.KeyFormulas.{token_of}
 use Rattle.keyed_fn.specs.KeyedFn.{KeyedFn, IsKeyedFn}
 use Rattle.list_packing.specs.Parts.{parts}
@@ -68,7 +69,7 @@ other_answered : (f : KeyedFn) (s : ServerState) (token : List ℕ) (mark : Mark
 other_answered f s token mark after replies answered =
     elim (Answers-either f s (SearchFrame token) mark after replies answered) [
       | inl stepped ↦ subst (AllByRecursion IsOther) (sym stepped.replies_are) (other_step f s token)
-      | inr lacked ↦ absurd lacked.takes
+      | inr kept ↦ elim kept [ inl lacked ↦ absurd (true≢false (sym lacked.update)) | inr failed ↦ absurd (true≢false (sym failed.update)) ]
     ]
 
 -- so where nothing else is sent, none is received

@@ -18,6 +18,8 @@ mod fault_texts;
 #[cfg(test)]
 mod made_up_links;
 #[cfg(test)]
+mod planned_records;
+#[cfg(test)]
 mod printed;
 #[cfg(test)]
 mod rebuilds;
