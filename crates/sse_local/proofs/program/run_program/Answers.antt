@@ -1,6 +1,5 @@
-use Rattle.std.proofs.Common.{◌≡◌, ℕ, List, Option, None, Some, drop, map, sym, ap, subst, ◌∙◌}
+use Rattle.std.proofs.Common.{◌≡◌, ℕ, List, Option, Some, drop, map, sym, ap, subst, ◌∙◌}
 use Rattle.std.specs.Prelude.{IfSome, string_bytes}
-use Rattle.run_texts.specs.Words.{Run}
 use Rattle.sse_local.specs.Given.{words_given}
 use Rattle.sse_local.proofs.program.run_program.Goals as goal
 
@@ -10,17 +9,20 @@ of_words P given words is p = subst (λ o. IfSome o P) (sym is) p
 
 pub returns-in-Words-clause-runs : goal.returns-in-Words-clause-runs
 returns-in-Words-clause-runs g c =
-    of_words _ _ _ (ap words_given c.in-Words.is ∙ ap (λ words. Some (map (λ word. string_bytes word) words)) (sym (c.behind_name.ensures ∙ ap (drop 1) c.as_slice.ensures.value))) c.run_in_memory.ensures.runs
+    of_words _ _ _ (ap words_given c.in-Words.is ∙ ap (λ words. Some (map (λ word. string_bytes word) words)) (sym (c.behind_name.ensures ∙ ap (drop 1) c.as_slice.ensures.value))) c.by_words.ensures.runs
 
 pub returns-in-Words-clause-headline : goal.returns-in-Words-clause-headline
 returns-in-Words-clause-headline g c =
-    of_words _ _ _ (ap words_given c.in-Words.is ∙ ap (λ words. Some (map (λ word. string_bytes word) words)) (sym (c.behind_name.ensures ∙ ap (drop 1) c.as_slice.ensures.value))) c.run_in_memory.ensures.headline
+    of_words _ _ _ (ap words_given c.in-Words.is ∙ ap (λ words. Some (map (λ word. string_bytes word) words)) (sym (c.behind_name.ensures ∙ ap (drop 1) c.as_slice.ensures.value))) c.by_words.ensures.headline
+
+pub returns-in-Words-clause-compares : goal.returns-in-Words-clause-compares
+returns-in-Words-clause-compares g c =
+    of_words _ _ _ (ap words_given c.in-Words.is ∙ ap (λ words. Some (map (λ word. string_bytes word) words)) (sym (c.behind_name.ensures ∙ ap (drop 1) c.as_slice.ensures.value))) c.by_words.ensures.compares
 
 pub returns-in-Words-clause-other_words : goal.returns-in-Words-clause-other_words
 returns-in-Words-clause-other_words g c =
-    of_words _ _ _ (ap words_given c.in-Words.is ∙ ap (λ words. Some (map (λ word. string_bytes word) words)) (sym (c.behind_name.ensures ∙ ap (drop 1) c.as_slice.ensures.value))) c.run_in_memory.ensures.words_status
+    of_words _ _ _ (ap words_given c.in-Words.is ∙ ap (λ words. Some (map (λ word. string_bytes word) words)) (sym (c.behind_name.ensures ∙ ap (drop 1) c.as_slice.ensures.value))) c.by_words.ensures.other_words
 
 pub returns-in-Words-clause-other_words_line : goal.returns-in-Words-clause-other_words_line
 returns-in-Words-clause-other_words_line g c =
-    of_words _ _ _ (ap words_given c.in-Words.is ∙ ap (λ words. Some (map (λ word. string_bytes word) words)) (sym (c.behind_name.ensures ∙ ap (drop 1) c.as_slice.ensures.value)))
-    (λ none. c.run_in_memory.ensures.words_line (λ some. let no : None ≡ Some Run = sym none ∙ some in absurd (cc)))
+    of_words _ _ _ (ap words_given c.in-Words.is ∙ ap (λ words. Some (map (λ word. string_bytes word) words)) (sym (c.behind_name.ensures ∙ ap (drop 1) c.as_slice.ensures.value))) c.by_words.ensures.other_words_line

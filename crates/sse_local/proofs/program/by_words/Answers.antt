@@ -1,0 +1,13 @@
+use Rattle.std.proofs.Common.{◌≡◌, None, Some, map, sym, ◌∙◌}
+use Rattle.std.specs.Prelude.{string_bytes}
+use Rattle.run_texts.specs.Words.{Run}
+use Rattle.sse_local.proofs.Asked.{mode_of-twin}
+use Rattle.sse_local.proofs.program.by_words.Goals as goal
+
+pub returns-then-asks_twin-clause-runs : goal.returns-then-asks_twin-clause-runs
+returns-then-asks_twin-clause-runs g c = λ runs.
+    let no : None ≡ Some Run = sym (mode_of-twin (map (λ word. string_bytes word) c.args.words.now) (sym c.asks_twin.ensures ∙ c.if-asks_twin.true)) ∙ runs in absurd (cc)
+
+pub returns-then-asks_twin-clause-headline : goal.returns-then-asks_twin-clause-headline
+returns-then-asks_twin-clause-headline g c = λ runs.
+    let no : None ≡ Some Run = sym (mode_of-twin (map (λ word. string_bytes word) c.args.words.now) (sym c.asks_twin.ensures ∙ c.if-asks_twin.true)) ∙ runs in absurd (cc)
