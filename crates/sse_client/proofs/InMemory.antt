@@ -1,5 +1,5 @@
 -- A run over a server in this process that had taken nothing.
-use Rattle.std.proofs.Common.{◌≡◌, ℕ, List, [], ◌++◌, Option, None, Some, refl, sym, ap, subst, ◌∙◌}
+use Rattle.std.proofs.Common.{◌≡◌, inl, inr, ℕ, List, [], ◌++◌, Option, None, Some, refl, sym, ap, subst, ◌∙◌}
 use Rattle.std.specs.Prelude.{IfSome}
 use Rattle.keyed_fn.specs.KeyedFn.{KeyedFn}
 use Rattle.server_core.specs.State.{ServerState, at_first}
@@ -14,7 +14,8 @@ use Rattle.link_events.specs.Served as links
 use Rattle.link_events.specs.Served.{IsServed, idle}
 use Rattle.sse_link.specs.Told.{Told, told_first, served}
 use Rattle.sse_client.specs.Stands.{seen, outside_of, HasHonestStatus, HasHeadline}
-use Rattle.sse_client.specs.OverServer.{HasRunOverServer, PrintsAsRun, PrintsAsMeant}
+use Rattle.sse_client.specs.LastLine.{HasLastLine, HasShortLine, IsWholeOrRose}
+use Rattle.sse_client.specs.OverServer.{HasRunOverServer, PrintsAsRun, PrintsLastLine, PrintsShortLine, PrintsAsMeant}
 use Rattle.sse_client.proofs.WholeRun.{IfSome-then}
 
 abbrev remote : Told → Option Remote
@@ -74,3 +75,28 @@ module _ (f : KeyedFn) (old new : Told) (first : ServerState) (fresh : old ≡ t
       IfSome-then remaining (λ bytes. IsFree f (meaning bytes).key (meaning bytes).history → Headline f at_first (meaning bytes) (outside_of (seen (Some old.events) None) before) (outside_of (seen (Some new.events) None) after) status new.state)
       (λ bytes. PrintsAsMeant f bytes before after status)
       (λ bytes headline free. record { status_is = (headline free).status_is; q = (headline free).q; printed = (headline free).printed })
+
+  pub in_memory-last_line : (faults faults_now shortages shortages_now : ℕ)
+      → IsWholeOrRose (IfSome remaining (λ bytes. HasLastLine f bytes (outside_of (seen (Some old.events) None) before) (outside_of (seen (Some new.events) None) after) status))
+      (IfSome remaining (λ bytes. HasShortLine f bytes (outside_of (seen (Some old.events) None) before) (outside_of (seen (Some new.events) None) after) status)) status faults faults_now shortages shortages_now
+      → IsWholeOrRose (IfSome remaining (λ bytes. PrintsLastLine f bytes before after status)) (IfSome remaining (λ bytes. PrintsShortLine f bytes before after status)) status faults faults_now shortages shortages_now
+  in_memory-last_line faults faults_now shortages shortages_now (inl whole) = inl (
+    IfSome-then remaining (λ bytes. HasLastLine f bytes (outside_of (seen (Some old.events) None) before) (outside_of (seen (Some new.events) None) after) status) (λ bytes. PrintsLastLine f bytes before after status)
+        (λ bytes has. record {
+          told = Some new.events;
+          state = new.state;
+          over = over_honest f [] new.events new.state refl honest;
+          ends = subst (λ (t : Told). HasLastLine f bytes (outside_of (seen (Some t.events) None) before) (outside_of (seen (Some new.events) None) after) status) fresh has;
+        }) whole.0,
+    whole.1,
+  )
+  in_memory-last_line faults faults_now shortages shortages_now (inr short) = inr (
+    IfSome-then remaining (λ bytes. HasShortLine f bytes (outside_of (seen (Some old.events) None) before) (outside_of (seen (Some new.events) None) after) status) (λ bytes. PrintsShortLine f bytes before after status)
+        (λ bytes has. record {
+          told = Some new.events;
+          state = new.state;
+          over = over_honest f [] new.events new.state refl honest;
+          ends = subst (λ (t : Told). HasShortLine f bytes (outside_of (seen (Some t.events) None) before) (outside_of (seen (Some new.events) None) after) status) fresh has;
+        }) short.0,
+    short.1,
+  )

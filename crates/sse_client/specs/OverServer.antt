@@ -10,6 +10,7 @@ use Rattle.script_meaning.specs.Meaning.{Meaning, meaning}
 use Rattle.script_meaning.specs.Session.{IsFree}
 use Rattle.script_meaning.specs.Stops.{status_of, stop_text}
 use Rattle.sse_script.specs.Texts.{text_of}
+use Rattle.sse_client.specs.LastLine.{HasLastLine, HasShortLine}
 use Rattle.sse_client.specs.Stands.{seen, outside_of, HasRun}
 
 -- a whole run: where its history up to its stop has no collision, no collision and no reply stopped it
@@ -23,6 +24,20 @@ pub record PrintsAsRun (f : KeyedFn) (bytes : List ℕ) (old new : Option (List 
   pub state : ServerState
   pub over : IsOverHonest f at_first (Some []) told state
   pub runs : HasRunOverServer f bytes (outside_of (seen (Some []) None) old) (outside_of (seen told None) new) status
+
+-- such lines, the last of them whole
+pub record PrintsLastLine (f : KeyedFn) (bytes : List ℕ) (old new : Option (List ℕ)) (status : ℕ) : Type 0 where
+  pub told : Told
+  pub state : ServerState
+  pub over : IsOverHonest f at_first (Some []) told state
+  pub ends : HasLastLine f bytes (outside_of (seen (Some []) None) old) (outside_of (seen told None) new) status
+
+-- or a proper front of the last
+pub record PrintsShortLine (f : KeyedFn) (bytes : List ℕ) (old new : Option (List ℕ)) (status : ℕ) : Type 0 where
+  pub told : Told
+  pub state : ServerState
+  pub over : IsOverHonest f at_first (Some []) told state
+  pub ends : HasShortLine f bytes (outside_of (seen (Some []) None) old) (outside_of (seen told None) new) status
 
 -- a script of this meaning has this status and printed its lines, and a front of the line that says why it stopped
 pub record PrintsMeaning (m : Meaning) (old new : Option (List ℕ)) (status : ℕ) : Type 0 where

@@ -15,7 +15,7 @@ ghost use Rattle.script_meaning.specs.Stops as ends;
 ghost use Rattle.server_core.specs.State.{at_first};
 ghost use Rattle.sse_client.specs.Calls.{shows, KeepsLink};
 ghost use Rattle.sse_client.specs.LastLine.{HasLastLine, HasShortLine, IsWholeOrRose};
-ghost use Rattle.sse_client.specs.OverServer.{HasRunOverServer, PrintsAsRun, PrintsAsMeant};
+ghost use Rattle.sse_client.specs.OverServer.{HasRunOverServer, PrintsAsRun, PrintsLastLine, PrintsShortLine, PrintsAsMeant};
 ghost use Rattle.sse_client.specs.Stands.{seen, outside_of, OpensTo, HasRun, HasHonestStatus, HasSimulatedRun, HasRecordedRun, HasHeadline};
 ghost use Rattle.sse_client.specs.Turns.{ending};
 ghost use Rattle.sse_link.specs.Told.{told_first};
@@ -257,6 +257,10 @@ pub fn run_in_memory<K: Keyed + Copy, S: Source, W: Sink>(
         TookOrRose (W.written sink.old) (W.written sink.new) (text_of (Stopped BadWords)) (W.faults sink.old) (W.faults sink.new) (W.shortages sink.old) (W.shortages sink.new) }
     ensures runs { asks.mode_of (map (λ word. string_bytes word) words.now) ≡ Some asks.Run → IfSome (S.remaining source.old) (λ bytes.
         PrintsAsRun (keyed_fn K.prf K.pad) bytes (W.written sink.old) (W.written sink.new) result) }
+    ensures last_line { asks.mode_of (map (λ word. string_bytes word) words.now) ≡ Some asks.Run → IsWholeOrRose
+        (IfSome (S.remaining source.old) (λ bytes. PrintsLastLine (keyed_fn K.prf K.pad) bytes (W.written sink.old) (W.written sink.new) result))
+        (IfSome (S.remaining source.old) (λ bytes. PrintsShortLine (keyed_fn K.prf K.pad) bytes (W.written sink.old) (W.written sink.new) result))
+        result (W.faults sink.old) (W.faults sink.new) (W.shortages sink.old) (W.shortages sink.new) }
     ensures headline { asks.mode_of (map (λ word. string_bytes word) words.now) ≡ Some asks.Run → result ≢ 3 → result ≢ 4 → result ≢ 7 → IfSome (S.remaining source.old) (λ bytes.
         PrintsAsMeant (keyed_fn K.prf K.pad) bytes (W.written sink.old) (W.written sink.new) result) }
     ensures at_end { result ≤ 1 → IsAtEnd (S.remaining source.new) }
@@ -288,6 +292,10 @@ pub fn run_on_bytes<K: Keyed + Copy>(
         (⟦<SteadySink as Sink>⟧.faults sink.old) (⟦<SteadySink as Sink>⟧.faults sink.new) (⟦<SteadySink as Sink>⟧.shortages sink.old) (⟦<SteadySink as Sink>⟧.shortages sink.new) }
     ensures runs { asks.mode_of (map (λ word. string_bytes word) words.now) ≡ Some asks.Run → IfSome (⟦<SteadySource as Source>⟧.remaining source.old) (λ bytes.
         PrintsAsRun (keyed_fn K.prf K.pad) bytes (⟦<SteadySink as Sink>⟧.written sink.old) (⟦<SteadySink as Sink>⟧.written sink.new) result) }
+    ensures last_line { asks.mode_of (map (λ word. string_bytes word) words.now) ≡ Some asks.Run → IsWholeOrRose
+        (IfSome (⟦<SteadySource as Source>⟧.remaining source.old) (λ bytes. PrintsLastLine (keyed_fn K.prf K.pad) bytes (⟦<SteadySink as Sink>⟧.written sink.old) (⟦<SteadySink as Sink>⟧.written sink.new) result))
+        (IfSome (⟦<SteadySource as Source>⟧.remaining source.old) (λ bytes. PrintsShortLine (keyed_fn K.prf K.pad) bytes (⟦<SteadySink as Sink>⟧.written sink.old) (⟦<SteadySink as Sink>⟧.written sink.new) result))
+        result (⟦<SteadySink as Sink>⟧.faults sink.old) (⟦<SteadySink as Sink>⟧.faults sink.new) (⟦<SteadySink as Sink>⟧.shortages sink.old) (⟦<SteadySink as Sink>⟧.shortages sink.new) }
     ensures headline { asks.mode_of (map (λ word. string_bytes word) words.now) ≡ Some asks.Run → result ≢ 7 → IfSome (⟦<SteadySource as Source>⟧.remaining source.old) (λ bytes.
         PrintsAsMeant (keyed_fn K.prf K.pad) bytes (⟦<SteadySink as Sink>⟧.written sink.old) (⟦<SteadySink as Sink>⟧.written sink.new) result) }
     ensures at_end { result ≤ 1 → IsAtEnd (⟦<SteadySource as Source>⟧.remaining source.new) }
