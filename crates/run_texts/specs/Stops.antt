@@ -3,7 +3,7 @@ use Rattle.std.specs.Prelude.{ℕ, List, [], Option, None, Some}
 use Rattle.std.specs.Option.{option_map_or}
 use Rattle.sse_outside.specs.declared.device_fault.DeviceFault.{DeviceFault}
 use Rattle.sse_outside.specs.declared.device_fault.DeviceFault.TheVariants as devices
-use Rattle.sse_script.specs.Shown.{Cause, Stopped, BadWords, BadLine, SourceFault, LinkFault, DiskFault, NoMemory, LabelClash, PlaceClash, NumberClash, Clash, PeerElsewhere, BadReply}
+use Rattle.sse_script.specs.Shown.{Cause, Stopped, BadWords, BadLine, SourceFault, LinkFault, DiskFault, NoMemory, LabelClash, PlaceClash, NumberClash, Clash, PeerElsewhere, BadReply, NoJournal, HasRecords, BadRecord, WrongKey}
 use Rattle.sse_script.specs.Stops.{cause_status}
 use Rattle.sse_script.specs.Texts.{text_of}
 use Rattle.sse_script.specs.declared.read_stop.ReadStop.{ReadStop}
@@ -12,6 +12,8 @@ use Rattle.run_texts.specs.declared.command_stop.CommandStop.{CommandStop}
 use Rattle.run_texts.specs.declared.command_stop.CommandStop.TheVariants as commands
 use Rattle.run_texts.specs.declared.input_stop.InputStop.{InputStop}
 use Rattle.run_texts.specs.declared.input_stop.InputStop.TheVariants as inputs
+use Rattle.run_texts.specs.declared.journal_stop.JournalStop.{JournalStop}
+use Rattle.run_texts.specs.declared.journal_stop.JournalStop.TheVariants as journals
 use Rattle.run_texts.specs.declared.peer_stop.PeerStop.{PeerStop}
 use Rattle.run_texts.specs.declared.peer_stop.PeerStop.TheVariants as peers
 use Rattle.run_texts.specs.declared.plan_stop.PlanStop.{PlanStop}
@@ -47,7 +49,7 @@ abbrev pub peer_cause : PeerStop → Cause
 peer_cause peers.Link = LinkFault
 peer_cause peers.Memory = NoMemory
 peer_cause (peers.Clash what place) = Clash what place
-peer_cause (peers.Elsewhere got) = PeerElsewhere 0 0 got
+peer_cause (peers.Elsewhere low high got) = PeerElsewhere low high got
 peer_cause (peers.BadReply start) = BadReply start
 
 -- where the record of a command isn't kept
@@ -76,3 +78,20 @@ last_line stop = option_map_or (λ cause. text_of (Stopped cause)) (stop_cause s
 -- the status, which is that of the cause, and 4 where there is none
 abbrev pub stop_status : StopCause → ℕ
 stop_status stop = option_map_or cause_status (stop_cause stop) 4
+
+-- where a run ends in the opening of its journal: the cause that is printed
+abbrev pub journal_cause : JournalStop → Cause
+journal_cause journals.NoJournal = NoJournal
+journal_cause journals.HasRecords = HasRecords
+journal_cause (journals.BadRecord number) = BadRecord number
+journal_cause journals.WrongKey = WrongKey
+journal_cause journals.Disk = DiskFault
+journal_cause journals.Memory = NoMemory
+
+-- the last line there, which tells it
+abbrev pub journal_line : JournalStop → List ℕ
+journal_line stop = text_of (Stopped (journal_cause stop))
+
+-- the status there, which is that of the cause
+abbrev pub journal_status : JournalStop → ℕ
+journal_status stop = cause_status (journal_cause stop)

@@ -2,6 +2,8 @@
 use Rattle.std.specs.Prelude.{ℕ, List, [], ◌∷◌, Option, None, Some, codes, bytes_eq, if◌then◌else◌}
 use Rattle.run_texts.specs.declared.words.Mode.{Mode as Asked}
 use Rattle.run_texts.specs.declared.words.Mode.TheVariants as asked
+use Rattle.run_texts.specs.declared.words.DiskMode.{DiskMode as DiskAsked}
+use Rattle.run_texts.specs.declared.words.DiskMode.TheVariants as disk_asked
 
 -- what a run is to do
 pub data Mode : Type 0 where
@@ -17,3 +19,22 @@ mode_of (word ∷ next ∷ words) = None
 -- the same of the code's own modes
 abbrev pub mode_view : Asked → Mode
 mode_view asked.Run = Run
+
+-- what a run is to do where a disk keeps the records of its commands
+pub data DiskMode : Type 0 where
+  -- carry out a script from an empty store, on a disk without a record
+  RunOn : DiskMode
+  -- go on from the records that the disk has
+  More : DiskMode
+
+-- what these words ask for there; nothing where they are no words of such a program
+abbrev pub disk_mode_of : List (List ℕ) → Option DiskMode
+disk_mode_of [] = None
+disk_mode_of (word ∷ []) =
+    if bytes_eq word (codes "run") then Some RunOn else (if bytes_eq word (codes "more") then Some More else None)
+disk_mode_of (word ∷ next ∷ words) = None
+
+-- the same of the code's own modes
+abbrev pub disk_mode_view : DiskAsked → DiskMode
+disk_mode_view disk_asked.Run = RunOn
+disk_mode_view disk_asked.More = More

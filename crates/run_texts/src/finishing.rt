@@ -1,9 +1,9 @@
-ghost use Rattle.std.specs.Prelude.{◌≡◌, ◌≢◌, ◌≤◌};
-ghost use Rattle.run_texts.specs.Stops.{last_line, stop_status};
+ghost use Rattle.std.specs.Prelude.{◌≡◌, ◌≤◌, ◌⊎◌};
+ghost use Rattle.run_texts.specs.Stops.{journal_line, journal_status, last_line, stop_status};
 ghost use Rattle.sse_outside.specs.Causes.{Rose};
 ghost use Rattle.sse_outside.specs.Fronts.{TookOrRose};
 
-use crate::{CommandStop, InputStop, PeerStop, StopCause};
+use crate::{CommandStop, InputStop, JournalStop, PeerStop, StopCause};
 use sse_outside::{DeviceFault, Sink};
 use sse_script::print_stop;
 
@@ -22,5 +22,21 @@ pub fn finish<W: Sink>(sink: &mut W, stop: StopCause) -> u8
     if let Some(cause) = stop.cause() {
         let _ = print_stop(sink, &cause);
     }
+    stop.status()
+}
+
+/// Prints the last line of a run that ended in the opening of its journal, as far as the sink takes it, and answers the run's status:
+/// 6, 7, 10 or 11. It takes no memory.
+pub fn finish_unopened<W: Sink>(sink: &mut W, stop: JournalStop) -> u8
+    ensures status { result ≡ journal_status stop }
+    ensures line { TookOrRose (W.written sink.old) (W.written sink.new) (journal_line stop)
+        (W.faults sink.old) (W.faults sink.new) (W.shortages sink.old) (W.shortages sink.new) }
+    ensures later { W.faults sink.old ≤ W.faults sink.new }
+    ensures disk { result ≡ 6 → stop ≡ JournalStop.Disk }
+    ensures memory { result ≡ 7 → stop ≡ JournalStop.Memory }
+    ensures key { result ≡ 11 → stop ≡ JournalStop.WrongKey }
+    ensures known { (result ≡ 6) ⊎ ((result ≡ 7) ⊎ ((result ≡ 10) ⊎ (result ≡ 11))) }
+{
+    let _ = print_stop(sink, &stop.cause());
     stop.status()
 }

@@ -12,8 +12,8 @@ pub enum PeerStop {
     Memory,
     /// The server reported a collision.
     Clash { what: u8, place: u32 },
-    /// The server expects another update frame than the client has.
-    Elsewhere { got: u32 },
+    /// The server expects update frame `got`, and not one from `low` to `high`, which are those that the client has.
+    Elsewhere { low: u32, high: u32, got: u32 },
     /// The reply isn't one that is expected.
     BadReply(ReplyStart),
 }

@@ -116,9 +116,9 @@ fn cause_of_peer(stop: &PeerStop) -> Cause<'_>
             what: *what,
             place: *place,
         },
-        PeerStop::Elsewhere { got } => Cause::PeerElsewhere {
-            low: 0,
-            high: 0,
+        PeerStop::Elsewhere { low, high, got } => Cause::PeerElsewhere {
+            low: *low,
+            high: *high,
             got: *got,
         },
         PeerStop::BadReply(start) => Cause::BadReply {

@@ -47,6 +47,7 @@ impl Journal {
         ensures within { IfOk result (λ journal. IfSome (D.content disk.new) (λ bytes. end_of journal + 1 ≤ length bytes)) }
         ensures any_moment { HasSynced D.content D.images D.moment D.left_since disk.old disk.new GivesAs
             ⊎ ((IsErr result) × LeavesOnly D.moment D.left_since disk.old disk.new (D.images disk.old)) }
+        ensures told { is_some (D.content disk.new) ≡ is_some (D.content disk.old) }
 
         // Of a file that is no journal at a place: that error, unless a fault of the disk comes first.
         ensures no_journal { (place : ℕ) → result ≡ Err (StartFault.NotAJournal place) →

@@ -1,0 +1,36 @@
+-- Why a run ends in the opening of its journal: what the faults of the journal and of its records come to.
+use Rattle.std.specs.Prelude.{◌≡◌, ◌≢◌, Result, Err, IsOk}
+use Rattle.client_rebuild.specs.declared.fault.RebuildFault.{RebuildFault}
+use Rattle.client_rebuild.specs.declared.fault.RebuildFault.TheVariants as takes
+use Rattle.run_texts.specs.declared.journal_stop.JournalStop.{JournalStop}
+use Rattle.run_texts.specs.declared.journal_stop.JournalStop.TheVariants.{NoJournal, BadRecord, WrongKey, Disk, Memory}
+use Rattle.sse_journal.specs.declared.read_fault.ReadFault.{ReadFault}
+use Rattle.sse_journal.specs.declared.read_fault.ReadFault.TheVariants as reads
+use Rattle.sse_journal.specs.declared.start_fault.StartFault.{StartFault}
+use Rattle.sse_journal.specs.declared.start_fault.StartFault.TheVariants as starts
+
+-- where the journal isn't started
+abbrev pub stop_of_start : StartFault → JournalStop
+stop_of_start starts.DiskFault = Disk
+stop_of_start (starts.NotAJournal place) = NoJournal
+stop_of_start starts.NoMemory = Memory
+
+-- where a record isn't read
+abbrev pub stop_of_read : ReadFault → JournalStop
+stop_of_read reads.DiskFault = Disk
+stop_of_read (reads.NotAJournal place) = NoJournal
+stop_of_read reads.NoMemory = Memory
+
+-- where one isn't taken
+abbrev pub stop_of_take : RebuildFault → JournalStop
+stop_of_take (takes.BadRecord number) = BadRecord number
+stop_of_take takes.WrongKey = WrongKey
+stop_of_take takes.NoMemory = Memory
+
+-- it ends for this, unless the disk failed or memory was wanting
+abbrev pub EndsFor : {T : Type 0} → JournalStop → Result T JournalStop → Type 0
+EndsFor stop result = result ≢ Err Disk → result ≢ Err Memory → result ≡ Err stop
+
+-- it goes on, unless the disk failed or memory was wanting
+abbrev pub GoesOn : {T : Type 0} → Result T JournalStop → Type 0
+GoesOn result = result ≢ Err Disk → result ≢ Err Memory → IsOk result

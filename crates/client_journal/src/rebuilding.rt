@@ -1,0 +1,146 @@
+ghost use Rattle.std.specs.Prelude.{◌≡◌, ◌≢◌, ◌<◌, ◌≤◌, ℕ, List, [], Err, IfOk, IfSome, length, take};
+ghost use Rattle.client_journal.specs.Recordings.{IsBadUnder, IsRebuiltFrom, TakesAll, TakesNext};
+ghost use Rattle.client_journal.specs.Stops.{EndsFor, GoesOn};
+ghost use Rattle.client_rebuild.specs.Rebuilds.{Rebuilds};
+ghost use Rattle.client_records.specs.Openings.{Opens, OpensElsewhere};
+ghost use Rattle.client_registry.specs.HashNumbers.{hash_numbers};
+ghost use Rattle.client_registry.specs.Run.{Run};
+ghost use Rattle.keyed_fn.specs.KeyFormulas.{mark_of, plain_key};
+ghost use Rattle.keyed_fn.specs.KeyedFn.{keyed_fn};
+ghost use Rattle.sse_journal.specs.AnyMoment.{LeavesOnly};
+ghost use Rattle.sse_journal.specs.JournalView.{IsJournalOf, end_of};
+ghost use Rattle.sse_outside.specs.Causes.{Rose};
+ghost use Rattle.sse_outside.specs.Images.{NoOther};
+ghost use Rattle.word_keys.specs.HashNumbers.{numbers_of_key};
+
+use crate::stops::{stop_of_read, stop_of_take};
+use client_rebuild::Rebuild;
+use keyed_fn::Keyed;
+use run_texts::JournalStop;
+use sse_journal::Journal;
+use sse_outside::Disk;
+use std::alloc::Global;
+use word_keys::MasterKey;
+
+/// Reads the record at a place and takes it; gives the next place, and `None` where there is no record more.
+fn take_next<D: Disk>(
+    alloc: Global,
+    journal: &Journal,
+    disk: &mut D,
+    at: u64,
+    buffer: &mut Vec<u8>,
+    rebuilt: &mut Rebuild,
+) -> Result<Option<u64>, JournalStop>
+    ensures takes { (payloads : List (List ℕ)) → Rebuilds payloads rebuilt.old →
+        TakesNext (λ all. IsJournalOf all journal.now (D.content disk.old) (D.images disk.old)) rebuilt.old.mark payloads at result rebuilt.new }
+    ensures on { IfOk result (λ next. IfSome next (λ place. (at < place) × (at < end_of journal.now))) }
+    ensures never_records { result ≢ Err JournalStop.HasRecords }
+
+    // The key stays, and the disk.
+    ensures key { rebuilt.new.key ≡ rebuilt.old.key }
+    ensures mark { rebuilt.new.mark ≡ rebuilt.old.mark }
+    ensures hash_keys { rebuilt.new.hash_keys ≡ rebuilt.old.hash_keys }
+    ensures kept { D.content disk.new ≡ D.content disk.old }
+    ensures images_kept { NoOther (D.images disk.old) (D.images disk.new) }
+    ensures quiet { LeavesOnly D.moment D.left_since disk.old disk.new (D.images disk.old) }
+
+    // The count of faults.
+    ensures later { D.faults disk.old ≤ D.faults disk.new }
+    ensures failed { result ≡ Err JournalStop.Disk → Rose (D.faults disk.old) (D.faults disk.new) }
+    ensures steady { result ≢ Err JournalStop.Disk → D.faults disk.new ≡ D.faults disk.old }
+{
+    match journal.read(disk, at, buffer) {
+        Ok(None) => Ok(None),
+        Ok(Some(next)) => match rebuilt.take(alloc, buffer) {
+            Ok(()) => Ok(Some(next)),
+            Err(fault) => Err(stop_of_take(fault)),
+        },
+        Err(fault) => Err(stop_of_read(fault)),
+    }
+}
+
+/// Reads all records, from the first on, and takes each.
+fn take_all<D: Disk>(
+    alloc: Global,
+    journal: &Journal,
+    disk: &mut D,
+    rebuilt: &mut Rebuild,
+) -> Result<(), JournalStop>
+    requires none { Rebuilds [] rebuilt.old }
+    ensures takes { TakesAll (λ all. IsJournalOf all journal.now (D.content disk.old) (D.images disk.old)) rebuilt.old.mark result rebuilt.new }
+    ensures never_records { result ≢ Err JournalStop.HasRecords }
+
+    // The key stays, and the disk.
+    ensures key { rebuilt.new.key ≡ rebuilt.old.key }
+    ensures mark { rebuilt.new.mark ≡ rebuilt.old.mark }
+    ensures hash_keys { rebuilt.new.hash_keys ≡ rebuilt.old.hash_keys }
+    ensures kept { D.content disk.new ≡ D.content disk.old }
+    ensures images_kept { NoOther (D.images disk.old) (D.images disk.new) }
+    ensures quiet { LeavesOnly D.moment D.left_since disk.old disk.new (D.images disk.old) }
+
+    // The count of faults.
+    ensures later { D.faults disk.old ≤ D.faults disk.new }
+    ensures failed { result ≡ Err JournalStop.Disk → Rose (D.faults disk.old) (D.faults disk.new) }
+    ensures steady { result ≢ Err JournalStop.Disk → D.faults disk.new ≡ D.faults disk.old }
+{
+    let mut buffer = Vec::new(alloc);
+    let mut at = journal.first();
+    'records: loop {
+        match take_next(alloc, journal, disk, at, &mut buffer, rebuilt) {
+            Ok(Some(next)) => at = next,
+            Ok(None) => return Ok(()),
+            Err(stop) => return Err(stop),
+        }
+    }
+}
+
+/// Reads all records of a journal, in their order, and takes each as that of the client of this key. The disk is only read, one
+/// record after the other into one buffer.
+///
+/// Errors: `WrongKey` exactly where the first record is that of a setup under another key; else `BadRecord(number)` exactly where
+/// the record of this number, from 0, is the first that isn't one or isn't accepted after those before it; each unless one of the
+/// others comes first: `Disk` where the disk failed, with its count of faults risen, and `Memory`, for a record of at most 2^27 bytes or
+/// for what it says. `NoJournal` comes only of a disk that doesn't tell its content, where what was read is no record.
+pub fn rebuild<K: Keyed, D: Disk>(
+    alloc: Global,
+    keyed: &K,
+    key: MasterKey,
+    journal: &Journal,
+    disk: &mut D,
+) -> Result<Rebuild, JournalStop>
+    ensures rebuilt { IfOk result (λ rebuilt. IsRebuiltFrom (λ payloads. IsJournalOf payloads journal.now (D.content disk.old) (D.images disk.old)) rebuilt) }
+    ensures key { IfOk result (λ rebuilt. rebuilt.key ≡ key) }
+    ensures mark { IfOk result (λ rebuilt. rebuilt.mark ≡ mark_of (keyed_fn K.prf K.pad) key) }
+    ensures hash_keys { IfOk result (λ rebuilt. hash_numbers rebuilt.hash_keys ≡ numbers_of_key (plain_key (keyed_fn K.prf K.pad) key 13)) }
+
+    // Why it isn't, over a disk that tells its content.
+    ensures wrong { result ≡ Err JournalStop.WrongKey → (payloads : List (List ℕ)) → IsJournalOf payloads journal.now (D.content disk.old) (D.images disk.old) →
+        OpensElsewhere (mark_of (keyed_fn K.prf K.pad) key) (take 1 payloads) }
+    ensures wrong_refused { (payloads : List (List ℕ)) → IsJournalOf payloads journal.now (D.content disk.old) (D.images disk.old) →
+        OpensElsewhere (mark_of (keyed_fn K.prf K.pad) key) (take 1 payloads) → EndsFor JournalStop.WrongKey result }
+    ensures bad { (number : ℕ) → result ≡ Err (JournalStop.BadRecord number) → (payloads : List (List ℕ)) → IsJournalOf payloads journal.now (D.content disk.old) (D.images disk.old) →
+        IsBadUnder (mark_of (keyed_fn K.prf K.pad) key) payloads number }
+    ensures bad_refused { (payloads : List (List ℕ)) (number : ℕ) → IsJournalOf payloads journal.now (D.content disk.old) (D.images disk.old) →
+        IsBadUnder (mark_of (keyed_fn K.prf K.pad) key) payloads number → EndsFor (JournalStop.BadRecord number) result }
+    ensures accepted { (payloads : List (List ℕ)) (run : Run) → IsJournalOf payloads journal.now (D.content disk.old) (D.images disk.old) →
+        Opens (mark_of (keyed_fn K.prf K.pad) key) payloads run → GoesOn result }
+    ensures no_journal { (payloads : List (List ℕ)) → IsJournalOf payloads journal.now (D.content disk.old) (D.images disk.old) → result ≢ Err JournalStop.NoJournal }
+    ensures never_records { result ≢ Err JournalStop.HasRecords }
+
+    // The disk stays.
+    ensures holds { (payloads : List (List ℕ)) → IsJournalOf payloads journal.now (D.content disk.old) (D.images disk.old) → IsJournalOf payloads journal.now (D.content disk.new) (D.images disk.new) }
+    ensures kept { D.content disk.new ≡ D.content disk.old }
+    ensures images_kept { NoOther (D.images disk.old) (D.images disk.new) }
+    ensures quiet { LeavesOnly D.moment D.left_since disk.old disk.new (D.images disk.old) }
+
+    // The count of faults.
+    ensures later { D.faults disk.old ≤ D.faults disk.new }
+    ensures failed { result ≡ Err JournalStop.Disk → Rose (D.faults disk.old) (D.faults disk.new) }
+    ensures steady { result ≢ Err JournalStop.Disk → D.faults disk.new ≡ D.faults disk.old }
+{
+    let mut rebuilt = Rebuild::new(keyed, key);
+    match take_all(alloc, journal, disk, &mut rebuilt) {
+        Ok(()) => Ok(rebuilt),
+        Err(stop) => Err(stop),
+    }
+}
