@@ -49,6 +49,9 @@ fn drawings_by_number(
 {
     let mut all = Items::new(alloc);
     all.push(setup_drawings(alloc, history, words)?)?;
+    if history.commands().is_empty() {
+        return Ok(all);
+    }
     let mut replay = Replay::begin(alloc, history)?;
     for command in history.commands() {
         take_turn(alloc, &mut all, &mut replay, words, command)?;

@@ -108,6 +108,9 @@ fn probed_by_words(
 {
     let mut all = Items::new(alloc);
     all.push(Items::new(alloc))?;
+    if history.commands().is_empty() {
+        return Ok(all);
+    }
     let mut listing = Listing::begin(alloc, history)?;
     for command in history.commands() {
         take_turn(alloc, &mut all, &mut listing, words, command)?;

@@ -15,6 +15,7 @@ ghost use Rattle.sse_leakage.specs.Relabelled.{relabelled};
 ghost use Rattle.sse_model.specs.Names.{Table};
 ghost use Rattle.sse_relabelling.specs.ByTexts.{texts_of};
 
+use crate::bytes::Bytes;
 use crate::drawn::draws;
 use crate::names::{names_drawn, names_used};
 use crate::placing::placed;
@@ -53,11 +54,7 @@ fn differing(alloc: Global, history: &History, other: &History) -> Result<Option
 }
 
 /// What a history draws under a sheet: for each name that it draws, the text that is drawn under its value, and nothing where there is none.
-fn texts_under(
-    alloc: Global,
-    history: &History,
-    sheet: &Sheet,
-) -> Result<Items<Items<u8>>, AllocError>
+fn texts_under(alloc: Global, history: &History, sheet: &Sheet) -> Result<Items<Bytes>, AllocError>
     requires { size_refusal history.now.setup ≡ None }
     ensures { IfOk result (λ texts. texts ≡ texts_of (model.draws (sheet_table sheet.now (run_words history.now)) at_first history.now)) }
 {

@@ -6,10 +6,9 @@ ghost use Rattle.named_values.specs.Sheets.{value_at};
 ghost use Rattle.named_values.specs.declared.name.Name.{Name as Named};
 ghost use Rattle.sse_relabelling.specs.ByTexts.{masked_by};
 
-use crate::bytes::masked;
+use crate::bytes::Bytes;
 use crate::texts::text_at;
 use named_values::{Name, Sheet};
-use sse_frames::Items;
 use std::alloc::{AllocError, Global};
 
 /// Gives a name the value of a name of another sheet, XORed with two texts. Error: where the other has none, or there is no memory.
@@ -28,8 +27,9 @@ fn place(
     let Some(value) = sheet.get(from) else {
         return Err(AllocError);
     };
-    let value = masked(alloc, value, one)?;
-    let value = masked(alloc, value.as_slice(), other)?;
+    let mut value = Bytes::of(alloc, value)?;
+    value.mask(one);
+    value.mask(other);
     moved.set(*to, value.as_slice())?;
     Ok(())
 }
@@ -41,8 +41,8 @@ pub(crate) fn placed(
     sheet: &Sheet,
     from: &[Name],
     to: &[Name],
-    ones: &[Items<u8>],
-    others: &[Items<u8>],
+    ones: &[Bytes],
+    others: &[Bytes],
 ) -> Result<Sheet, AllocError>
     requires { length from.now ≡ length to.now }
     ensures valued { OnOk result (All (λ n. is_some (value_at sheet.now n) ≡ true) from.now) }

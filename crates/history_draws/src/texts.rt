@@ -2,30 +2,26 @@ ghost use Rattle.std.specs.Prelude.{◌≡◌, ◌++◌, [], IfOk, OnOk, flat_ma
 ghost use Rattle.simulated_frames.specs.Views.{draw_view};
 ghost use Rattle.sse_relabelling.specs.ByTexts.{texts_in, texts_of};
 
-use crate::bytes::copied;
+use crate::bytes::Bytes;
 use simulated_frames::Draw;
 use sse_frames::Items;
 use std::alloc::{AllocError, Global};
 
 /// Appends for each name that a draw takes the text that is drawn under its value: that of a pad, and nothing under any other.
-fn push_texts(alloc: Global, texts: &mut Items<Items<u8>>, draw: &Draw) -> Result<(), AllocError>
+fn push_texts(alloc: Global, texts: &mut Items<Bytes>, draw: &Draw) -> Result<(), AllocError>
     ensures { OnOk result (texts.new ≡ texts.old ++ texts_in (draw_view draw.now)) }
 {
-    texts.push(Items::new(alloc))?;
+    texts.push(Bytes::none(alloc))?;
     match draw {
-        Draw::Entry { label: _, cell } => texts.push(copied(alloc, cell.as_slice())?),
-        Draw::Block { tag: _, block } => texts.push(copied(alloc, block.as_slice())?),
+        Draw::Entry { label: _, cell } => texts.push(Bytes::of(alloc, cell.as_slice())?),
+        Draw::Block { tag: _, block } => texts.push(Bytes::of(alloc, block.as_slice())?),
         Draw::Number(_) => Ok(()),
         Draw::Token(_) => Ok(()),
     }
 }
 
 /// The same of the draws of a command.
-fn push_command(
-    alloc: Global,
-    texts: &mut Items<Items<u8>>,
-    draws: &[Draw],
-) -> Result<(), AllocError>
+fn push_command(alloc: Global, texts: &mut Items<Bytes>, draws: &[Draw]) -> Result<(), AllocError>
     ensures { OnOk result (texts.new ≡ texts.old ++ flat_map texts_in (map draw_view draws.now)) }
 {
     for draw in draws {
@@ -36,10 +32,7 @@ fn push_command(
 
 /// For each name that these draws take, command by command, the text that is drawn under its value: that of a pad, and nothing under any
 /// other.
-pub(crate) fn drawn_texts(
-    alloc: Global,
-    draws: &[Items<Draw>],
-) -> Result<Items<Items<u8>>, AllocError>
+pub(crate) fn drawn_texts(alloc: Global, draws: &[Items<Draw>]) -> Result<Items<Bytes>, AllocError>
     ensures { IfOk result (λ texts. texts ≡ texts_of (map (map draw_view) draws.now)) }
 {
     let mut texts = Items::new(alloc);
@@ -50,7 +43,7 @@ pub(crate) fn drawn_texts(
 }
 
 /// The text at this place, and nothing behind the last.
-pub(crate) fn text_at(texts: &[Items<u8>], place: usize) -> &[u8]
+pub(crate) fn text_at(texts: &[Bytes], place: usize) -> &[u8]
     ensures { result.now ≡ get_or texts.now place [] }
 {
     match texts.get(place) {

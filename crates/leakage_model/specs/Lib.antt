@@ -1,4 +1,5 @@
 pub mod WordFacts
 pub mod Pairs
+pub mod PairsView
 pub mod WordView
 pub mod Following

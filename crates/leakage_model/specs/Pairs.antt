@@ -1,5 +1,5 @@
 -- What a pair of the table of a word is.
-use Rattle.std.specs.Prelude.{◌-◌, List, map, option_map}
+use Rattle.std.specs.Prelude.{ℕ, ◌-◌, List, [], ◌∷◌, map, option_map}
 use Rattle.std.specs.List.{range_with_len}
 use Rattle.client_registry.specs.IdNumber.{id_number}
 use Rattle.client_registry.specs.declared.doc_id.DocId.{DocId}
@@ -8,9 +8,19 @@ use Rattle.sse_simulator.specs.Leaks.{Home, ListedLeak}
 use Rattle.leakage_model.specs.declared.pair.Pair.{Pair}
 use Rattle.leakage_model.specs.declared.pair.HomeAt.{HomeAt}
 
+-- a pair with this identifier
+abbrev pub pair_with : ℕ → Pair → ListedLeak
+pair_with id p = record { id = id; origin = origin_view p.origin; number = option_map origin_view p.number; revoked = p.revoked }
+
 -- a pair, by its identifier
 abbrev pub pair_view : DocId × Pair → ListedLeak
-pair_view e = record { id = id_number e.0; origin = origin_view e.1.origin; number = option_map origin_view e.1.number; revoked = e.1.revoked }
+pair_view e = pair_with (id_number e.0) e.1
+
+-- pairs with the identifiers at their places
+abbrev pub pairs_beside : List ℕ → List Pair → List ListedLeak
+pairs_beside [] pairs = []
+pairs_beside (id ∷ ids) [] = []
+pairs_beside (id ∷ ids) (p ∷ pairs) = pair_with id p ∷ pairs_beside ids pairs
 
 -- the pairs of a table
 abbrev pub pairs_in : List (DocId × Pair) → List ListedLeak

@@ -116,7 +116,8 @@ impl Trail {
 /// What each command of a history leaks, the setup first: the shape of the index and its counts; of each word of an update
 /// what is sent for it and whether it was searched before; of a search the first search of its word, where the setup holds it, and
 /// what is listed with it and found. The history's setup has an index, and its commands can be numbered in 32 bits. It takes time in
-/// proportion to the commands and to the pairs that they name or find.
+/// proportion to the commands and to the pairs that they name or find, but for a pair that was named before: it is found among those of
+/// its word by halving, where their identifiers rise in the order in which they were listed, and else by a hash.
 ///
 /// Error: where there is no memory.
 pub fn leak(alloc: Global, history: &History) -> Result<Items<Leak>, AllocError>
@@ -126,6 +127,9 @@ pub fn leak(alloc: Global, history: &History) -> Result<Items<Leak>, AllocError>
 {
     let mut leaks = Items::new(alloc);
     leaks.push(setup_leak(history))?;
+    if history.commands().is_empty() {
+        return Ok(leaks);
+    }
     let mut trail = Trail::begin(alloc, history)?;
     for command in history.commands() {
         leaks.push(trail.leak(alloc, command)?)?;

@@ -1,8 +1,9 @@
-ghost use Rattle.std.specs.Prelude.{◌≡◌, ◌<◌, IfOk, OnOk, Some, filter, map, not, slice_get};
-ghost use Rattle.indexmap.specs.IndexMap.{index_map_len};
+ghost use Rattle.std.specs.Prelude.{◌≡◌, ◌-◌, ◌<◌, [], IfNone, IfOk, IfSome, None, OnErr, OnOk, Some, false, filter, length, map, nat_eq, not, option_map, slice_get, slice_index, true};
+ghost use Rattle.std.specs.List.{list_any};
+ghost use Rattle.std.specs.List.Sorted.{IsStrictlyIncreasing};
 ghost use Rattle.client_registry.specs.IdNumber.{id_number};
-ghost use Rattle.leakage_model.specs.Pairs.{pairs_in};
-ghost use Rattle.leakage_model.specs.WordFacts.{listed_with, lists, sent_among};
+ghost use Rattle.leakage_model.specs.Pairs.{pair_with, pairs_in};
+ghost use Rattle.leakage_model.specs.WordFacts.{listed_with, lists, number_among, sent_among};
 ghost use Rattle.simulated_frames.specs.Views.{listed_view, origin_view};
 
 use crate::pair::Pair;
@@ -11,12 +12,222 @@ use indexmap::IndexMap;
 use simulated_frames::{ListedLeak, Origin};
 use sse_frames::Items;
 use std::alloc::{AllocError, Global};
+use std::marker::Model;
 
-/// The pairs of a word by their identifiers, in the order in which they were listed.
-pub(crate) type Pairs = IndexMap<DocId, Pair, HashKeys>;
+/// Pairs by their identifiers, found by a hash.
+type Hashed = IndexMap<DocId, Pair, HashKeys>;
+
+/// The pairs of a word, in the order in which they were listed. As long as each identifier is greater than those before it, a pair is
+/// found by halving, so that one more is put behind the others and nothing else is read or written.
+#[derive(Drop)]
+pub(crate) struct Pairs {
+    /// The identifiers up to the first that isn't greater than the one before it.
+    ids: Vec<u64>,
+    /// What is kept of their pairs.
+    front: Vec<Pair>,
+    /// The pairs behind them.
+    rest: Hashed,
+}
+
+impl Model for Pairs {
+    ghost use Rattle.std.specs.Prelude.{List};
+    ghost use Rattle.sse_simulator.specs.Leaks.{ListedLeak};
+
+    ghost Value = { List ListedLeak };
+
+    ghost use Rattle.leakage_model.specs.PairsView.{AreInOrder, pairs_of};
+
+    ghost view = { pairs_of };
+
+    ghost invariant = { AreInOrder };
+}
+
+impl Pairs {
+    /// No pair. It takes no memory.
+    pub(crate) fn new(alloc: Global, keys: HashKeys) -> Pairs
+        ensures { result ≡ [] }
+    {
+        Pairs {
+            ids: Vec::new(alloc),
+            front: Vec::new(alloc),
+            rest: IndexMap::with_hasher(alloc, keys),
+        }
+    }
+
+    /// How many pairs.
+    pub(crate) fn len(&self) -> usize
+        ensures { result ≡ length self.now }
+    {
+        self.ids.len() + self.rest.len()
+    }
+
+    /// Whether there is a pair of this identifier.
+    pub(crate) fn lists(&self, id: DocId) -> bool
+        ensures { result ≡ lists (id_number id) self.now }
+    {
+        match place_among(&self.ids, id.get()) {
+            Some(_) => true,
+            None => self.rest.contains_key(&id),
+        }
+    }
+
+    /// Where the revocation number of the pair of this identifier was first sent.
+    pub(crate) fn number(&self, id: DocId) -> Option<Origin>
+        ensures { option_map origin_view result ≡ number_among (id_number id) self.now }
+    {
+        match place_among(&self.ids, id.get()) {
+            Some(place) => self.front[place].number,
+            None => number_in(&self.rest, id),
+        }
+    }
+
+    /// The revocation number of the pair of this identifier is sent there, and it is revoked then or not.
+    pub(crate) fn send(&mut self, id: DocId, there: Origin, revoked: bool)
+        ensures { self.new ≡ sent_among (id_number id) (origin_view there) revoked self.old }
+    {
+        match place_among(&self.ids, id.get()) {
+            Some(place) => {
+                let pair = &mut self.front[place];
+                pair.send(there, revoked);
+            }
+            None => {
+                send_number(&mut self.rest, id, there, revoked);
+            }
+        }
+    }
+
+    /// An addition lists the pair of this identifier there, or sends its number.
+    pub(crate) fn add(&mut self, id: DocId, there: Origin) -> Result<(), AllocError>
+        ensures { OnOk result (self.new ≡ listed_with (id_number id) (origin_view there) self.old) }
+    {
+        if is_behind(&self.ids, &self.rest, id) {
+            // All memory is taken first, so that the two stay as long as each other.
+            self.front.reserve(1)?;
+            self.ids.push(id.get())?;
+            self.front.push_reserved(listed_pair(there));
+            return Ok(());
+        }
+        match place_among(&self.ids, id.get()) {
+            Some(place) => {
+                let pair = &mut self.front[place];
+                pair.send(there, false);
+                Ok(())
+            }
+            None => add_pair(&mut self.rest, id, there),
+        }
+    }
+
+    /// The pair at this place, from 0.
+    fn at(&self, place: usize) -> ListedLeak
+        requires { place < length self.now }
+        ensures { slice_get self.now place ≡ Some (listed_view result) }
+    {
+        let front = self.ids.len();
+        if place < front {
+            leak_of(self.ids[place], &self.front[place])
+        } else {
+            let (id, pair) = self.rest.get_index(place - front).unwrap();
+            leak_of(id.get(), pair)
+        }
+    }
+
+    /// All pairs, in their order.
+    pub(crate) fn listed(&self, alloc: Global) -> Result<Items<ListedLeak>, AllocError>
+        ensures { IfOk result (λ listed. map listed_view listed ≡ self.now) }
+    {
+        let mut listed = Items::new(alloc);
+        for place in 0..self.len() {
+            listed.push(self.at(place))?;
+        }
+        Ok(listed)
+    }
+
+    /// The identifiers of the pairs that aren't revoked, in their order.
+    pub(crate) fn found(&self, alloc: Global) -> Result<Items<u64>, AllocError>
+        ensures { IfOk result (λ found. found ≡ map (λ p. p.id) (filter (λ p. not p.revoked) self.now)) }
+    {
+        let mut found = Items::new(alloc);
+        for place in 0..self.len() {
+            let pair = self.at(place);
+            if !pair.revoked {
+                found.push(pair.id)?;
+            }
+        }
+        Ok(found)
+    }
+}
+
+/// What is kept of a pair that is listed there.
+fn listed_pair(there: Origin) -> Pair
+    ensures { result ≡ record { origin = there; number = None; revoked = false } }
+{
+    Pair {
+        origin: there,
+        number: None,
+        revoked: false,
+    }
+}
+
+/// A pair of this identifier, as a search shows it.
+fn leak_of(id: u64, pair: &Pair) -> ListedLeak
+    ensures { listed_view result ≡ pair_with id pair.now }
+{
+    ListedLeak {
+        id,
+        origin: pair.origin,
+        number: pair.number,
+        revoked: pair.revoked,
+    }
+}
+
+/// Whether the identifier is greater than the last of these.
+fn is_above(ids: &[u64], id: u64) -> bool
+    ensures { result ≡ true → 0 < length ids.now → slice_index ids.now (length ids.now - 1) < id }
+{
+    match ids.last() {
+        Some(last) => *last < id,
+        None => true,
+    }
+}
+
+/// Where the identifier stands among these, which rise. One that is greater than the last is not looked for.
+fn place_among(ids: &[u64], id: u64) -> Option<usize>
+    requires { IsStrictlyIncreasing ids.now }
+    ensures found { IfSome result (λ place. slice_get ids.now place ≡ Some id) }
+    ensures absent { IfNone result (list_any (nat_eq id) ids.now ≡ false) }
+{
+    if is_above(ids, id) {
+        return None;
+    }
+    match ids.binary_search(&id) {
+        Ok(place) => Some(place),
+        Err(_) => None,
+    }
+}
+
+/// Whether a pair of this identifier goes behind those of these identifiers, where there are no others and it is greater than the last.
+fn is_behind(ids: &[u64], rest: &Hashed, id: DocId) -> bool
+    ensures alone { result ≡ true → rest.now.entries ≡ [] }
+    ensures above { result ≡ true → 0 < length ids.now → slice_index ids.now (length ids.now - 1) < id_number id }
+{
+    if !rest.is_empty() {
+        return false;
+    }
+    is_above(ids, id.get())
+}
+
+/// Where the revocation number of the pair of this identifier was first sent.
+fn number_in(pairs: &Hashed, id: DocId) -> Option<Origin>
+    ensures { option_map origin_view result ≡ number_among (id_number id) (pairs_in pairs.now.entries) }
+{
+    match pairs.get(&id) {
+        Some(pair) => pair.number,
+        None => None,
+    }
+}
 
 /// The revocation number of the pair of this identifier is sent there, and it is revoked then or not. Whether there is such a pair.
-pub(crate) fn send_number(pairs: &mut Pairs, id: DocId, there: Origin, revoked: bool) -> bool
+fn send_number(pairs: &mut Hashed, id: DocId, there: Origin, revoked: bool) -> bool
     ensures sent { pairs_in pairs.new.entries ≡ sent_among (id_number id) (origin_view there) revoked (pairs_in pairs.old.entries) }
     ensures found { result ≡ lists (id_number id) (pairs_in pairs.old.entries) }
 {
@@ -29,58 +240,13 @@ pub(crate) fn send_number(pairs: &mut Pairs, id: DocId, there: Origin, revoked: 
 }
 
 /// An addition lists the pair of this identifier there, or sends its number.
-pub(crate) fn add_pair(pairs: &mut Pairs, id: DocId, there: Origin) -> Result<(), AllocError>
-    ensures { OnOk result (pairs_in pairs.new.entries ≡ listed_with (id_number id) (origin_view there) (pairs_in pairs.old.entries)) }
+fn add_pair(pairs: &mut Hashed, id: DocId, there: Origin) -> Result<(), AllocError>
+    ensures ok { OnOk result (pairs_in pairs.new.entries ≡ listed_with (id_number id) (origin_view there) (pairs_in pairs.old.entries)) }
+    ensures err { OnErr result (pairs_in pairs.new.entries ≡ pairs_in pairs.old.entries) }
 {
     if send_number(pairs, id, there, false) {
         return Ok(());
     }
-    pairs.insert(
-        id,
-        Pair {
-            origin: there,
-            number: None,
-            revoked: false,
-        },
-    )?;
+    pairs.insert(id, listed_pair(there))?;
     Ok(())
-}
-
-/// The pair at this place, from 0.
-fn pair_at(pairs: &Pairs, place: usize) -> ListedLeak
-    requires { place < index_map_len pairs.now }
-    ensures { slice_get (pairs_in pairs.now.entries) place ≡ Some (listed_view result) }
-{
-    let (id, pair) = pairs.get_index(place).unwrap();
-    ListedLeak {
-        id: id.get(),
-        origin: pair.origin,
-        number: pair.number,
-        revoked: pair.revoked,
-    }
-}
-
-/// All pairs, in their order.
-pub(crate) fn listed_of(alloc: Global, pairs: &Pairs) -> Result<Items<ListedLeak>, AllocError>
-    ensures { IfOk result (λ listed. map listed_view listed ≡ pairs_in pairs.now.entries) }
-{
-    let mut listed = Items::new(alloc);
-    for place in 0..pairs.len() {
-        listed.push(pair_at(pairs, place))?;
-    }
-    Ok(listed)
-}
-
-/// The identifiers of the pairs that aren't revoked, in their order.
-pub(crate) fn found_of(alloc: Global, pairs: &Pairs) -> Result<Items<u64>, AllocError>
-    ensures { IfOk result (λ found. found ≡ map (λ p. p.id) (filter (λ p. not p.revoked) (pairs_in pairs.now.entries))) }
-{
-    let mut found = Items::new(alloc);
-    for place in 0..pairs.len() {
-        let pair = pair_at(pairs, place);
-        if !pair.revoked {
-            found.push(pair.id)?;
-        }
-    }
-    Ok(found)
 }

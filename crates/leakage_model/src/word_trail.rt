@@ -6,15 +6,14 @@ ghost use Rattle.simulated_frames.specs.Views.{leak_view, origin_view, seen_view
 ghost use Rattle.sse_leakage.specs.Leaking.{sent_at, seen_by};
 
 use crate::pair::HomeAt;
-use crate::pairs::{Pairs, add_pair, found_of, listed_of, send_number};
+use crate::pairs::Pairs;
 use client_registry::{DocId, HashKeys};
-use indexmap::IndexMap;
 use simulated_frames::{Leak, Origin, Seen, Sent, WordLeak};
 use std::alloc::{AllocError, Global};
 use std::marker::Model;
 
 /// What a server can know of a word: its first search, where the setup holds it, and the pairs that are listed with it, in the
-/// order in which they were. A pair is found by its identifier.
+/// order in which they were.
 #[derive(Drop)]
 pub(crate) struct WordTrail {
     search: Option<u32>,
@@ -40,7 +39,7 @@ impl WordTrail {
         WordTrail {
             search: None,
             home: None,
-            pairs: IndexMap::with_hasher(alloc, keys),
+            pairs: Pairs::new(alloc, keys),
         }
     }
 
@@ -62,14 +61,14 @@ impl WordTrail {
     pub(crate) fn add(&mut self, id: DocId, there: Origin) -> Result<(), AllocError>
         ensures { OnOk result (self.new ≡ added_at (id_number id) (origin_view there) self.old) }
     {
-        add_pair(&mut self.pairs, id, there)
+        self.pairs.add(id, there)
     }
 
     /// The document of this identifier is deleted, in which the word stands there.
     pub(crate) fn delete(&mut self, id: DocId, there: Origin)
         ensures { self.new ≡ deleted_at (id_number id) (origin_view there) self.old }
     {
-        send_number(&mut self.pairs, id, there, true);
+        self.pairs.send(id, there, true);
     }
 
     /// The first search of it.
@@ -83,17 +82,14 @@ impl WordTrail {
     pub(crate) fn is_listed(&self, id: DocId) -> bool
         ensures { result ≡ lists (id_number id) self.now.listed }
     {
-        self.pairs.contains_key(&id)
+        self.pairs.lists(id)
     }
 
     /// Where the revocation number of its pair with the identifier was first sent.
     pub(crate) fn number_origin(&self, id: DocId) -> Option<Origin>
         ensures { option_map origin_view result ≡ number_among (id_number id) self.now.listed }
     {
-        match self.pairs.get(&id) {
-            Some(pair) => pair.number,
-            None => None,
-        }
+        self.pairs.number(id)
     }
 
     /// A document of the setup with this identifier holds it, after those whose pairs are listed.
@@ -102,7 +98,7 @@ impl WordTrail {
         ensures { OnOk result (self.new ≡ set_up_with (id_number id) self.old) }
     {
         let place = self.pairs.len() as u32;
-        add_pair(&mut self.pairs, id, Origin { command: 0, place })
+        self.pairs.add(id, Origin { command: 0, place })
     }
 
     /// What an addition with this identifier shows of it.
@@ -145,8 +141,8 @@ impl WordTrail {
         Ok(Leak::Search {
             earlier: self.search,
             home,
-            listed: listed_of(alloc, &self.pairs)?,
-            found: found_of(alloc, &self.pairs)?,
+            listed: self.pairs.listed(alloc)?,
+            found: self.pairs.found(alloc)?,
         })
     }
 }

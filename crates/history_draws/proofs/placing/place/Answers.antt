@@ -14,8 +14,8 @@ returns-clause-held c = λ names value is had.
     holds_one c.args.moved.now c.set.new.self names value c.args.to.now had
     (c.in_ok-set.ensures.given
     ∙ ap (λ v. Some v)
-    (c.as_slice-2.ensures
-    ∙ c.in_ok-value-2.ensures
-    ∙ ap (λ v. xored v c.args.other.now) (c.as_slice.ensures ∙ c.in_ok-value.ensures ∙ ap (λ v. xored v c.args.one.now) (sym (ap (λ o. unwrap_or o []) there)))
+    (c.as_slice.ensures
+    ∙ c.mask-2.ensures
+    ∙ ap (λ v. xored v c.args.other.now) (c.mask.ensures ∙ ap (λ v. xored v c.args.one.now) (c.in_ok-value.ensures ∙ sym (ap (λ o. unwrap_or o []) there)))
     ∙ sym is))
     c.in_ok-set.ensures.others

@@ -1,6 +1,0 @@
-use Rattle.std.proofs.Common.{◌≡◌, filter, map, not, take}
-use Rattle.leakage_model.specs.Pairs.{pairs_in}
-use Rattle.leakage_model.proofs.pairs.found_of.Given as goal
-
-abbrev pub invariant-loop-place : goal.invariant-loop-place
-invariant-loop-place l = l.found ≡ map (λ p. p.id) (filter (λ p. not p.revoked) (take l.place (pairs_in l.pairs.entries)))
