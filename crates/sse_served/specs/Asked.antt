@@ -2,9 +2,9 @@
 use Rattle.std.specs.Prelude.{ℕ, ◌-◌, ◌^◌, List, [], ◌∷◌, Option, None, Some, Result, Ok, Err, drop, map, string_bytes}
 use Rattle.std.specs.Option.{option_map}
 use Rattle.sse_served.specs.Counts.{count_of}
-use Rattle.sse_served.specs.declared.command_line.CommandLine.{CommandLine}
-use Rattle.sse_served.specs.declared.command_line.CommandLine.TheVariants as lines
-use Rattle.sse_served.specs.declared.command_line.Asked.{Asked as AskedBy}
+use Rattle.command_words.specs.declared.CommandLine.{CommandLine}
+use Rattle.command_words.specs.declared.CommandLine.TheVariants as lines
+use Rattle.sse_served.specs.declared.asked.Asked.{Asked as AskedBy}
 use Rattle.sse_served.specs.declared.stop.Stop.{Stop}
 use Rattle.sse_served.specs.declared.stop.Stop.TheVariants as stops
 

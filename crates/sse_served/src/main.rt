@@ -6,14 +6,14 @@
 //! any proof.
 #![tactic(auto)]
 
-mod command_line;
+mod asked;
 mod count;
 mod places;
 mod program;
 mod service;
 mod stop;
 
-use command_line::command_line;
+use command_words::command_line;
 use program::served_main;
 use sse_outside::StdSink;
 use std::process::ExitCode;

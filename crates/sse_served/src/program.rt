@@ -5,10 +5,11 @@ ghost use Rattle.sse_served.specs.Asked.{asked_view};
 ghost use Rattle.sse_served.specs.Printed.{Began, HasPrinted};
 ghost use Rattle.sse_served.specs.Stops.{stop_line, stop_status};
 
-use crate::command_line::{Asked, CommandLine, asked_of};
+use crate::asked::{Asked, asked_of};
 use crate::places::{listen, open};
 use crate::service::serve_all;
 use crate::stop::Stop;
+use command_words::{CommandLine, behind_name};
 use keyed_fn::Real;
 use sse_outside::{Sink, print_all};
 
@@ -66,11 +67,4 @@ fn asked_by(given: &CommandLine) -> Result<Asked<'_>, Stop>
         CommandLine::NoText => Err(Stop::Words),
         CommandLine::NoMemory => Err(Stop::Memory),
     }
-}
-
-/// The words after the program's name.
-fn behind_name(words: &[String]) -> &[String]
-    ensures { result.now ≡ drop 1 words.now }
-{
-    if words.is_empty() { words } else { &words[1..] }
 }
