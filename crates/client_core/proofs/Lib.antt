@@ -12,6 +12,6 @@ mod DifferLaws
 mod PlanLaws
 mod StandsForLaws
 pub mod OwesLaws
-mod ResumeLaws
+pub mod ResumeLaws
 mod ReplannedSetup
 mod Rows

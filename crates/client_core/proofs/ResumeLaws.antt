@@ -3,6 +3,7 @@
 use Rattle.std.proofs.Common.{◌≡◌, ◌≢◌, ◌⊎◌, inl, inr, ◌≤◌, ◌<◌, ◌+◌, ◌-◌, ℕ, suc, zero, List, [], ◌∷◌, ◌++◌, drop, length, map, Option, None, Some, is_some, not, true, refl, sym, ap, ◌∙◌, subst, arith}
 use Rattle.std.proofs.lemmas.Bool.{true≢false}
 use Rattle.std.specs.Prelude.{IsErrAnd, IsSome, Ok, Err, Result, option_map, slice_index_or}
+use Rattle.std.proofs.Math.ListN.{drop_of_length-le}
 use Rattle.std.proofs.Math.Seq.{get_or-append_seam}
 use Rattle.std.proofs.lemmas.List.{drop-drop, length-append, length-drop, length-map}
 use Rattle.client_registry.proofs.OverLaws.{length-over, over-append}
@@ -100,6 +101,17 @@ first-update f key before u =
 pub first-recorded : (f : KeyedFn) (key : List ℕ) (run : Run) (l : Last) → Recalls run l → first_recorded l ≡ first_of_last f key run
 first-recorded f key run (last.Setup s) is = sym (ap (first_of_last f key) is ∙ first-setup f key (setup_in s))
 first-recorded f key run (last.Update u) is = is.3 ∙ sym (ap (first_of_last f key) is.1 ∙ first-update f key is.0 u.update)
+
+-- a server that lacks none of a history's frames lacks none of its last command's
+pub none_lacking : (f : KeyedFn) (key : List ℕ) (run : Run) (l : Last) → Recalls run l → drop (update_frames run - first_of_last f key run) (last_frames f (λ epoch. key) at_first run) ≡ []
+none_lacking f key run l recalls = drop_of_length-le (last_frames f (λ epoch. key) at_first run) (omega (arith, within l recalls))
+  where
+    within : (l : Last) → Recalls run l → length (last_frames f (λ epoch. key) at_first run) ≤ update_frames run
+    within (last.Setup s) is =
+        subst (λ r. length (last_frames f (λ epoch. key) at_first r) ≤ update_frames r) (sym is) (omega (arith, length-frames_of_setup (table f (setup_in s).shape (λ epoch. key)) at_first (setup_in s)))
+    within (last.Update u) is =
+        subst (λ r. length (last_frames f (λ epoch. key) at_first r) ≤ update_frames r) (sym is.1)
+        (omega (arith, one_more is.0 u.update, ap length (last_frames-with_command f (λ epoch. key) at_first is.0 (command_of u.update)), one_frame f (λ epoch. key) at_first is.0 u.update))
 
 -- An update that is planned again.
 

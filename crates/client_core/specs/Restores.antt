@@ -3,7 +3,7 @@ use Rattle.std.specs.Prelude.{◌≡◌, ℕ, List, [], Some}
 use Rattle.client_registry.specs.Histories.{IsKept}
 use Rattle.client_registry.specs.Run.{Run}
 use Rattle.client_records.specs.Openings.{Opens}
-use Rattle.client_rebuild.specs.Recalls.{Recalls}
+use Rattle.client_rebuild.specs.Recalls.{Recalls, hash_keys_of}
 use Rattle.client_rebuild.specs.declared.last.Last.{Last}
 use Rattle.client_core.specs.declared.restored.Restored.{Restored}
 use Rattle.client_core.specs.declared.restored.Restored.TheVariants as restored
@@ -22,3 +22,8 @@ IsRestored mark payloads (restored.Recorded client) = (run : Run) × Opens mark 
 abbrev pub restored_key : Restored → List ℕ
 restored_key (restored.Fresh client) = client.key
 restored_key (restored.Recorded client) = client.key
+
+-- it hashes identifiers and words under these two numbers
+abbrev pub HashesUnder : ℕ × ℕ → Restored → Type 0
+HashesUnder keys (restored.Fresh client) = Unit {0}
+HashesUnder keys (restored.Recorded client) = hash_keys_of client.state ≡ keys

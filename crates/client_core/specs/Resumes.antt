@@ -11,7 +11,7 @@ use Rattle.sse_model.specs.Compared.{Collision, collision_of, collision_of_setup
 use Rattle.sse_model.specs.Names.{table}
 use Rattle.client_core.specs.Owes.{Owes, last_frames}
 use Rattle.client_core.specs.ResumeFaults.{collision_fault}
-use Rattle.client_core.specs.Sending.{first_number}
+use Rattle.client_core.specs.Sending.{first_number, to_send}
 use Rattle.client_core.specs.StandsFor.{StandsFor}
 use Rattle.client_core.specs.States.{BehindState, ClientOf}
 use Rattle.client_core.specs.declared.resume_fault.ResumeFault.{ResumeFault}
@@ -65,3 +65,8 @@ Resumes f key run next (Err fault) =
 abbrev pub resumed_hash_keys : Resumed → ℕ × ℕ
 resumed_hash_keys (resumed.Ready client) = client.state.registry.keys
 resumed_hash_keys (resumed.Behind client) = client.state.ready.registry.keys
+
+-- the frames that it sends before anything else
+abbrev pub frames_owed : Resumed → List (List ℕ)
+frames_owed (resumed.Ready client) = []
+frames_owed (resumed.Behind client) = to_send client.state

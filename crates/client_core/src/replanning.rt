@@ -1,4 +1,5 @@
 ghost use Rattle.std.specs.Prelude.{◌≡◌, ◌+◌, ◌<◌, ◌≤◌, ◌^◌, [], IsSome, None, Some, true, IfOk};
+ghost use Rattle.std.specs.List.{AllByRecursion};
 ghost use Rattle.client_registry.specs.Command.{Add as adds, Delete as deletes};
 ghost use Rattle.client_registry.specs.Facts.{has_counters};
 ghost use Rattle.client_registry.specs.Histories.{IsKept};
@@ -12,7 +13,9 @@ ghost use Rattle.keyed_fn.specs.KeyedFn.{keyed_fn};
 ghost use Rattle.client_core.specs.Keys.{Keeps};
 ghost use Rattle.client_core.specs.Restores.{Remembers};
 ghost use Rattle.client_core.specs.Resumes.{Replans, first_recorded};
+ghost use Rattle.client_core.specs.Sending.{to_send};
 ghost use Rattle.client_core.specs.StandsFor.{StandsFor, with_command};
+ghost use Rattle.sse_frames.specs.Frames.{IsFrame};
 
 use crate::behind::Behind;
 use crate::client::Client;
@@ -47,6 +50,7 @@ pub(crate) fn replan<K: Keyed>(
     requires low { first_recorded last ≤ next }
     requires high { next < frames_of_last last }
     ensures replans { (run : Run) → Remembers run last → Replans (keyed_fn K.prf K.pad) key run next result }
+    ensures grammar { IfOk result (λ client. AllByRecursion IsFrame (to_send client.state)) }
     ensures hash_keys { IfOk result (λ client. client.state.ready.registry.keys ≡ hash_keys_of last) }
 {
     match last {
@@ -65,6 +69,7 @@ fn replan_setup<K: Keyed>(
 ) -> Result<Client<Behind>, ResumeFault>
     requires { next < setup.frames }
     ensures replans { Replans (keyed_fn K.prf K.pad) key (record { setup = setup_in setup; later = [] }) next result }
+    ensures grammar { IfOk result (λ client. AllByRecursion IsFrame (to_send client.state)) }
     ensures hash_keys { IfOk result (λ client. client.state.ready.registry.keys ≡ setup.docs.keys) }
 {
     let RecordedSetup {
@@ -89,6 +94,7 @@ fn replan_update<K: Keyed>(
     recorded: RecordedUpdate,
 ) -> Result<Client<Behind>, ResumeFault>
     ensures replans { (before : Run) → IsKept (Some (with_command before (command_of recorded.update))) → Represents recorded.registry before.setup before.later → recorded.frames ≡ update_frames before → Replans (keyed_fn K.prf K.pad) key (with_command before (command_of recorded.update)) recorded.frames result }
+    ensures grammar { IfOk result (λ client. AllByRecursion IsFrame (to_send client.state)) }
     ensures hash_keys { IfOk result (λ client. client.state.ready.registry.keys ≡ recorded.registry.keys) }
 {
     let RecordedUpdate {
@@ -117,6 +123,7 @@ fn replan_addition<K: Keyed>(
     requires number { ready.frames + 1 < 2 ^ 32 }
     requires keeps { Keeps (keyed_fn K.prf K.pad) key (known_words ready.registry) ready.keys }
     ensures replans { (before : Run) → StandsFor (keyed_fn K.prf K.pad) (λ epoch. key) at_first before ready → Replans (keyed_fn K.prf K.pad) key (with_command before (adds doc)) ready.frames result }
+    ensures grammar { IfOk result (λ client. AllByRecursion IsFrame (to_send client.state)) }
     ensures hash_keys { IfOk result (λ client. client.state.ready.registry.keys ≡ ready.registry.keys) }
 {
     let master = key.prepare(keyed);
@@ -147,6 +154,7 @@ fn replan_deletion<K: Keyed>(
     requires number { ready.frames + 1 < 2 ^ 32 }
     requires keeps { Keeps (keyed_fn K.prf K.pad) key (known_words ready.registry) ready.keys }
     ensures replans { (before : Run) → StandsFor (keyed_fn K.prf K.pad) (λ epoch. key) at_first before ready → Replans (keyed_fn K.prf K.pad) key (with_command before (deletes (id_number id))) ready.frames result }
+    ensures grammar { IfOk result (λ client. AllByRecursion IsFrame (to_send client.state)) }
     ensures hash_keys { IfOk result (λ client. client.state.ready.registry.keys ≡ ready.registry.keys) }
 {
     let master = key.prepare(keyed);

@@ -1,6 +1,7 @@
 ghost use Rattle.std.specs.Prelude.{◌≡◌, List, ℕ};
 ghost use Rattle.client_rebuild.specs.Rebuilds.{Rebuilds};
-ghost use Rattle.client_core.specs.Restores.{IsRestored, restored_key};
+ghost use Rattle.client_core.specs.Restores.{HashesUnder, IsRestored, restored_key};
+ghost use Rattle.client_registry.specs.HashNumbers.{hash_numbers};
 
 use crate::client::Client;
 use crate::fresh::Fresh;
@@ -20,6 +21,7 @@ impl Restored {
     pub fn of(rebuild: Rebuild) -> Restored
         ensures key { restored_key result ≡ rebuild.key }
         ensures restored { (payloads : List (List ℕ)) → Rebuilds payloads rebuild → IsRestored rebuild.mark payloads result }
+        ensures hash_keys { (payloads : List (List ℕ)) → Rebuilds payloads rebuild → HashesUnder (hash_numbers rebuild.hash_keys) result }
     {
         let (key, last) = rebuild.finish();
         match last {

@@ -1,11 +1,13 @@
 ghost use Rattle.std.specs.Prelude.{◌≡◌, ◌+◌, ◌≤◌, List, ℕ, IfOk};
+ghost use Rattle.std.specs.List.{AllByRecursion};
 ghost use Rattle.client_registry.specs.Registered.{facts};
 ghost use Rattle.client_registry.specs.Run.{Run, at_first};
 ghost use Rattle.client_rebuild.specs.Recalls.{facts_of_last, frames_of_last, hash_keys_of};
 ghost use Rattle.keyed_fn.specs.KeyedFn.{KeyedFn, keyed_fn};
 ghost use Rattle.client_core.specs.Restores.{Remembers};
-ghost use Rattle.client_core.specs.Resumes.{Lacks, Resumes, first_recorded, resumed_hash_keys};
+ghost use Rattle.client_core.specs.Resumes.{Lacks, Resumes, first_recorded, frames_owed, resumed_hash_keys};
 ghost use Rattle.client_core.specs.StandsFor.{StandsFor};
+ghost use Rattle.sse_frames.specs.Frames.{IsFrame};
 
 use crate::behind::Behind;
 use crate::client::Client;
@@ -62,6 +64,7 @@ impl Client<Last> {
         next: u32,
     ) -> Result<Resumed, ResumeFault>
         ensures resumes { (run : Run) → Remembers run self.state → Resumes (keyed_fn K.prf K.pad) self.key run next result }
+        ensures grammar { IfOk result (λ client. AllByRecursion IsFrame (frames_owed client)) }
         ensures hash_keys { IfOk result (λ client. resumed_hash_keys client ≡ hash_keys_of self.state) }
     {
         let left = self.lacks(next)?;

@@ -1,4 +1,4 @@
-ghost use Rattle.std.specs.Prelude.{◌≡◌, ◌≢◌, ◌+◌, ◌<◌, ◌∷◌, [], ℕ, List, true, false, take, Some};
+ghost use Rattle.std.specs.Prelude.{◌≡◌, ◌≢◌, ◌+◌, ◌<◌, ◌∷◌, [], ℕ, List, true, false, drop, take, Some};
 ghost use Rattle.client_registry.specs.Run.{Offsets, Run};
 ghost use Rattle.keyed_fn.specs.KeyedFn.{KeyedFn};
 ghost use Rattle.sse_frames.specs.Frames.{IsNumber};
@@ -62,6 +62,7 @@ impl Client<Behind> {
         ensures key { result.key ≡ self.key }
         ensures ready { result.state.ready ≡ self.state.ready }
         ensures first { first_number result.state ≡ first_number self.state + count }
+        ensures left { to_send result.state ≡ drop count (to_send self.state) }
         ensures owes { (f : KeyedFn) (keys : ℕ → List ℕ) (o : Offsets) (run : Run) (k : ℕ) → Owes f keys o run k self.state → Owes f keys o run (k + count) result.state }
     {
         let Client { key, state } = self;
