@@ -52,7 +52,7 @@ module _ (before now : ℕ) (bytes : List ℕ) (fault : ReplyFault) (only : faul
   PeerCause-fault peers.Link from to = rose (only (from refl))
   PeerCause-fault peers.Memory from to = steady (λ e. let no : peers.Memory ≡ peers.Link = to (told e) in cc)
   PeerCause-fault (peers.Clash what place) from to = steady (λ e. let no : peers.Clash what place ≡ peers.Link = to (told e) in cc)
-  PeerCause-fault (peers.Elsewhere got) from to = steady (λ e. let no : peers.Elsewhere got ≡ peers.Link = to (told e) in cc)
+  PeerCause-fault (peers.Elsewhere low high got) from to = steady (λ e. let no : peers.Elsewhere low high got ≡ peers.Link = to (told e) in cc)
   PeerCause-fault (peers.BadReply start) from to = steady (λ e. let no : peers.BadReply start ≡ peers.Link = to (told e) in cc)
 
 -- a fault of the link shows in its count where it was cut
@@ -88,7 +88,7 @@ link_same before now (stops.Command (commands.Keeping fault)) cause other = caus
 link_same before now (stops.Command (commands.Exchange peers.Link)) cause other = absurd (other refl)
 link_same before now (stops.Command (commands.Exchange peers.Memory)) cause other = cause
 link_same before now (stops.Command (commands.Exchange (peers.Clash what place))) cause other = cause
-link_same before now (stops.Command (commands.Exchange (peers.Elsewhere got))) cause other = cause
+link_same before now (stops.Command (commands.Exchange (peers.Elsewhere low high got))) cause other = cause
 link_same before now (stops.Command (commands.Exchange (peers.BadReply start))) cause other = cause
 
 -- and of what keeps the records

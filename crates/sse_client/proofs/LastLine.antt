@@ -10,6 +10,7 @@ use Rattle.sse_script.specs.TextLines.{lines_left}
 use Rattle.script_meaning.specs.Carries.{Outside}
 use Rattle.script_meaning.specs.Stops as ends
 use Rattle.script_meaning.specs.Stops.{status_of, stop_text}
+use Rattle.sse_client.specs.GoingOn.{EndsLine}
 use Rattle.sse_client.specs.LastLine.{HasLastLine, HasShortLine, IsWholeOrRose}
 use Rattle.sse_client.specs.Stands.{Seen, outside_of, OpensTo}
 use Rattle.sse_client.proofs.WholeRun.{has_run}
@@ -44,3 +45,12 @@ module _ (f : KeyedFn) (now : Outside) (told told' : Seen) (written written' : O
       let before : f1 ≡ f0 = steady (λ e. omega (arith, short.short, ap (λ s. length (stop_text s)) e)) in
       inr (has_short_line remaining o short, inl (Rose-later f0 f1 f2 (omega (arith, before)) rose))
   last_line remaining f0 f1 f2 s0 s1 s2 o (inr (short, inr rose)) steady fewer = inr (has_short_line remaining o short, inr (Rose-later s0 s1 s2 fewer rose))
+
+-- the same of the last line alone
+pub ends_line : (stop : ends.Stop) (written written' : Option (List ℕ)) (status f0 f1 f2 s0 s1 s2 : ℕ) → status ≡ status_of stop → TookOrRose written written' (stop_text stop) f1 f2 s1 s2
+    → (stop ≢ ends.SinkFault → f1 ≡ f0) → s0 ≤ s1 → EndsLine stop written written' status f0 f2 s0 s2
+ends_line stop written written' status f0 f1 f2 s0 s1 s2 is (inl whole) steady fewer = inl (whole.0, λ other. whole.1 ∙ steady (λ e. other (is ∙ ap status_of e)))
+ends_line stop written written' status f0 f1 f2 s0 s1 s2 is (inr (short, inl rose)) steady fewer =
+    let before : f1 ≡ f0 = steady (λ e. omega (arith, short.short, ap (λ s. length (stop_text s)) e)) in
+    inr (short, inl (Rose-later f0 f1 f2 (omega (arith, before)) rose))
+ends_line stop written written' status f0 f1 f2 s0 s1 s2 is (inr (short, inr rose)) steady fewer = inr (short, inr (Rose-later s0 s1 s2 fewer rose))

@@ -13,7 +13,10 @@ pub mod SetupPlan
 pub mod PlansOfUpdates
 pub mod CommandTaken
 pub mod UpdateCarriedOut
+pub mod KeyLineRead
 pub mod RunGoesOn
 pub mod WholeRun
 pub mod LastLine
 pub mod InMemory
+pub mod GoingOn
+pub mod RunsOnDisk

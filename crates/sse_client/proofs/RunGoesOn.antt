@@ -44,6 +44,11 @@ use Rattle.run_texts.specs.declared.stop_cause.StopCause.TheVariants as stops
 text_of_came : (answers : List (List ℕ)) (came : LineResult) (result : Outcome) → line_result_view came ≡ with_answers (map in_order answers) (shown_by result) → flat_map text_of (line_result_view came) ≡ text_with answers (shown_by result)
 text_of_came answers came result e = ap (flat_map text_of) e
 
+-- a fault of the sink stops a run, or want of memory in it does
+pub sink_stop : (fault : DeviceFault) → (stop_view (stop_of_sink fault) ≡ ends.SinkFault) ⊎ (stop_view (stop_of_sink fault) ≡ ends.At NoMemory)
+sink_stop devices.Failed = inl refl
+sink_stop devices.NoMemory = inr refl
+
 module _ (f : KeyedFn) (stage next : Stage) (came : LineResult) (request : Request) (old new : Seen) (before after_it : Option (List ℕ)) (takes : Takes f stage request old new next came) where
   -- its lines were printed
   pub carries-printed : after_it ≡ append_known before (flat_map text_of (line_result_view came)) → CarriesOut f stage request (outside_of old before) (outside_of new after_it) next (refuses came)
@@ -54,10 +59,6 @@ module _ (f : KeyedFn) (stage next : Stage) (came : LineResult) (request : Reque
         stands = g.stands;
         refuses = g.refuses;
       }
-
-  sink_stop : (fault : DeviceFault) → (stop_view (stop_of_sink fault) ≡ ends.SinkFault) ⊎ (stop_view (stop_of_sink fault) ≡ ends.At NoMemory)
-  sink_stop devices.Failed = inl refl
-  sink_stop devices.NoMemory = inr refl
 
   -- or a front of them, and the run stops
   pub stops-unprinted : (fault : DeviceFault) → TookFront before after_it (flat_map text_of (line_result_view came)) → StopsRun f stage request (outside_of old before) (outside_of new after_it) (stop_view (stop_of_sink fault))

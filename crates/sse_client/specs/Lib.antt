@@ -12,3 +12,7 @@ pub mod Keeping
 pub mod Turns
 pub mod OverServer
 pub mod LastLine
+pub mod KeyLines
+pub mod Resuming
+pub mod GoingOn
+pub mod OnDisk

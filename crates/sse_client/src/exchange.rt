@@ -1,4 +1,4 @@
-ghost use Rattle.std.specs.Prelude.{◌≡◌, ◌≢◌, ◌<◌, ◌^◌, ℕ, [], ◌∷◌, true, Some, IfErr, IfSome, OnOk};
+ghost use Rattle.std.specs.Prelude.{◌≡◌, ◌≢◌, ◌<◌, ◌^◌, ℕ, [], ◌∷◌, true, Some, IfErr, IfOk, IfSome, OnOk};
 ghost use Rattle.link_events.specs.Events.{Sent};
 ghost use Rattle.link_events.specs.declared.mark.Mark.{Mark};
 ghost use Rattle.run_texts.specs.Causes.{PeerCause};
@@ -7,7 +7,7 @@ ghost use Rattle.script_meaning.specs.Exchange.{Adds};
 ghost use Rattle.script_meaning.specs.Greeting.{Greets, TurnsAway};
 ghost use Rattle.sse_client.specs.Calls.{shows, KeepsLink};
 ghost use Rattle.sse_client.specs.Progress.{IsAnswered, IsUnanswered, next_number};
-ghost use Rattle.sse_frames.specs.Frames.{IsFrame};
+ghost use Rattle.sse_frames.specs.Frames.{Hello, IsFrame, frame_bytes};
 ghost use Rattle.sse_frames.specs.Replies.{Next, StoreFault, reply_bytes};
 ghost use Rattle.sse_frames.specs.FrameViews.{reply_view};
 ghost use Rattle.sse_outside.specs.Causes.{Rose};
@@ -52,8 +52,27 @@ pub(crate) fn exchange<L: Link>(
     buffer.receive(link)
 }
 
-/// Opens the session: sends Hello, to which a server answers by the number of the update that it expects: one that has taken
-/// nothing by 0.
+/// Sends Hello, to which a server answers by the number of the update that it expects.
+pub(crate) fn hello<L: Link>(
+    alloc: Global,
+    link: &mut L,
+    buffer: &mut ReplyBuffer,
+) -> Result<u32, PeerStop>
+    ensures answered { IfOk result (λ next. IsAnswered (L.transcript link.old) (L.transcript link.new) (frame_bytes Hello) (reply_bytes (Next next))) }
+    ensures turned_away { IfErr result (λ stop. (low high : ℕ) → TurnsAway low high (L.transcript link.old) (L.transcript link.new) (peer_cause stop)) }
+    ensures keeps { KeepsLink PeerCause (shows (L.transcript link.old) (L.faults link.old) (L.began link.old)) (shows (L.transcript link.new) (L.faults link.new) (L.began link.new)) result }
+{
+    let mut hello = Vec::new(alloc);
+    write_frame(&Frame::Hello, &mut hello)?;
+    exchange(link, &hello, buffer)?;
+    let reply = buffer.reply();
+    match next_in(reply) {
+        Some(next) => Ok(next),
+        None => Err(stop_of_reply(fault_of(reply), reply)),
+    }
+}
+
+/// Opens the session of a history that begins, with a server that has taken nothing of one: the update that it expects has number 0.
 pub(crate) fn greet<L: Link>(
     alloc: Global,
     link: &mut L,
@@ -63,14 +82,13 @@ pub(crate) fn greet<L: Link>(
     ensures turned_away { IfErr result (λ stop. TurnsAway 0 0 (L.transcript link.old) (L.transcript link.new) (peer_cause stop)) }
     ensures keeps { KeepsLink PeerCause (shows (L.transcript link.old) (L.faults link.old) (L.began link.old)) (shows (L.transcript link.new) (L.faults link.new) (L.began link.new)) result }
 {
-    let mut hello = Vec::new(alloc);
-    write_frame(&Frame::Hello, &mut hello)?;
-    exchange(link, &hello, buffer)?;
-    let reply = buffer.reply();
-    match next_in(reply) {
-        Some(0) => Ok(()),
-        Some(got) => Err(PeerStop::Elsewhere { got }),
-        None => Err(stop_of_reply(fault_of(reply), reply)),
+    match hello(alloc, link, buffer)? {
+        0 => Ok(()),
+        got => Err(PeerStop::Elsewhere {
+            low: 0,
+            high: 0,
+            got,
+        }),
     }
 }
 

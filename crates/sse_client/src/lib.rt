@@ -6,8 +6,10 @@
 #![tactic(auto)]
 
 mod exchange;
+mod going_on;
 mod keeping;
 mod lines;
+mod on_disk;
 mod peer_fault;
 mod reply_buffer;
 mod run;
@@ -18,4 +20,5 @@ mod tools;
 mod update_fault;
 mod updating;
 
+pub use on_disk::run_on_disk;
 pub use run::{run_in_memory, run_on_bytes, run_over_server, sse_run};

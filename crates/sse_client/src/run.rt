@@ -1,4 +1,4 @@
-ghost use Rattle.std.specs.Prelude.{◌≡◌, ◌≢◌, ◌≤◌, ◌+◌, ◌^◌, [], None, Some, map, string_bytes, IfErr, IfOk, OnOk, IfSome};
+ghost use Rattle.std.specs.Prelude.{◌≡◌, ◌≢◌, ◌≤◌, ◌+◌, ◌^◌, ℕ, [], None, Some, map, string_bytes, Err, IfErr, IfOk, OnOk, IfSome};
 ghost use Rattle.std.specs.Io.KnownBytes.{IsAtEnd};
 ghost use Rattle.client_registry.specs.Histories.{empty};
 ghost use Rattle.keyed_fn.specs.KeyedFn.{KeyedFn, keyed_fn};
@@ -8,12 +8,14 @@ ghost use Rattle.run_texts.specs.Stops.{input_cause};
 ghost use Rattle.run_texts.specs.Words as asks;
 ghost use Rattle.script_meaning.specs.Carries.{Outside};
 ghost use Rattle.script_meaning.specs.Headline.{Headline};
+ghost use Rattle.script_meaning.specs.Lines.{lines_in};
 ghost use Rattle.script_meaning.specs.Meaning.{meaning};
 ghost use Rattle.script_meaning.specs.Runs.{Ended, ended, OpensFrom, OpensAtKey};
 ghost use Rattle.script_meaning.specs.Session.{IsFree};
 ghost use Rattle.script_meaning.specs.Stops as ends;
 ghost use Rattle.server_core.specs.State.{at_first};
 ghost use Rattle.sse_client.specs.Calls.{shows, KeepsLink};
+ghost use Rattle.sse_client.specs.KeyLines as keys;
 ghost use Rattle.sse_client.specs.LastLine.{HasLastLine, HasShortLine, IsWholeOrRose};
 ghost use Rattle.sse_client.specs.OverServer.{HasRunOverServer, PrintsAsRun, PrintsLastLine, PrintsShortLine, PrintsAsMeant};
 ghost use Rattle.sse_client.specs.Stands.{seen, outside_of, OpensTo, HasRun, HasHonestStatus, HasSimulatedRun, HasRecordedRun, HasHeadline};
@@ -96,7 +98,7 @@ pub fn sse_run<K: Keyed, L: Link, R: Recorder, S: Source, W: Sink>(
 }
 
 /// Carries out a script, prints the last line where it stopped, and answers the run's status.
-fn whole_run<K: Keyed, L: Link, R: Recorder, S: Source, W: Sink>(
+pub(crate) fn whole_run<K: Keyed, L: Link, R: Recorder, S: Source, W: Sink>(
     alloc: Global,
     keyed: &K,
     link: &mut L,
@@ -168,13 +170,16 @@ fn run_script<K: Keyed, L: Link, R: Recorder, S: Source, W: Sink>(
 }
 
 /// Reads up to the key line, which is the first that isn't empty.
-fn key_line<S: Source>(source: &mut S, input: &mut Input) -> Result<MasterKey, InputStop>
+pub(crate) fn key_line<S: Source>(source: &mut S, input: &mut Input) -> Result<MasterKey, InputStop>
     requires few { input.old.number + bytes_to_come input.old.pending (S.handed_out source.old) ≤ 2 ^ 63 }
     ensures key { IfOk result (λ key. (f : KeyedFn) (now : Outside) (end : Ended) →
         OpensAtKey f key input.new.number (lines_left input.new.pending (S.remaining source.new)) now end →
         OpensFrom f (input.old.number + 1) (lines_left input.old.pending (S.remaining source.old)) now end) }
     ensures stopped { IfErr result (λ stop. (f : KeyedFn) (now : Outside) →
         OpensFrom f (input.old.number + 1) (lines_left input.old.pending (S.remaining source.old)) now (ended now None empty (ends.At (input_cause stop)))) }
+    ensures found { IfOk result (λ key. keys.FindsKey (input.old.number + 1) (lines_left input.old.pending (S.remaining source.old)) key (input.new.number + 1) (lines_left input.new.pending (S.remaining source.new))) }
+    ensures missing { (number : ℕ) → result ≡ Err (InputStop.Line number) →
+        IfSome (lines_left input.old.pending (S.remaining source.old)) (λ texts. keys.key_line (input.old.number + 1) (lines_in texts) ≡ keys.Missing number) }
     ensures few_left { OnOk result (input.new.number + bytes_to_come input.new.pending (S.handed_out source.new) ≤ 2 ^ 63) }
     ensures source { KeepsSource InputCause (S.faults source.old) (S.faults source.new) result }
 {

@@ -1,0 +1,122 @@
+use Rattle.std.proofs.Common.{[], inl, refl, subst, sym, ◌≡◌, ◌∙◌, arith}
+use Rattle.std.specs.Prelude.{IfErr, OnOk}
+use Rattle.client_core.specs.Resumes.{first_of_last}
+use Rattle.client_registry.specs.Sized.{update_frames}
+use Rattle.keyed_fn.specs.KeyedFn.{keyed_fn}
+use Rattle.run_texts.specs.Causes.{LinkCause, RecorderCause, SinkCause, SourceCause}
+use Rattle.run_texts.specs.Stops.{command_cause, stop_of_sink}
+use Rattle.run_texts.specs.declared.stop_cause.StopCause.TheVariants as stops
+use Rattle.script_meaning.specs.Continues.{at_run}
+use Rattle.sse_script.specs.Shown.{NoMemory}
+use Rattle.sse_client.proofs.CountsAtStop.{LinkCause-printed, RecorderCause-printed, SinkCause-printed, SourceCause-printed}
+use Rattle.sse_client.proofs.GoingOn.{PrintCause-of, resumes-held, resumes-lines, resumes-stopped, resumes-untold}
+use Rattle.sse_client.proofs.PartOfExchange.{TurnsAway-memory}
+use Rattle.sse_client.proofs.TranscriptsJoined.{KeepsLink-err, KeepsLink-then, KeepsRecorder-err, KeepsSink-err, KeepsSource-err}
+use Rattle.sse_client.specs.Calls.{shows}
+use Rattle.sse_client.specs.Stands.{IsAt, seen, outside_of}
+use Rattle.sse_client.specs.Turns.{ending}
+use Rattle.sse_client.specs.declared.session.Stage.TheVariants.{Searching}
+use Rattle.sse_client.proofs.going_on.go_on.Goals as goal
+
+pub run_lines-requires : goal.run_lines-requires
+run_lines-requires g c = record {
+  prepared = c.requires.prepared ∙ sym (c.in_ok-ready.ensures.key c.requires.knows.0 c.requires.knows.1);
+  whole = c.requires.whole;
+  few = c.requires.few;
+}
+
+pub returns-in_err-buffer-clause-ends : goal.returns-in_err-buffer-clause-ends
+returns-in_err-buffer-clause-ends g c = λ run knows.
+    let f = keyed_fn g.K.Keyed.prf g.K.Keyed.pad in
+    let told = g.L.Link.transcript c.args.link.now in
+    let kept = g.R.Recorder.kept c.args.recorder.now in
+    let written = g.W.Sink.written c.args.sink.now in
+    let key = c.args.restart.client.key in
+    let now = outside_of (seen told kept) written in
+    resumes-stopped f key run _ _ now now c.from_residual.result stops.Memory c.from_residual.ensures.1
+    (resumes-held f key run _ _ told kept written told NoMemory (inl (TurnsAway-memory (first_of_last f key run) (update_frames run) told)))
+
+pub returns-in_err-ready-clause-ends : goal.returns-in_err-ready-clause-ends
+returns-in_err-ready-clause-ends g c = λ run knows.
+    let f = keyed_fn g.K.Keyed.prf g.K.Keyed.pad in
+    let told = g.L.Link.transcript c.args.link.now in
+    let kept = g.R.Recorder.kept c.args.recorder.now in
+    let written = g.W.Sink.written c.args.sink.now in
+    let key = c.args.restart.client.key in
+    let new = g.L.Link.transcript c.resend.new.link in
+    let stop = c.in_err-ready.field-0.0 in
+    resumes-stopped f key run _ _ (outside_of (seen told kept) written) (outside_of (seen new kept) written) c.from_residual-in_err-ready.result (stops.Command stop) c.from_residual-in_err-ready.ensures.1
+    (resumes-held f key run _ _ told kept written new (command_cause stop) (c.in_err-ready.ensures.stopped run knows))
+
+pub returns-in_err-print-clause-ends : goal.returns-in_err-print-clause-ends
+returns-in_err-print-clause-ends g c = λ run knows.
+    let f = keyed_fn g.K.Keyed.prf g.K.Keyed.pad in
+    let told = g.L.Link.transcript c.args.link.now in
+    let kept = g.R.Recorder.kept c.args.recorder.now in
+    let written = g.W.Sink.written c.args.sink.now in
+    let key = c.args.restart.client.key in
+    let new = g.L.Link.transcript c.resend.new.link in
+    let fault = c.in_err-print.field-0.0 in
+    resumes-stopped f key run _ _ (outside_of (seen told kept) written) (outside_of (seen new kept) (g.W.Sink.written c.print.new.sink)) c.from_residual-in_err-print.result (stop_of_sink fault) c.from_residual-in_err-print.ensures.1
+    (resumes-untold f key run _ _ told kept written new c.in_ok-ready.frames (c.in_ok-ready.ensures.resent run knows) (g.W.Sink.written c.print.new.sink) fault c.in_err-print.ensures.front)
+
+pub returns-clause-ends : goal.returns-clause-ends
+returns-clause-ends g c = λ run knows.
+    let f = keyed_fn g.K.Keyed.prf g.K.Keyed.pad in
+    let told = g.L.Link.transcript c.args.link.now in
+    let kept = g.R.Recorder.kept c.args.recorder.now in
+    let written = g.W.Sink.written c.args.sink.now in
+    let key = c.args.restart.client.key in
+    let new = g.L.Link.transcript c.resend.new.link in
+    let at : IsAt f (Searching c.in_ok-ready.ready) (at_run key [] run) = record {
+      key = c.in_ok-ready.ensures.key run knows;
+      stands = (run, refl, c.in_ok-ready.ensures.stands run knows);
+      hashed = c.in_ok-ready.ensures.hash_keys ∙ c.requires.hashed;
+    } in
+    resumes-lines f key run _ _ told kept written new c.in_ok-ready.frames (c.in_ok-ready.ensures.resent run knows) (g.W.Sink.written c.print.new.sink)
+    (outside_of (seen (g.L.Link.transcript c.run_lines.new.link) (g.R.Recorder.kept c.run_lines.new.recorder)) (g.W.Sink.written c.run_lines.new.sink)) (ending c.run_lines.result) c.in_ok-print.ensures.all
+    (c.run_lines.ensures.ends (at_run key [] run) at)
+
+pub returns-clause-link : goal.returns-clause-link
+returns-clause-link g c =
+    let old = c.args.link.now in
+    let mid = c.resend.new.link in
+    let new = c.run_lines.new.link in
+    KeepsLink-then LinkCause (shows (g.L.Link.transcript old) (g.L.Link.faults old) (g.L.Link.began old)) (shows (g.L.Link.transcript mid) (g.L.Link.faults mid) (g.L.Link.began mid))
+    (shows (g.L.Link.transcript new) (g.L.Link.faults new) (g.L.Link.began new)) c.run_lines.result c.in_ok-ready.ensures.keeps.began c.in_ok-ready.ensures.keeps.steady c.run_lines.ensures.link
+
+pub returns-clause-sink : goal.returns-clause-sink
+returns-clause-sink g c =
+    let now = g.W.Sink.faults c.run_lines.new.sink in
+    let r = c.run_lines.result in
+    record {
+      steady = subst (λ n. OnOk r (now ≡ n)) c.in_ok-print.ensures.steady c.run_lines.ensures.sink.steady;
+      cause = subst (λ n. IfErr r (SinkCause n now)) c.in_ok-print.ensures.steady c.run_lines.ensures.sink.cause;
+      no_fewer = omega (arith, c.print.ensures.no_fewer, c.run_lines.ensures.sink.no_fewer);
+    }
+
+pub returns-in_err-ready-clause-recorder : goal.returns-in_err-ready-clause-recorder
+returns-in_err-ready-clause-recorder g c =
+    KeepsRecorder-err RecorderCause _ _ c.from_residual-in_err-ready.result (stops.Command c.in_err-ready.field-0.0) c.from_residual-in_err-ready.ensures.1 (c.in_err-ready.ensures.unkept (g.R.Recorder.faults c.args.recorder.now))
+
+pub returns-in_err-print-clause-source : goal.returns-in_err-print-clause-source
+returns-in_err-print-clause-source g c =
+    KeepsSource-err SourceCause _ _ c.from_residual-in_err-print.result (stop_of_sink c.in_err-print.field-0.0) c.from_residual-in_err-print.ensures.1 (SourceCause-printed _ _ c.in_err-print.field-0.0 refl)
+
+pub returns-in_err-print-clause-sink : goal.returns-in_err-print-clause-sink
+returns-in_err-print-clause-sink g c =
+    let fault = c.in_err-print.field-0.0 in
+    KeepsSink-err _ _ _ _ c.from_residual-in_err-print.result (stop_of_sink fault) c.from_residual-in_err-print.ensures.1
+    (SinkCause-printed _ _ fault (PrintCause-of (g.W.Sink.faults c.args.sink.now) (g.W.Sink.faults c.print.new.sink) fault (λ e. c.in_err-print.ensures.failed (search e)) (λ e. c.in_err-print.ensures.no_memory (search e)))) c.print.ensures.no_fewer
+
+pub returns-in_err-print-clause-link : goal.returns-in_err-print-clause-link
+returns-in_err-print-clause-link g c =
+    let old = c.args.link.now in
+    let new = c.resend.new.link in
+    let fault = c.in_err-print.field-0.0 in
+    KeepsLink-err LinkCause (shows (g.L.Link.transcript old) (g.L.Link.faults old) (g.L.Link.began old)) (shows (g.L.Link.transcript new) (g.L.Link.faults new) (g.L.Link.began new))
+    c.from_residual-in_err-print.result (stop_of_sink fault) c.from_residual-in_err-print.ensures.1 c.in_ok-ready.ensures.keeps.began (LinkCause-printed _ _ fault c.in_ok-ready.ensures.keeps.steady)
+
+pub returns-in_err-print-clause-recorder : goal.returns-in_err-print-clause-recorder
+returns-in_err-print-clause-recorder g c =
+    KeepsRecorder-err RecorderCause _ _ c.from_residual-in_err-print.result (stop_of_sink c.in_err-print.field-0.0) c.from_residual-in_err-print.ensures.1 (RecorderCause-printed _ _ c.in_err-print.field-0.0 refl)

@@ -1,0 +1,47 @@
+use Rattle.std.proofs.Common.{◌≡◌, inl, inr, ap, sym, subst, ◌∙◌}
+use Rattle.keyed_fn.specs.KeyedFn.{IsKeyedFn, keyed_fn}
+use Rattle.sse_client.proofs.GoingOn.{for_all}
+use Rattle.sse_client.proofs.RunsOnDisk.{has_begun, not_begun, unopened}
+use Rattle.sse_client.proofs.WholeRun.{IfSome-then}
+use Rattle.std.specs.Prelude.{IfSome}
+use Rattle.sse_client.specs.OnDisk.{HasBegun, IsNotBegun, kept_on}
+use Rattle.sse_client.specs.Stands.{outside_of, seen}
+use Rattle.sse_client.proofs.on_disk.begin_run.Goals as goal
+
+pub returns-in-Ok-clause-begun : goal.returns-in-Ok-clause-begun
+returns-in-Ok-clause-begun g c =
+    let f = keyed_fn g.K.Keyed.prf g.K.Keyed.pad in
+    let laws : IsKeyedFn f = record {
+      prf_length = g.met.K.Keyed.prf_length;
+      prf_bytes = g.met.K.Keyed.prf_bytes;
+      pad_length = g.met.K.Keyed.pad_length;
+      pad_bytes = g.met.K.Keyed.pad_bytes;
+      pad_prefix = g.met.K.Keyed.pad_prefix;
+    } in
+    let remaining = g.S.Source.remaining c.args.source.now in
+    let told = g.L.Link.transcript c.args.link.now in
+    let written = g.W.Sink.written c.args.sink.now in
+    let told' = g.L.Link.transcript c.whole_run-status.new.link in
+    let written' = g.W.Sink.written c.whole_run-status.new.sink in
+    let status = c.whole_run-status.result in
+    let f0 = g.W.Sink.faults c.args.sink.now in
+    let f2 = g.W.Sink.faults c.whole_run-status.new.sink in
+    let s0 = g.W.Sink.shortages c.args.sink.now in
+    let s2 = g.W.Sink.shortages c.whole_run-status.new.sink in
+    let old : kept_on (g.D.Disk.content c.new-recorder.result.disk) ≡ kept_on (g.D.Disk.content c.args.disk) = ap (λ d. kept_on (g.D.Disk.content d)) c.new-recorder.ensures.disk ∙ c.in-Ok.ensures.same_records in
+    let new : kept_on (g.D.Disk.content c.whole_run-status.new.recorder.disk) ≡ kept_on (g.D.Disk.content c.into_disk.result) = sym (ap (λ d. kept_on (g.D.Disk.content d)) c.into_disk.ensures) in
+    IfSome-then remaining (λ bytes. HasBegun f bytes (outside_of (seen told (kept_on (g.D.Disk.content c.args.disk))) written) (outside_of (seen told' (kept_on (g.D.Disk.content c.into_disk.result))) written') status f0 f2 s0 s2) _ (λ bytes begun. inr begun)
+    (subst (λ k. IfSome remaining (λ bytes. HasBegun f bytes (outside_of (seen told (kept_on (g.D.Disk.content c.args.disk))) written) (outside_of (seen told' k) written') status f0 f2 s0 s2)) new
+    (subst (λ k. IfSome remaining (λ bytes. HasBegun f bytes (outside_of (seen told k) written) (outside_of (seen told' (kept_on (g.D.Disk.content c.whole_run-status.new.recorder.disk))) written') status f0 f2 s0 s2)) old
+    (has_begun f laws remaining (outside_of (seen told (kept_on (g.D.Disk.content c.new-recorder.result.disk))) written) (outside_of (seen told' (kept_on (g.D.Disk.content c.whole_run-status.new.recorder.disk))) written') status f0 f2 s0 s2
+    c.whole_run-status.ensures.runs c.whole_run-status.ensures.last_line)))
+
+pub returns-in-Err-clause-begun : goal.returns-in-Err-clause-begun
+returns-in-Err-clause-begun g c =
+    let stop = c.in-Err.stop in
+    let content = g.D.Disk.content c.args.disk in
+    for_all (g.S.Source.remaining c.args.source.now) _ (λ bytes. inl
+    (unopened IsNotBegun stop (g.L.Link.transcript c.args.link.now) content (g.D.Disk.content c.begin.new.disk) (g.W.Sink.written c.args.sink.now) (g.W.Sink.written c.finish_unopened.new.sink) c.finish_unopened.result
+    (g.W.Sink.faults c.args.sink.now) (g.W.Sink.faults c.finish_unopened.new.sink) (g.W.Sink.shortages c.args.sink.now) (g.W.Sink.shortages c.finish_unopened.new.sink)
+    (not_begun stop content (λ e. c.in-Err.ensures.has_records (search e)) (λ e. IfSome-then content _ _ (λ file is. is.0) (c.in-Err.ensures.no_journal (search e))) (λ n e. c.in-Err.ensures.never_bad n (search e)) (λ e. c.in-Err.ensures.never_key (search e)))
+    (λ disk memory. c.in-Err.ensures.same_refused (λ e. disk (cc)) (λ e. memory (cc))) c.finish_unopened.ensures.line c.finish_unopened.ensures.status))

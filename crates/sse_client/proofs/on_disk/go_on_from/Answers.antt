@@ -1,0 +1,74 @@
+use Rattle.std.proofs.Common.{◌≡◌, ◌+◌, [], refl, ap, sym, subst, ◌∙◌, arith}
+use Rattle.keyed_fn.specs.KeyedFn.{keyed_fn}
+use Rattle.run_texts.specs.Stops.{input_cause, journal_cause, journal_line, journal_status, last_line, stop_status}
+use Rattle.run_texts.specs.declared.stop_cause.StopCause.TheVariants.{Input as input}
+use Rattle.script_meaning.specs.Stops as ends
+use Rattle.script_meaning.specs.Stops.{status_of, stop_text}
+use Rattle.sse_outside.specs.Fronts.{TookOrRose}
+use Rattle.sse_script.specs.TextLines.{lines_left}
+use Rattle.sse_client.proofs.LastLine.{ends_line}
+use Rattle.sse_client.proofs.RunsOnDisk.{has_gone_on, has_gone_on-held}
+use Rattle.sse_client.specs.GoingOn.{GoesOnTo, HasEndedAfter}
+use Rattle.sse_client.specs.OnDisk.{held_stop, kept_on, seen_with}
+use Rattle.sse_client.proofs.on_disk.go_on_from.Goals as goal
+
+pub returns-in-Ok-clause-gone_on : goal.returns-in-Ok-clause-gone_on
+returns-in-Ok-clause-gone_on g c =
+    let f = keyed_fn g.K.Keyed.prf g.K.Keyed.pad in
+    let remaining = g.S.Source.remaining c.args.source.now in
+    let key = c.in-Ok.restart.client.key in
+    let had = c.in-Ok.ensures.restored in
+    let told = g.L.Link.transcript c.args.link.now in
+    let written = g.W.Sink.written c.args.sink.now in
+    let next = c.in-Ok.input.number + 1 in
+    let behind = lines_left c.in-Ok.input.pending (g.S.Source.remaining c.restored.new.source) in
+    let status = c.gone_on-status.result in
+    let told' = g.L.Link.transcript c.gone_on-status.new.link in
+    let written' = g.W.Sink.written c.gone_on-status.new.sink in
+    let same : g.D.Disk.content c.new-recorder.result.disk ≡ g.D.Disk.content c.args.disk = ap (λ d. g.D.Disk.content d) c.new-recorder.ensures.disk ∙ c.in-Ok.ensures.kept in
+    let given : g.D.Disk.content c.gone_on-status.new.recorder.disk ≡ g.D.Disk.content c.into_disk.result = sym (ap (λ d. g.D.Disk.content d) c.into_disk.ensures) in
+    has_gone_on f remaining key had.0 next behind (seen_with told (g.D.Disk.content c.args.disk) written) (seen_with told' (g.D.Disk.content c.into_disk.result) written') status
+    (g.W.Sink.faults c.args.sink.now) (g.W.Sink.faults c.gone_on-status.new.sink) (g.W.Sink.shortages c.args.sink.now) (g.W.Sink.shortages c.gone_on-status.new.sink) c.in-Ok.ensures.found had.1
+    (subst (λ content. HasEndedAfter f key had.0 next behind (seen_with told (g.D.Disk.content c.args.disk) written) (seen_with told' content written') status
+    (g.W.Sink.faults c.args.sink.now) (g.W.Sink.faults c.gone_on-status.new.sink) (g.W.Sink.shortages c.args.sink.now) (g.W.Sink.shortages c.gone_on-status.new.sink)) given
+    (subst (λ content. HasEndedAfter f key had.0 next behind (seen_with told content written) (seen_with told' (g.D.Disk.content c.gone_on-status.new.recorder.disk) written') status
+    (g.W.Sink.faults c.args.sink.now) (g.W.Sink.faults c.gone_on-status.new.sink) (g.W.Sink.shortages c.args.sink.now) (g.W.Sink.shortages c.gone_on-status.new.sink)) same
+    (c.gone_on-status.ensures.gone_on had.0 had.2)))
+
+pub returns-in-Err-Journal-clause-gone_on : goal.returns-in-Err-Journal-clause-gone_on
+returns-in-Err-Journal-clause-gone_on g c =
+    let f = keyed_fn g.K.Keyed.prf g.K.Keyed.pad in
+    let remaining = g.S.Source.remaining c.args.source.now in
+    let told = g.L.Link.transcript c.args.link.now in
+    let old = g.D.Disk.content c.args.disk in
+    let written = g.W.Sink.written c.args.sink.now in
+    let now = seen_with told old written in
+    let stop = ends.At (journal_cause c.in-Err-Journal.stop) in
+    let status = c.finish_unopened.result in
+    let is : status ≡ status_of stop = c.finish_unopened.ensures.status ∙ ap (λ s. journal_status s) c.in-Err-Journal.stop-is in
+    let line = subst (λ s. TookOrRose written (g.W.Sink.written c.finish_unopened.new.sink) (journal_line s) (g.W.Sink.faults c.args.sink.now) (g.W.Sink.faults c.finish_unopened.new.sink) (g.W.Sink.shortages c.args.sink.now) (g.W.Sink.shortages c.finish_unopened.new.sink))
+    c.in-Err-Journal.stop-is c.finish_unopened.ensures.line in
+    let goes = subst (λ s. GoesOnTo f (lines_left [] remaining) now now (held_stop s)) c.in-Err-Journal.field-0-is (c.in-Err-Journal.ensures.stopped told written) in
+    has_gone_on-held f remaining now (seen_with told (g.D.Disk.content c.restored.new.disk) (g.W.Sink.written c.finish_unopened.new.sink)) stop status (g.W.Sink.faults c.args.sink.now) (g.W.Sink.faults c.finish_unopened.new.sink)
+    (g.W.Sink.shortages c.args.sink.now) (g.W.Sink.shortages c.finish_unopened.new.sink) goes refl (ap kept_on c.in-Err-Journal.ensures.kept)
+    (ends_line stop written (g.W.Sink.written c.finish_unopened.new.sink) status (g.W.Sink.faults c.args.sink.now) (g.W.Sink.faults c.args.sink.now) (g.W.Sink.faults c.finish_unopened.new.sink)
+    (g.W.Sink.shortages c.args.sink.now) (g.W.Sink.shortages c.args.sink.now) (g.W.Sink.shortages c.finish_unopened.new.sink) is line (λ other. refl) (omega arith)) is
+
+pub returns-clause-gone_on : goal.returns-clause-gone_on
+returns-clause-gone_on g c =
+    let f = keyed_fn g.K.Keyed.prf g.K.Keyed.pad in
+    let remaining = g.S.Source.remaining c.args.source.now in
+    let told = g.L.Link.transcript c.args.link.now in
+    let old = g.D.Disk.content c.args.disk in
+    let written = g.W.Sink.written c.args.sink.now in
+    let now = seen_with told old written in
+    let stop = ends.At (input_cause c.in-Err-Input.stop) in
+    let status = c.finish.result in
+    let is : status ≡ status_of stop = c.finish.ensures.status ∙ ap (λ s. stop_status (input s)) c.in-Err-Input.stop-is in
+    let line = subst (λ s. TookOrRose written (g.W.Sink.written c.finish.new.sink) (last_line (input s)) (g.W.Sink.faults c.args.sink.now) (g.W.Sink.faults c.finish.new.sink) (g.W.Sink.shortages c.args.sink.now) (g.W.Sink.shortages c.finish.new.sink))
+    c.in-Err-Input.stop-is c.finish.ensures.line in
+    let goes = subst (λ s. GoesOnTo f (lines_left [] remaining) now now (held_stop s)) c.in-Err-Input.field-0-is (c.in-Err-Input.ensures.stopped told written) in
+    has_gone_on-held f remaining now (seen_with told (g.D.Disk.content c.restored.new.disk) (g.W.Sink.written c.finish.new.sink)) stop status (g.W.Sink.faults c.args.sink.now) (g.W.Sink.faults c.finish.new.sink)
+    (g.W.Sink.shortages c.args.sink.now) (g.W.Sink.shortages c.finish.new.sink) goes refl (ap kept_on c.in-Err-Input.ensures.kept)
+    (ends_line stop written (g.W.Sink.written c.finish.new.sink) status (g.W.Sink.faults c.args.sink.now) (g.W.Sink.faults c.args.sink.now) (g.W.Sink.faults c.finish.new.sink)
+    (g.W.Sink.shortages c.args.sink.now) (g.W.Sink.shortages c.args.sink.now) (g.W.Sink.shortages c.finish.new.sink) is line (λ other. refl) (omega arith)) is

@@ -1,0 +1,92 @@
+-- What a run does that keeps its records in a journal on a disk.
+use Rattle.std.specs.Prelude.{◌≡◌, ◌≢◌, ℕ, List, Option, IfSome, option_map}
+use Rattle.client_journal.specs.Openings.{GivesSome, HasNoRecord, IsNoJournal}
+use Rattle.keyed_fn.specs.KeyedFn.{KeyedFn}
+use Rattle.run_texts.specs.Causes.{InputCause}
+use Rattle.run_texts.specs.Stops.{input_cause, journal_cause, journal_status}
+use Rattle.run_texts.specs.declared.journal_stop.JournalStop.{JournalStop}
+use Rattle.run_texts.specs.declared.journal_stop.JournalStop.TheVariants as journals
+use Rattle.script_meaning.specs.Carries.{Kept, Outside}
+use Rattle.script_meaning.specs.Exchange.{Told}
+use Rattle.script_meaning.specs.Lines.{script_lines}
+use Rattle.script_meaning.specs.Runs.{Ended}
+use Rattle.script_meaning.specs.Stops as ends
+use Rattle.script_meaning.specs.Stops.{status_of}
+use Rattle.sse_journal.specs.FileRecords.{records_in_file}
+use Rattle.sse_outside.specs.Causes.{Rose}
+use Rattle.sse_client.specs.GoingOn.{EndsLine, GoesOnOver}
+use Rattle.sse_client.specs.LastLine.{HasLastLine, HasShortLine, IsWholeOrRose}
+use Rattle.sse_client.specs.Stands.{seen, outside_of, HasRun, HasHonestStatus, HasSimulatedRun, HasRecordedRun, HasHeadline}
+use Rattle.sse_client.specs.declared.on_disk.HeldUp.{HeldUp}
+use Rattle.sse_client.specs.declared.on_disk.HeldUp.TheVariants as held
+
+-- the records of the file that a disk holds, where it is told
+abbrev pub kept_on : (content : Option (List ℕ)) → Kept
+kept_on content = option_map records_in_file content
+
+-- what is seen of a run over a link, a disk and a sink
+abbrev pub seen_with : Told → (content written : Option (List ℕ)) → Outside
+seen_with told content written = outside_of (seen told (kept_on content)) written
+
+-- Why a run that goes on doesn't come to its lines.
+
+abbrev pub held_stop : HeldUp → ends.Stop
+held_stop (held.Journal stop) = ends.At (journal_cause stop)
+held_stop (held.Input stop) = ends.At (input_cause stop)
+
+-- what the count of a disk's faults shows of it, and what that of the source's
+abbrev pub JournalCause : ℕ → ℕ → JournalStop → Type 0
+JournalCause before now journals.Disk = Rose before now
+JournalCause before now _ = now ≡ before
+
+abbrev pub HeldCause : ℕ → ℕ → HeldUp → Type 0
+HeldCause before now (held.Journal stop) = JournalCause before now stop
+HeldCause before now (held.Input stop) = now ≡ before
+
+abbrev pub HeldSource : ℕ → ℕ → HeldUp → Type 0
+HeldSource before now (held.Journal stop) = now ≡ before
+HeldSource before now (held.Input stop) = InputCause before now stop
+
+-- A journal that isn't begun, or not gone on with.
+
+-- what its file is then
+abbrev pub IsNotBegun : JournalStop → (file : List ℕ) → Type 0
+IsNotBegun journals.HasRecords file = GivesSome file
+IsNotBegun journals.NoJournal file = IsNoJournal file
+IsNotBegun journals.Disk file = Unit {0}
+IsNotBegun journals.Memory file = Unit {0}
+IsNotBegun _ file = ⊥
+
+abbrev pub IsNotReopened : JournalStop → (file : List ℕ) → Type 0
+IsNotReopened journals.NoJournal file = HasNoRecord file
+IsNotReopened journals.Disk file = Unit {0}
+IsNotReopened journals.Memory file = Unit {0}
+IsNotReopened _ file = ⊥
+
+-- a run ended before it read a line, for its journal, as its file is like this: nothing passed, and of the file's records none is gone but
+-- where the disk failed or had no memory
+pub record IsUnopened (Why : JournalStop → List ℕ → Type 0) (told told' : Told) (content content' written written' : Option (List ℕ)) (status faults faults_now shortages shortages_now : ℕ) : Type 0 where
+  pub stop : JournalStop
+  pub why : IfSome content (Why stop)
+  pub unsent : told' ≡ told
+  pub unkept : stop ≢ journals.Disk → stop ≢ journals.Memory → kept_on content' ≡ kept_on content
+  pub line : EndsLine (ends.At (journal_cause stop)) written written' status faults faults_now shortages shortages_now
+  pub status_is : status ≡ journal_status stop
+
+-- A run that began a history, and one that went on with one, over a script of these bytes, with its last line and this status.
+
+pub record HasBegun (f : KeyedFn) (bytes : List ℕ) (now last : Outside) (status faults faults_now shortages shortages_now : ℕ) : Type 0 where
+  pub run : HasRun f bytes now last status
+  pub simulated : HasSimulatedRun f bytes now last status
+  pub recorded : HasRecordedRun f bytes now last status
+  pub honest : HasHonestStatus f bytes now last status
+  pub headline : HasHeadline f bytes now last status
+  pub line : IsWholeOrRose (HasLastLine f bytes now last status) (HasShortLine f bytes now last status) status faults faults_now shortages shortages_now
+
+pub record HasGoneOn (f : KeyedFn) (bytes : List ℕ) (now last : Outside) (status faults faults_now shortages shortages_now : ℕ) : Type 0 where
+  pub end : Ended
+  pub goes_on : GoesOnOver f (script_lines bytes) now end
+  pub told : last.told ≡ end.outside.told
+  pub kept : last.kept ≡ end.outside.kept
+  pub line : EndsLine end.stop end.outside.written last.written status faults faults_now shortages shortages_now
+  pub status_is : status ≡ status_of end.stop

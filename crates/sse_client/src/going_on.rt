@@ -1,0 +1,188 @@
+ghost use Rattle.std.specs.Prelude.{◌≡◌, ◌≢◌, ◌≤◌, ◌<◌, ◌+◌, ◌^◌, ℕ, List, Err, IfErr, IfOk, Ok, OnOk};
+ghost use Rattle.std.specs.Io.KnownBytes.{IsAtEnd};
+ghost use Rattle.client_core.specs.Restores.{Remembers};
+ghost use Rattle.client_core.specs.Resumes.{Lacks};
+ghost use Rattle.client_core.specs.declared.resume_fault.ResumeFault.{ResumeFault as FaultOfResume};
+ghost use Rattle.client_core.specs.StandsFor.{StandsFor};
+ghost use Rattle.client_rebuild.specs.Recalls.{hash_keys_of};
+ghost use Rattle.client_registry.specs.Run.{Run, at_first};
+ghost use Rattle.keyed_fn.specs.KeyedFn.{KeyedFn, keyed_fn};
+ghost use Rattle.run_texts.specs.Causes.{CommandCause, KeepCommandCause, KeepsRecorder, KeepsSink, KeepsSource, LinkCause, RecorderCause, SourceCause};
+ghost use Rattle.run_texts.specs.Stops.{command_cause};
+ghost use Rattle.sse_client.specs.Calls.{shows, KeepsLink};
+ghost use Rattle.sse_client.specs.GoingOn.{HasEndedAfter, HasResent, ResumesTo, StopsResending};
+ghost use Rattle.sse_client.specs.Resuming.{stop_of_resume};
+ghost use Rattle.sse_client.specs.Stages.{hash_keys_under};
+ghost use Rattle.sse_client.specs.Stands.{seen, outside_of};
+ghost use Rattle.sse_client.specs.Turns.{ending};
+ghost use Rattle.sse_outside.specs.Causes.{Rose};
+ghost use Rattle.sse_script.specs.TextLines.{bytes_to_come, lines_left};
+
+use crate::exchange::hello;
+use crate::lines::{Refusals, Session, run_lines};
+use crate::reply_buffer::ReplyBuffer;
+use crate::sending::catch_up;
+use crate::session::Stage;
+use crate::tools::Tools;
+use client_core::{Client, Ready, ResumeFault, Resumed};
+use client_rebuild::Last;
+use keyed_fn::Keyed;
+use run_texts::{CommandStop, Input, PeerStop, PlanStop, StopCause, finish};
+use sse_link::Link;
+use sse_outside::{Sink, Source};
+use sse_recorder::Recorder;
+use sse_script::{Shown, print};
+use std::alloc::Global;
+use word_keys::PreparedMaster;
+
+/// What a run goes on from: the client of a history that was rebuilt from records, and its master key, prepared.
+#[derive(Drop)]
+pub(crate) struct Restart<K: Keyed> {
+    pub(crate) client: Client<Last>,
+    pub(crate) master: PreparedMaster<K>,
+}
+
+/// What it means for the run that a client doesn't go on.
+fn stop_of(fault: ResumeFault) -> CommandStop
+    ensures { result ≡ stop_of_resume fault }
+{
+    match fault {
+        ResumeFault::PeerElsewhere { low, high, got } => CommandStop::Exchange(PeerStop::Elsewhere {
+            low,
+            high,
+            got,
+        }),
+        ResumeFault::LabelClash { first, second } => CommandStop::Planning(PlanStop::LabelClash {
+            first,
+            second,
+        }),
+        ResumeFault::PlaceClash { first, second } => CommandStop::Planning(PlanStop::PlaceClash {
+            first,
+            second,
+        }),
+        ResumeFault::NumberClash { first, second } => {
+            CommandStop::Planning(PlanStop::NumberClash { first, second })
+        }
+        ResumeFault::NoMemory => CommandStop::Planning(PlanStop::Memory),
+    }
+}
+
+/// How many frames a server lacks that expects this update.
+fn lacking(client: &Client<Last>, next: u32) -> Result<u32, CommandStop>
+    ensures fits { next < 2 ^ 32 }
+    ensures meant { IfErr result (λ stop. (fault : FaultOfResume) × (stop ≡ stop_of_resume fault)) }
+    ensures lacks { IfOk result (λ left. (f : KeyedFn) (key : List ℕ) (run : Run) → Remembers run client.now.state → Lacks f key run next (Ok left)) }
+    ensures stopped { IfErr result (λ stop. (f : KeyedFn) (key : List ℕ) (run : Run) → Remembers run client.now.state → (fault : FaultOfResume) × (stop ≡ stop_of_resume fault) × Lacks f key run next (Err fault)) }
+{
+    match client.lacks(next) {
+        Ok(left) => Ok(left),
+        Err(fault) => Err(stop_of(fault)),
+    }
+}
+
+/// Opens a session with a server that may lack frames of the history's last command, sends these, and answers the client of the
+/// whole history with how many they were.
+fn resend<K: Keyed, L: Link>(
+    alloc: Global,
+    keyed: &K,
+    client: Client<Last>,
+    link: &mut L,
+    buffer: &mut ReplyBuffer,
+) -> Result<(Client<Ready>, u32), CommandStop>
+    ensures resent { (run : Run) → Remembers run client.state → IfOk result (λ done. HasResent (keyed_fn K.prf K.pad) client.key run (L.transcript link.old) (L.transcript link.new) done.1) }
+    ensures stands { (run : Run) → Remembers run client.state → IfOk result (λ done. StandsFor (keyed_fn K.prf K.pad) (λ epoch. client.key) at_first run done.0.state) }
+    ensures stopped { (run : Run) → Remembers run client.state → IfErr result (λ stop. StopsResending (keyed_fn K.prf K.pad) client.key run (L.transcript link.old) (L.transcript link.new) (command_cause stop)) }
+    ensures key { (run : Run) → Remembers run client.state → IfOk result (λ done. done.0.key ≡ client.key) }
+    ensures hash_keys { IfOk result (λ done. done.0.state.registry.keys ≡ hash_keys_of client.state) }
+    ensures keeps { KeepsLink CommandCause (shows (L.transcript link.old) (L.faults link.old) (L.began link.old)) (shows (L.transcript link.new) (L.faults link.new) (L.began link.new)) result }
+    ensures unkept { IfErr result (λ stop. (count : ℕ) → KeepCommandCause count count stop) }
+{
+    let next = hello(alloc, link, buffer)?;
+    let frames = lacking(&client, next)?;
+    match client.resume(alloc, keyed, next) {
+        Ok(Resumed::Ready(ready)) => Ok((ready, frames)),
+        Ok(Resumed::Behind(behind)) => Ok((catch_up(behind, link, buffer)?, frames)),
+        Err(fault) => Err(stop_of(fault)),
+    }
+}
+
+/// Goes on: the server gets the frames that it lacks, and then come the lines that are left.
+fn go_on<K: Keyed, L: Link, R: Recorder, S: Source, W: Sink>(
+    alloc: Global,
+    keyed: &K,
+    link: &mut L,
+    recorder: &mut R,
+    source: &mut S,
+    sink: &mut W,
+    input: &mut Input,
+    restart: Restart<K>,
+) -> Result<Refusals, StopCause>
+    requires knows { (run : Run) × Remembers run restart.client.state }
+    requires prepared { restart.master ≡ restart.client.key }
+    requires hashed { hash_keys_of restart.client.state ≡ hash_keys_under (keyed_fn K.prf K.pad) restart.client.key }
+    requires whole { R.whole recorder.old }
+    requires few { input.old.number + bytes_to_come input.old.pending (S.handed_out source.old) ≤ 2 ^ 63 }
+    ensures ends { (run : Run) → Remembers run restart.client.state →
+        ResumesTo (keyed_fn K.prf K.pad) restart.client.key run (input.old.number + 1) (lines_left input.old.pending (S.remaining source.old))
+        (outside_of (seen (L.transcript link.old) (R.kept recorder.old)) (W.written sink.old)) (outside_of (seen (L.transcript link.new) (R.kept recorder.new)) (W.written sink.new)) (ending result) }
+    ensures at_end { OnOk result (IsAtEnd (S.remaining source.new)) }
+    ensures source { KeepsSource SourceCause (S.faults source.old) (S.faults source.new) result }
+    ensures sink { KeepsSink (W.faults sink.old) (W.faults sink.new) (W.shortages sink.old) (W.shortages sink.new) result }
+    ensures link { KeepsLink LinkCause (shows (L.transcript link.old) (L.faults link.old) (L.began link.old)) (shows (L.transcript link.new) (L.faults link.new) (L.began link.new)) result }
+    ensures recorder { KeepsRecorder RecorderCause (R.faults recorder.old) (R.faults recorder.new) result }
+{
+    let Restart { client, master } = restart;
+    let mut buffer = ReplyBuffer::new(alloc)?;
+    let (ready, frames) = resend(alloc, keyed, client, link, &mut buffer)?;
+    print(alloc, sink, &Shown::Resumed { frames })?;
+    let tools = Tools {
+        alloc,
+        keyed,
+        master,
+    };
+    let session = Session {
+        stage: Stage::Searching(ready),
+        refusals: Refusals::None,
+        buffer,
+    };
+    run_lines(&tools, link, recorder, source, sink, input, session)
+}
+
+/// Goes on, prints the last line where it stopped, and answers the run's status.
+pub(crate) fn gone_on<K: Keyed, L: Link, R: Recorder, S: Source, W: Sink>(
+    alloc: Global,
+    keyed: &K,
+    link: &mut L,
+    recorder: &mut R,
+    source: &mut S,
+    sink: &mut W,
+    input: &mut Input,
+    restart: Restart<K>,
+) -> u8
+    requires knows { (run : Run) × Remembers run restart.client.state }
+    requires prepared { restart.master ≡ restart.client.key }
+    requires hashed { hash_keys_of restart.client.state ≡ hash_keys_under (keyed_fn K.prf K.pad) restart.client.key }
+    requires whole { R.whole recorder.old }
+    requires few { input.old.number + bytes_to_come input.old.pending (S.handed_out source.old) ≤ 2 ^ 63 }
+    ensures gone_on { (run : Run) → Remembers run restart.client.state →
+        HasEndedAfter (keyed_fn K.prf K.pad) restart.client.key run (input.old.number + 1) (lines_left input.old.pending (S.remaining source.old))
+        (outside_of (seen (L.transcript link.old) (R.kept recorder.old)) (W.written sink.old)) (outside_of (seen (L.transcript link.new) (R.kept recorder.new)) (W.written sink.new)) result
+        (W.faults sink.old) (W.faults sink.new) (W.shortages sink.old) (W.shortages sink.new) }
+    ensures at_end { result ≤ 1 → IsAtEnd (S.remaining source.new) }
+    ensures source_failed { result ≡ 3 → Rose (S.faults source.old) (S.faults source.new) }
+    ensures source_steady { result ≢ 3 → S.faults source.new ≡ S.faults source.old }
+    ensures sink_failed { result ≡ 4 → Rose (W.faults sink.old) (W.faults sink.new) }
+    ensures sink_steady { result ≤ 1 → W.faults sink.new ≡ W.faults sink.old }
+    ensures link_failed { result ≡ 5 → Rose (L.faults link.old) (L.faults link.new) }
+    ensures link_steady { result ≢ 5 → L.faults link.new ≡ L.faults link.old }
+    ensures began { L.began link.new ≡ L.began link.old }
+    ensures recorder_failed { result ≡ 6 → Rose (R.faults recorder.old) (R.faults recorder.new) }
+    ensures recorder_steady { result ≢ 6 → R.faults recorder.new ≡ R.faults recorder.old }
+    ensures known { result ≤ 9 }
+{
+    match go_on(alloc, keyed, link, recorder, source, sink, input, restart) {
+        Ok(Refusals::None) => 0,
+        Ok(Refusals::Some) => 1,
+        Err(stop) => finish(sink, stop),
+    }
+}

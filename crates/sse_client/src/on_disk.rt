@@ -1,0 +1,277 @@
+ghost use Rattle.std.specs.Prelude.{◌≡◌, ◌≢◌, ◌⊎◌, ◌≤◌, ◌<◌, ◌+◌, ◌^◌, ℕ, List, [], None, Option, Some, map, string_bytes, IfErr, IfOk, IfSome};
+ghost use Rattle.std.specs.Io.KnownBytes.{IsAtEnd};
+ghost use Rattle.client_core.specs.Restores.{Remembers};
+ghost use Rattle.client_journal.specs.Openings.{GivesSome, HasNoRecord, IsNoJournal, IsOfRecords};
+ghost use Rattle.client_rebuild.specs.Recalls.{hash_keys_of};
+ghost use Rattle.client_registry.specs.Run.{Run};
+ghost use Rattle.keyed_fn.specs.KeyedFn.{keyed_fn};
+ghost use Rattle.run_texts.specs.Causes.{KeepsRecorder, KeepsSource};
+ghost use Rattle.run_texts.specs.Words as asks;
+ghost use Rattle.script_meaning.specs.Exchange.{Told};
+ghost use Rattle.sse_client.specs.GoingOn.{GoesOnTo, Restores};
+ghost use Rattle.sse_client.specs.KeyLines.{FindsKey};
+ghost use Rattle.sse_client.specs.OnDisk.{HasBegun, HasGoneOn, HeldCause, HeldSource, IsNotBegun, IsNotReopened, IsUnopened, held_stop, kept_on, seen_with};
+ghost use Rattle.sse_client.specs.Stages.{hash_keys_under};
+ghost use Rattle.sse_journal.specs.JournalView.{broken_by, records_of};
+ghost use Rattle.sse_outside.specs.Causes.{Rose};
+ghost use Rattle.sse_outside.specs.Fronts.{TookOrRose};
+ghost use Rattle.sse_script.specs.Shown.{Stopped, BadWords};
+ghost use Rattle.sse_script.specs.TextLines.{bytes_to_come, lines_left};
+ghost use Rattle.sse_script.specs.Texts.{text_of};
+
+use crate::going_on::{Restart, gone_on};
+use crate::run::{key_line, whole_run};
+use client_core::Restored;
+use client_journal::{begin, rebuild, reopen};
+use keyed_fn::Keyed;
+use run_texts::{
+    DiskMode, Input, InputStop, JournalStop, StopCause, disk_mode_of, finish, finish_unopened,
+};
+use sse_journal::Journal;
+use sse_link::Link;
+use sse_outside::{Disk, Sink, Source};
+use sse_recorder::JournalRecorder;
+use std::alloc::{AllocError, Global};
+
+/// Why a run that is to go on doesn't come to its lines.
+#[derive(Clone, Copy)]
+pub(crate) enum HeldUp {
+    /// The records of its journal make no history under its key, or can't be read.
+    Journal(JournalStop),
+    /// Its key line isn't read.
+    Input(InputStop),
+}
+
+impl From<InputStop> for HeldUp {
+    ghost use Rattle.sse_client.specs.declared.on_disk.HeldUp.TheVariants.{Input as input};
+
+    ghost from_gives = { λ stop held. held ≡ input stop };
+
+    fn from(stop: InputStop) -> HeldUp {
+        HeldUp::Input(stop)
+    }
+}
+
+impl From<JournalStop> for HeldUp {
+    ghost use Rattle.sse_client.specs.declared.on_disk.HeldUp.TheVariants.{Journal as journal};
+
+    ghost from_gives = { λ stop held. held ≡ journal stop };
+
+    fn from(stop: JournalStop) -> HeldUp {
+        HeldUp::Journal(stop)
+    }
+}
+
+impl From<AllocError> for HeldUp {
+    ghost use Rattle.run_texts.specs.declared.input_stop.InputStop.TheVariants.{Memory};
+    ghost use Rattle.sse_client.specs.declared.on_disk.HeldUp.TheVariants.{Input as input};
+
+    ghost from_gives = { λ _ held. held ≡ input Memory };
+
+    fn from(_e: AllocError) -> HeldUp {
+        HeldUp::Input(InputStop::Memory)
+    }
+}
+
+/// Reads the key line, and rebuilds the client of the journal's records under its key.
+fn restored<K: Keyed, D: Disk, S: Source>(
+    alloc: Global,
+    keyed: &K,
+    journal: &Journal,
+    disk: &mut D,
+    source: &mut S,
+) -> Result<(Restart<K>, Input), HeldUp>
+    requires holds { IfSome (D.content disk.old) (λ file. IsOfRecords journal.now (D.content disk.old) (D.images disk.old)) }
+    requires some { 0 < records_of journal.now }
+    ensures restored { IfOk result (λ done. (run : Run) × Restores (keyed_fn K.prf K.pad) done.0.client.key (kept_on (D.content disk.old)) run × Remembers run done.0.client.state) }
+    ensures found { IfOk result (λ done. FindsKey 1 (lines_left [] (S.remaining source.old)) done.0.client.key (done.1.number + 1) (lines_left done.1.pending (S.remaining source.new))) }
+    ensures few_left { IfOk result (λ done. done.1.number + bytes_to_come done.1.pending (S.handed_out source.new) ≤ 2 ^ 63) }
+    ensures prepared { IfOk result (λ done. done.0.master ≡ done.0.client.key) }
+    ensures hashed { IfOk result (λ done. hash_keys_of done.0.client.state ≡ hash_keys_under (keyed_fn K.prf K.pad) done.0.client.key) }
+    ensures stopped { IfErr result (λ stop. (told : Told) (written : Option (List ℕ)) →
+        GoesOnTo (keyed_fn K.prf K.pad) (lines_left [] (S.remaining source.old)) (seen_with told (D.content disk.old) written) (seen_with told (D.content disk.old) written) (held_stop stop)) }
+    ensures kept { D.content disk.new ≡ D.content disk.old }
+    ensures holds { IfSome (D.content disk.new) (λ file. IsOfRecords journal.now (D.content disk.new) (D.images disk.new)) }
+    ensures source { KeepsSource HeldSource (S.faults source.old) (S.faults source.new) result }
+    ensures disk { KeepsRecorder HeldCause (D.faults disk.old) (D.faults disk.new) result }
+{
+    let mut input = Input::new(alloc)?;
+    let key = key_line(source, &mut input)?;
+    let master = key.prepare(keyed);
+    let rebuilt = rebuild(alloc, keyed, key, journal, disk)?;
+    match Restored::of(rebuilt) {
+        Restored::Recorded(client) => Ok((Restart { client, master }, input)),
+        Restored::Fresh(_) => Err(HeldUp::Journal(JournalStop::NoJournal)),
+    }
+}
+
+/// All that a client program does that keeps its records on a disk: with `run` it begins a history, and the journal must have no
+/// record; with `more` it goes on with the history of the records that the journal has.
+pub fn run_on_disk<K: Keyed, L: Link, D: Disk, S: Source, W: Sink>(
+    alloc: Global,
+    words: &[String],
+    keyed: &K,
+    link: &mut L,
+    disk: D,
+    source: &mut S,
+    sink: &mut W,
+) -> (u8, D)
+    ensures words_source { asks.disk_mode_of (map (λ word. string_bytes word) words.now) ≡ None → source.new ≡ source.old }
+    ensures words_link { asks.disk_mode_of (map (λ word. string_bytes word) words.now) ≡ None → link.new ≡ link.old }
+    ensures words_disk { asks.disk_mode_of (map (λ word. string_bytes word) words.now) ≡ None → result.1 ≡ disk }
+    ensures words_status { asks.disk_mode_of (map (λ word. string_bytes word) words.now) ≡ None → result.0 ≡ 2 }
+    ensures words_line { asks.disk_mode_of (map (λ word. string_bytes word) words.now) ≡ None →
+        TookOrRose (W.written sink.old) (W.written sink.new) (text_of (Stopped BadWords)) (W.faults sink.old) (W.faults sink.new) (W.shortages sink.old) (W.shortages sink.new) }
+
+    // `run`: whole, or not begun for its journal.
+    ensures begun { asks.disk_mode_of (map (λ word. string_bytes word) words.now) ≡ Some asks.RunOn → IfSome (S.remaining source.old) (λ bytes.
+        IsUnopened IsNotBegun (L.transcript link.old) (L.transcript link.new) (D.content disk) (D.content result.1) (W.written sink.old) (W.written sink.new) result.0 (W.faults sink.old) (W.faults sink.new) (W.shortages sink.old) (W.shortages sink.new)
+        ⊎ HasBegun (keyed_fn K.prf K.pad) bytes (seen_with (L.transcript link.old) (D.content disk) (W.written sink.old)) (seen_with (L.transcript link.new) (D.content result.1) (W.written sink.new)) result.0
+        (W.faults sink.old) (W.faults sink.new) (W.shortages sink.old) (W.shortages sink.new)) }
+    ensures run_refused { asks.disk_mode_of (map (λ word. string_bytes word) words.now) ≡ Some asks.RunOn → IfSome (D.content disk) (λ file. GivesSome file ⊎ IsNoJournal file → result.0 ≢ 6 → result.0 ≢ 7 → result.0 ≡ 10) }
+
+    // `more`: whole, or not gone on with for its journal.
+    ensures more { asks.disk_mode_of (map (λ word. string_bytes word) words.now) ≡ Some asks.More → IfSome (S.remaining source.old) (λ bytes.
+        IsUnopened IsNotReopened (L.transcript link.old) (L.transcript link.new) (D.content disk) (D.content result.1) (W.written sink.old) (W.written sink.new) result.0 (W.faults sink.old) (W.faults sink.new) (W.shortages sink.old) (W.shortages sink.new)
+        ⊎ HasGoneOn (keyed_fn K.prf K.pad) bytes (seen_with (L.transcript link.old) (D.content disk) (W.written sink.old)) (seen_with (L.transcript link.new) (D.content result.1) (W.written sink.new)) result.0
+        (W.faults sink.old) (W.faults sink.new) (W.shortages sink.old) (W.shortages sink.new)) }
+    ensures more_refused { asks.disk_mode_of (map (λ word. string_bytes word) words.now) ≡ Some asks.More → IfSome (D.content disk) (λ file. HasNoRecord file → result.0 ≢ 6 → result.0 ≢ 7 → result.0 ≡ 10) }
+
+    // The devices, of both.
+    ensures at_end { result.0 ≤ 1 → IsAtEnd (S.remaining source.new) }
+    ensures source_failed { result.0 ≡ 3 → Rose (S.faults source.old) (S.faults source.new) }
+    ensures source_steady { result.0 ≢ 3 → S.faults source.new ≡ S.faults source.old }
+    ensures sink_failed { result.0 ≡ 4 → Rose (W.faults sink.old) (W.faults sink.new) }
+    ensures sink_steady { result.0 ≤ 1 → W.faults sink.new ≡ W.faults sink.old }
+    ensures link_failed { result.0 ≡ 5 → Rose (L.faults link.old) (L.faults link.new) }
+    ensures link_steady { result.0 ≢ 5 → L.faults link.new ≡ L.faults link.old }
+    ensures began { L.began link.new ≡ L.began link.old }
+    ensures disk_failed { result.0 ≡ 6 → Rose (D.faults disk) (D.faults result.1) }
+    ensures disk_steady { result.0 ≢ 6 → D.faults result.1 ≡ D.faults disk }
+    ensures known { result.0 ≤ 11 }
+{
+    match disk_mode_of(words) {
+        Some(DiskMode::Run) => begin_run(alloc, keyed, link, disk, source, sink),
+        Some(DiskMode::More) => more(alloc, keyed, link, disk, source, sink),
+        None => (finish(sink, StopCause::Words), disk),
+    }
+}
+
+/// Begins a history on a disk without records.
+fn begin_run<K: Keyed, L: Link, D: Disk, S: Source, W: Sink>(
+    alloc: Global,
+    keyed: &K,
+    link: &mut L,
+    disk: D,
+    source: &mut S,
+    sink: &mut W,
+) -> (u8, D)
+    ensures begun { IfSome (S.remaining source.old) (λ bytes.
+        IsUnopened IsNotBegun (L.transcript link.old) (L.transcript link.new) (D.content disk) (D.content result.1) (W.written sink.old) (W.written sink.new) result.0 (W.faults sink.old) (W.faults sink.new) (W.shortages sink.old) (W.shortages sink.new)
+        ⊎ HasBegun (keyed_fn K.prf K.pad) bytes (seen_with (L.transcript link.old) (D.content disk) (W.written sink.old)) (seen_with (L.transcript link.new) (D.content result.1) (W.written sink.new)) result.0
+        (W.faults sink.old) (W.faults sink.new) (W.shortages sink.old) (W.shortages sink.new)) }
+    ensures refused { IfSome (D.content disk) (λ file. GivesSome file ⊎ IsNoJournal file → result.0 ≢ 6 → result.0 ≢ 7 → result.0 ≡ 10) }
+    ensures at_end { result.0 ≤ 1 → IsAtEnd (S.remaining source.new) }
+    ensures source_failed { result.0 ≡ 3 → Rose (S.faults source.old) (S.faults source.new) }
+    ensures source_steady { result.0 ≢ 3 → S.faults source.new ≡ S.faults source.old }
+    ensures sink_failed { result.0 ≡ 4 → Rose (W.faults sink.old) (W.faults sink.new) }
+    ensures sink_steady { result.0 ≤ 1 → W.faults sink.new ≡ W.faults sink.old }
+    ensures link_failed { result.0 ≡ 5 → Rose (L.faults link.old) (L.faults link.new) }
+    ensures link_steady { result.0 ≢ 5 → L.faults link.new ≡ L.faults link.old }
+    ensures began { L.began link.new ≡ L.began link.old }
+    ensures disk_failed { result.0 ≡ 6 → Rose (D.faults disk) (D.faults result.1) }
+    ensures disk_steady { result.0 ≢ 6 → D.faults result.1 ≡ D.faults disk }
+    ensures known { result.0 ≤ 10 }
+{
+    let mut disk = disk;
+    match begin(alloc, &mut disk) {
+        Ok(journal) => {
+            let mut recorder = JournalRecorder::new(journal, disk);
+            let status = whole_run(alloc, keyed, link, &mut recorder, source, sink);
+            (status, recorder.into_disk())
+        }
+        Err(stop) => (finish_unopened(sink, stop), disk),
+    }
+}
+
+/// Goes on with the history of a disk's records.
+fn more<K: Keyed, L: Link, D: Disk, S: Source, W: Sink>(
+    alloc: Global,
+    keyed: &K,
+    link: &mut L,
+    disk: D,
+    source: &mut S,
+    sink: &mut W,
+) -> (u8, D)
+    ensures more { IfSome (S.remaining source.old) (λ bytes.
+        IsUnopened IsNotReopened (L.transcript link.old) (L.transcript link.new) (D.content disk) (D.content result.1) (W.written sink.old) (W.written sink.new) result.0 (W.faults sink.old) (W.faults sink.new) (W.shortages sink.old) (W.shortages sink.new)
+        ⊎ HasGoneOn (keyed_fn K.prf K.pad) bytes (seen_with (L.transcript link.old) (D.content disk) (W.written sink.old)) (seen_with (L.transcript link.new) (D.content result.1) (W.written sink.new)) result.0
+        (W.faults sink.old) (W.faults sink.new) (W.shortages sink.old) (W.shortages sink.new)) }
+    ensures refused { IfSome (D.content disk) (λ file. HasNoRecord file → result.0 ≢ 6 → result.0 ≢ 7 → result.0 ≡ 10) }
+    ensures at_end { result.0 ≤ 1 → IsAtEnd (S.remaining source.new) }
+    ensures source_failed { result.0 ≡ 3 → Rose (S.faults source.old) (S.faults source.new) }
+    ensures source_steady { result.0 ≢ 3 → S.faults source.new ≡ S.faults source.old }
+    ensures sink_failed { result.0 ≡ 4 → Rose (W.faults sink.old) (W.faults sink.new) }
+    ensures sink_steady { result.0 ≤ 1 → W.faults sink.new ≡ W.faults sink.old }
+    ensures link_failed { result.0 ≡ 5 → Rose (L.faults link.old) (L.faults link.new) }
+    ensures link_steady { result.0 ≢ 5 → L.faults link.new ≡ L.faults link.old }
+    ensures began { L.began link.new ≡ L.began link.old }
+    ensures disk_failed { result.0 ≡ 6 → Rose (D.faults disk) (D.faults result.1) }
+    ensures disk_steady { result.0 ≢ 6 → D.faults result.1 ≡ D.faults disk }
+    ensures known { result.0 ≤ 11 }
+{
+    let mut disk = disk;
+    match reopen(alloc, &mut disk) {
+        Ok(journal) => go_on_from(alloc, keyed, link, journal, disk, source, sink),
+        Err(stop) => (finish_unopened(sink, stop), disk),
+    }
+}
+
+/// Goes on from the records of a journal.
+fn go_on_from<K: Keyed, L: Link, D: Disk, S: Source, W: Sink>(
+    alloc: Global,
+    keyed: &K,
+    link: &mut L,
+    journal: Journal,
+    disk: D,
+    source: &mut S,
+    sink: &mut W,
+) -> (u8, D)
+    requires holds { IfSome (D.content disk) (λ file. IsOfRecords journal (D.content disk) (D.images disk)) }
+    requires some { 0 < records_of journal }
+    requires unbroken { broken_by journal ≡ None }
+    ensures gone_on { IfSome (S.remaining source.old) (λ bytes.
+        HasGoneOn (keyed_fn K.prf K.pad) bytes (seen_with (L.transcript link.old) (D.content disk) (W.written sink.old)) (seen_with (L.transcript link.new) (D.content result.1) (W.written sink.new)) result.0
+        (W.faults sink.old) (W.faults sink.new) (W.shortages sink.old) (W.shortages sink.new)) }
+    ensures at_end { result.0 ≤ 1 → IsAtEnd (S.remaining source.new) }
+    ensures source_failed { result.0 ≡ 3 → Rose (S.faults source.old) (S.faults source.new) }
+    ensures source_steady { result.0 ≢ 3 → S.faults source.new ≡ S.faults source.old }
+    ensures sink_failed { result.0 ≡ 4 → Rose (W.faults sink.old) (W.faults sink.new) }
+    ensures sink_steady { result.0 ≤ 1 → W.faults sink.new ≡ W.faults sink.old }
+    ensures link_failed { result.0 ≡ 5 → Rose (L.faults link.old) (L.faults link.new) }
+    ensures link_steady { result.0 ≢ 5 → L.faults link.new ≡ L.faults link.old }
+    ensures began { L.began link.new ≡ L.began link.old }
+    ensures disk_failed { result.0 ≡ 6 → Rose (D.faults disk) (D.faults result.1) }
+    ensures disk_steady { result.0 ≢ 6 → D.faults result.1 ≡ D.faults disk }
+    ensures known { result.0 ≤ 11 }
+{
+    let mut disk = disk;
+    match restored(alloc, keyed, &journal, &mut disk, source) {
+        Ok((restart, mut input)) => {
+            let mut recorder = JournalRecorder::new(journal, disk);
+            let status = gone_on(
+                alloc,
+                keyed,
+                link,
+                &mut recorder,
+                source,
+                sink,
+                &mut input,
+                restart,
+            );
+            (status, recorder.into_disk())
+        }
+        Err(HeldUp::Journal(stop)) => (finish_unopened(sink, stop), disk),
+        Err(HeldUp::Input(stop)) => (finish(sink, StopCause::Input(stop)), disk),
+    }
+}
