@@ -1,6 +1,6 @@
-# make        proves the crates, then builds the programs into bin/
+# make        proves the crates, then builds the programs into bin/: sse_local, sse_leaks, sse_served and sse_net
 # make try    runs a script, SCRIPT=examples/first.sse, without any proof: in a minute, and nothing is kept
-# make demo   as make, then runs examples/first.sse, and searches a folder of letters
+# make demo   builds bin/sse_local alone, runs examples/first.sse, and searches a folder of letters
 # make check  the whole gate: every proof, test, must-fail edit and end-to-end check
 # make quick  what can be told without a proof: layers, documents, and what has to compile and what mustn't
 # make docs   the checks of documents and layers alone, in seconds
@@ -8,12 +8,13 @@
 # make clean  forgets what was proved and built in this checkout
 # make help   prints these lines
 
-PROGRAMS = sse_local sse_leaks
+PROGRAMS = sse_local sse_leaks sse_served sse_net
 # the words that a program is first run with, once it is built
 words_sse_local = run
 words_sse_bench = prepared 1
-# without words the server ends at once, with this status
+# without words the programs over TCP end at once, with this status
 status_sse_served = 2
+status_sse_net = 2
 LAST = bin/.seconds
 # what make try runs
 SCRIPT = examples/first.sse
@@ -41,7 +42,7 @@ try:
 	@echo "Nothing of this run is proved; the program is compiled with checks of some conditions, and not kept."
 	cd crates/sse_local && rt try -- run < $(abspath $(SCRIPT))
 
-demo: all
+demo: bin/sse_local
 	bin/sse_local run < examples/first.sse
 	examples/search examples/letters wall deed
 

@@ -1,0 +1,152 @@
+"""What checks of the programs over TCP share: servers that are started on a free port of this machine and ended by their own number,
+what has to pass for a script and to stand in the server's journal, files, and a list of checks that is gone through, each in a
+folder of its own."""
+import concurrent.futures
+import multiprocessing
+import os
+import select
+import socket
+import subprocess
+import tempfile
+
+import compare
+import journal_model
+import leak_model
+
+TOP = os.path.dirname(os.path.dirname(os.path.abspath(__file__)))
+SERVED = os.path.join(TOP, "crates", "sse_served", "out", "sse_served")
+HOST = "127.0.0.1"
+SERVING = b"serving\n"
+NO_ADDRESS = b"stopped: link\n"
+# the kinds of the frames that a server's journal keeps
+UPDATES = range(2, 8)
+# what nothing takes longer than, in seconds
+SECONDS = 20
+# how often a free port may be taken by another process before the server has it
+TRIES = 10
+
+
+class Differs(Exception):
+    """What was seen isn't what was wanted; the text says where."""
+
+
+def same(what, seen, wanted):
+    if seen != wanted:
+        if isinstance(seen, bytes):
+            seen, wanted = compare.shortened(seen), compare.shortened(wanted)
+        raise Differs(f"{what} is {seen}, wanted {wanted}")
+
+
+def read(path):
+    with open(path, "rb") as file:
+        return file.read()
+
+
+def write(path, content):
+    with open(path, "wb") as file:
+        file.write(content)
+
+
+def free_address():
+    with socket.create_server((HOST, 0)) as taken:
+        return f"{HOST}:{taken.getsockname()[1]}"
+
+
+def connect(address):
+    host, port = address.split(":")
+    return socket.create_connection((host, int(port)), timeout=SECONDS)
+
+
+def receive(peer, size):
+    """So many bytes, fewer where the other side ends."""
+    text = b""
+    while len(text) < size:
+        piece = peer.recv(size - len(text))
+        if not piece:
+            break
+        text += piece
+    return text
+
+
+def exchanges(script):
+    """Each frame that passes for a script, with its replies as one text; nothing for one without a key."""
+    key, setup, later = leak_model.history_in(script)
+    frames = []
+    if key is not None:
+        for way, text in leak_model.simulated(leak_model.leak(setup, later), leak_model.draws(key, setup, later)):
+            if way == leak_model.SENT:
+                frames.append([text, b""])
+            else:
+                frames[-1][1] += text
+    return frames
+
+
+def is_update(frame):
+    return frame[4] in UPDATES
+
+
+def server_journal(frames):
+    """The journal of a server that took these, each with its replies."""
+    return journal_model.file_of([frame[4:] for frame, _ in frames if is_update(frame)])
+
+
+class Server:
+    """The server's program over a journal, listening; it is ended where the block is left."""
+
+    def __init__(self, path, *count, address=None, folder=None):
+        for _ in range(TRIES):
+            self.address = address or free_address()
+            self.process = subprocess.Popen([SERVED, self.address, path, *count], stdout=subprocess.PIPE, cwd=folder)
+            self.printed = b""
+            if select.select([self.process.stdout], [], [], SECONDS)[0]:
+                self.printed = os.read(self.process.stdout.fileno(), len(SERVING))
+            if address or not NO_ADDRESS.startswith(self.printed):
+                break
+            self.__exit__()
+
+    def __enter__(self):
+        return self
+
+    def __exit__(self, *_):
+        self.process.kill()
+        self.process.communicate()
+
+    def connect(self):
+        return connect(self.address)
+
+    def ends_with(self, line, status):
+        rest, _ = self.process.communicate(timeout=SECONDS)
+        same("what is printed", self.printed + rest, line)
+        same("the status", self.process.returncode, status)
+
+
+def ends(program, words, line, status, script=b""):
+    """Runs a program to its end."""
+    ran = subprocess.run([program, *words], input=script, stdout=subprocess.PIPE, timeout=SECONDS, check=False)
+    same(f"what {words} prints", ran.stdout, line)
+    same(f"the status of {words}", ran.returncode, status)
+
+
+def fault_of(check, *given):
+    """What is wrong, in words, or None: the check is called with a path in a new folder, and with what it is given besides."""
+    with tempfile.TemporaryDirectory() as folder:
+        try:
+            check(os.path.join(folder, "journal"), *given)
+        except (Differs, OSError, subprocess.TimeoutExpired) as wrong:
+            return str(wrong)
+    return None
+
+
+def go_through(title, checks, at_once=1):
+    """Goes through checks, each a name, a function and what it is given, so many at once; prints what is wrong and how many passed,
+    and answers whether any failed."""
+    failed = 0
+    with concurrent.futures.ProcessPoolExecutor(at_once, multiprocessing.get_context("fork")) as pool:
+        runs = [(name, pool.submit(fault_of, check, *given)) for name, check, *given in checks]
+        for name, run in runs:
+            wrong = run.result()
+            if wrong is not None:
+                failed += 1
+                print(f"{title}: {name}: {wrong}", flush=True)
+    print(f"{title}: {len(checks) - failed} passed, {failed} failed")
+    return failed != 0
