@@ -1,6 +1,6 @@
 """What checks of the programs over TCP share: servers that are started on a free port of this machine and ended by their own number,
-what has to pass for a script and to stand in the server's journal, files, and a list of checks that is gone through, each in a
-folder of its own."""
+what has to pass for a script and to stand in the server's journal, a script in parts, files, and a list of checks that is gone
+through, each in a folder of its own."""
 import concurrent.futures
 import multiprocessing
 import os
@@ -12,9 +12,11 @@ import tempfile
 import compare
 import journal_model
 import leak_model
+import script_model
 
 TOP = os.path.dirname(os.path.dirname(os.path.abspath(__file__)))
 SERVED = os.path.join(TOP, "crates", "sse_served", "out", "sse_served")
+NET = os.path.join(TOP, "crates", "sse_net", "out", "sse_net")
 HOST = "127.0.0.1"
 SERVING = b"serving\n"
 NO_ADDRESS = b"stopped: link\n"
@@ -90,13 +92,44 @@ def server_journal(frames):
     return journal_model.file_of([frame[4:] for frame, _ in frames if is_update(frame)])
 
 
-class Server:
-    """The server's program over a journal, listening; it is ended where the block is left."""
+def parts(script):
+    """The text up to the setup that is accepted, then of each command behind it that prints a line, each with what it prints."""
+    lines = script_model.lines_of(script)
+    taken, told, found = 0, b"", []
 
-    def __init__(self, path, *count, address=None, folder=None):
+    def counted():
+        nonlocal taken
+        for taken, line in enumerate(lines, 1):
+            yield line
+
+    begin = 0
+    for line in script_model.printed(counted()):
+        told += line.encode() + b"\n"
+        if found or line.startswith("set up "):
+            found.append((b"".join(line + b"\n" for line in lines[begin:taken]), told))
+            begin, told = taken, b""
+    return found
+
+
+def by_command(frames):
+    """What passes for each command, the greeting first: the frames of a setup behind its first one belong to it."""
+    commands = []
+    for exchange in frames:
+        if exchange[0][4] in range(3, 6):
+            commands[-1].append(exchange)
+        else:
+            commands.append([exchange])
+    return commands
+
+
+class Server:
+    """The server's program over a journal, listening; it is ended where the block is left. What is given besides is how it is
+    started."""
+
+    def __init__(self, path, *count, address=None, folder=None, **given):
         for _ in range(TRIES):
             self.address = address or free_address()
-            self.process = subprocess.Popen([SERVED, self.address, path, *count], stdout=subprocess.PIPE, cwd=folder)
+            self.process = subprocess.Popen([SERVED, self.address, path, *count], stdout=subprocess.PIPE, cwd=folder, **given)
             self.printed = b""
             if select.select([self.process.stdout], [], [], SECONDS)[0]:
                 self.printed = os.read(self.process.stdout.fileno(), len(SERVING))
