@@ -1,7 +1,8 @@
 /* Put before a program by the loader (LD_PRELOAD), it ends the program at one of its calls on a file, or refuses them from one on. Calls
    that write, cut or sync a file are counted from 1; AT_CALL is the number of one, and HOW says what is done there:
    before, within, after   SIGKILL before the call, behind the first half of what it writes, or behind the call
-   refused                 this call and each behind it fail as on a full disk, a write after its first half */
+   refused                 this call and each behind it fail as on a full disk, a write after its first half
+   skipped                 the call does nothing, and says that it did: so does a program that leaves it out */
 #define _GNU_SOURCE
 #include <dlfcn.h>
 #include <errno.h>
@@ -34,6 +35,7 @@ static ssize_t write_of(const char *name, int file, const void *bytes, size_t co
     ssize_t done;
     if (!is_chosen()) return real(file, bytes, count, at);
     if (!strcmp(how, "before")) end();
+    if (!strcmp(how, "skipped")) return (ssize_t)count;
     if (!strcmp(how, "refused") && (calls > chosen || count < 2)) {
         errno = ENOSPC;
         return -1;
@@ -51,6 +53,7 @@ static int other_of(int (*real)(int), int (*real_cut)(int, off_t), int file, off
     int done, failed;
     if (!is_chosen()) return real ? real(file) : real_cut(file, size);
     if (!strcmp(how, "before")) end();
+    if (!strcmp(how, "skipped")) return 0;
     if (!strcmp(how, "refused")) {
         errno = EIO;
         return -1;

@@ -136,7 +136,7 @@ def torn(draw, before, file, payloads, sure):
         at = end - len(journal_model.record(payloads[journal.records - 1]))
         return file[:at] + bytes([draw.choice([0, 1, 2, 255, draw.randrange(256)])]) + file[at + 1:]
     if not journal.tail and len(before) > len(file) and before.startswith(file):
-        return file + draw.randbytes(draw.randint(0, len(before) - len(file)))
+        return file + bytes(draw.choices(range(256), k=draw.randint(0, len(before) - len(file))))
     return file
 
 
@@ -181,17 +181,21 @@ class Run:
         self.waits.register(listener, selectors.EVENT_READ, lambda: self.accept(listener))
         self.waits.register(self.process.stdout, selectors.EVENT_READ, self.read_lines)
         is_idle = False
-        while self.client_side or not self.has_ended or not is_idle:
+        while self.is_open() or not is_idle:
             due = min((moment for moment, _ in self.alarms), default=None)
             wait = SECONDS if due is None else max(due - time.monotonic(), 0)
-            ready = self.waits.select(0 if self.has_ended and not self.client_side else wait)
+            ready = self.waits.select(wait if self.is_open() else 0)
             is_idle = not ready
+            if is_idle and due is None and self.is_open():
+                raise Differs("nothing moves any more")
             for key, _ in ready:
                 if key.fileobj.fileno() >= 0:
                     key.data()
             self.ring()
-            if time.monotonic() > self.begin + SECONDS:
-                raise Differs("nothing moves any more")
+
+    def is_open(self):
+        """Whether the program runs or the link stands."""
+        return self.client_side is not None or not self.has_ended
 
     def ring(self):
         for alarm in [alarm for alarm in self.alarms if alarm[0] <= time.monotonic()]:
