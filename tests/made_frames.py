@@ -58,8 +58,8 @@ class Maker:
         return leak_model.numbers_text([self.draw.choice(choice) for _ in range(self.draw.randint(0, most))], most)
 
     def begin(self, server):
-        sizes = [self.draw.choice([1, 2, 4, 64, 65, 0]) if self.chance(0.1) else self.draw.choice([1, 2, 3]) for _ in range(2)]
-        counts = [self.draw.choice(mutation.NUMBERS) % 2**32 if self.chance(0.05) else self.draw.randint(0, 4) for _ in range(2)]
+        sizes = [self.draw.choice([1, 2, 4, 64, 65, 0]) if self.chance(0.1) else self.draw.choice([1, 2, 3, 4]) for _ in range(2)]
+        counts = [self.draw.choice(mutation.NUMBERS) % 2**32 if self.chance(0.05) else self.draw.randint(0, 7) for _ in range(2)]
         return 2, [*(be(2, size) for size in sizes), *(be(4, count) for count in counts)]
 
     def lists(self, server):
@@ -69,7 +69,10 @@ class Maker:
             keys = self.keys()
             entries.append((keyed(keys[0], 0) if self.chance(0.6) else self.bytes(16), self.cell(server, keys[1])))
         entries = rising(entries)
-        size = 1 + 8 * server.b if self.chance(0.95) else self.draw.choice([9, 10, 513, 521])
+        size = 1 + 8 * server.b
+        if self.chance(0.1):
+            size = self.draw.choice([9, 10, 17, 513, 521])
+            entries = [(label, text[:size].ljust(size, b"\0")) for label, text in entries]
         return 3, [be(2, size), be(2, len(entries)), *(label + text for label, text in entries)]
 
     def blocks(self, server):
@@ -77,7 +80,10 @@ class Maker:
         texts = []
         for _ in range(self.draw.randint(1, left + (self.chance(0.1)))):
             texts.append(sealed(self.numbers(server.B), self.keys()[1], self.draw.randint(1, 3)))
-        size = 8 * server.B if self.chance(0.95) else self.draw.choice([8, 12, 2048, 2056])
+        size = 8 * server.B
+        if self.chance(0.1):
+            size = self.draw.choice([8, 12, 16, 2048, 2056])
+            texts = [text[:size].ljust(size, b"\0") for text in texts]
         return 4, [be(2, size), be(2, len(texts)), *texts]
 
     def end(self, server):
@@ -133,7 +139,29 @@ class Maker:
             text.append(frame)
         return b"".join(text), replies
 
-    def behind(self):
-        """What a connection ends with: a real or made frame, or a few of them, mutated."""
+    def spoilt(self, server):
+        """A frame that is wrong in one place: an item stands twice or at another place, a count or a number is another one, or bytes
+        are too many or missing."""
+        frame = self.frame(server)
+        body, size = frame[4:], self.draw.choice([8, 16, 24, 17 + 8 * server.b])
+        at, way = self.draw.choice([5, 7, 9, 9, 9 + size, 9 + 2 * size]), self.draw.randrange(5)
+        if way == 0:
+            body = body[:at] + body[at:at + size] + body[at:]
+            count = self.draw.choice([5, 7])
+            body = body[:count] + be(2, (int.from_bytes(body[count:count + 2], "big") + 1) % 2**16) + body[count + 2:]
+        elif way == 1:
+            body = body[:at] + body[at + size:at + 2 * size] + body[at:at + size] + body[at + 2 * size:]
+        elif way == 2:
+            body += self.bytes(self.draw.choice([1, 1, 8, 16]))
+        elif way == 3:
+            body = mutation.put_number(self.draw, body, None)
+        else:
+            body = body[:-1]
+        return be(4, len(body)) + body
+
+    def behind(self, server):
+        """What a connection ends with: a frame that is wrong in one place, or real ones that are mutated."""
+        if self.chance(0.5):
+            return self.spoilt(server)
         real = b"".join(frame for frame, _ in self.draw.choice(self.sessions)[self.draw.choice([0, 1, 2]):][:4])
         return mutation.mutated(self.draw, real or framed(1), [b"".join(frame for frame, _ in frames) for frames in self.sessions])
