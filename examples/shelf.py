@@ -60,17 +60,17 @@ def is_too_long(word):
     return len(word) * 4 > WORD_BYTES and len(word.encode()) > WORD_BYTES
 
 
-def fault_of(query):
-    """Why a query is no word, or None where it is one."""
+def fault_of(query, at_most=1):
+    """Why a query is no word, or None where it is one; or where it is any number of words, with `at_most` None."""
     words = words_of(query)
     if any("\udc80" <= character <= "\udcff" for character in query):
         return "it isn't UTF-8"
     if not words:
         return "it has no letter and no digit"
-    if len(words) > 1:
+    if at_most and len(words) > at_most:
         return f"it is {len(words)} words, and a search is for one"
-    if is_too_long(words[0]):
-        return f"it has {len(words[0].encode())} bytes, and a word at most {WORD_BYTES}"
+    for word in filter(is_too_long, words):
+        return f"it has {len(word.encode())} bytes, and a word at most {WORD_BYTES}"
     return None
 
 
@@ -86,7 +86,9 @@ def on_a_line(name):
         elif character.isprintable():
             quoted += character
         else:
-            quoted += "".join(f"\\x{byte:02x}" for byte in os.fsencode(character))
+            is_byte = "\udc80" <= character <= "\udcff"
+            content = character.encode("utf-8", "surrogateescape" if is_byte else "surrogatepass")
+            quoted += "".join(f"\\x{byte:02x}" for byte in content)
     return f"$'{quoted}'"
 
 
@@ -94,17 +96,23 @@ def say(line):
     print(f"{NAME}: {line}", file=sys.stderr)
 
 
-class Shelf:
-    """Named texts with the words of each, and what was left out."""
+class Report:
+    """What is left out of the texts that are read."""
 
     def __init__(self):
-        self.names = []
-        self.documents = []  # for each: the place of its name, and at most DOCUMENT_WORDS different words
         self.left_out = {}  # what it was: how often, and where first
 
     def leave_out(self, what, where):
         count, first = self.left_out.get(what, (0, where))
         self.left_out[what] = (count + 1, first)
+
+    def unread(self, what, where):
+        """Leaves out a file or a folder that can't be read."""
+        self.leave_out(what, where)
+
+    def tell(self):
+        for what, (count, first) in self.left_out.items():
+            say(f"left out: {what}: {count}, the first in {on_a_line(first)}")
 
     def decoded(self, content, where, charset="utf-8"):
         """The bytes as text; those that aren't in the character set are counted and part words."""
@@ -114,22 +122,38 @@ class Shelf:
             self.leave_out("texts' bytes that aren't in their character set", where)
             return content.decode(charset, "replace")
 
-    def put(self, name, text):
-        """A text with more than DOCUMENT_WORDS different words becomes several documents of one name."""
+    def words(self, name, text):
+        """The different words of a text in turn."""
         words = []
         for word in dict.fromkeys(words_of(text)):
             if is_too_long(word):
                 self.leave_out(f"words of more than {WORD_BYTES} bytes", name)
             else:
                 words.append(word)
-        for start in range(0, len(words), DOCUMENT_WORDS):
-            self.documents.append((len(self.names), words[start : start + DOCUMENT_WORDS]))
+        return words
+
+
+def documents_of(words):
+    """A text with more than DOCUMENT_WORDS different words becomes several documents."""
+    return [words[start : start + DOCUMENT_WORDS] for start in range(0, len(words), DOCUMENT_WORDS)]
+
+
+class Shelf(Report):
+    """Named texts with the words of each."""
+
+    def __init__(self):
+        super().__init__()
+        self.names = []
+        self.documents = []  # for each: the place of its name, and at most DOCUMENT_WORDS different words
+
+    def put(self, name, text):
+        for words in documents_of(self.words(name, text)):
+            self.documents.append((len(self.names), words))
         self.names.append(name)
 
     def search(self, queries):
         """Prints for each query that is a word the names of the texts that hold it. Returns the status."""
-        for what, (count, first) in self.left_out.items():
-            say(f"left out: {what}: {count}, the first in {on_a_line(first)}")
+        self.tell()
         wanted = []
         for query in queries:
             fault = fault_of(query)
@@ -142,7 +166,7 @@ class Shelf:
 
     def answer(self, wanted):
         identifiers, script = self.script(wanted)
-        lines, status = run(script.encode())
+        lines, status = run(script.encode(), "sse_local", "run")
         if status not in (0, 1):
             say(lines[-1] if lines else f"the program ended with {status}")
             return status
@@ -204,14 +228,18 @@ def cell_for(documents):
     return next((b for b in CELLS if index_bytes(lengths, b) <= INDEX_BYTES), CELLS[-1])
 
 
-def index_bytes(lengths, b):
-    """The bytes of an index of lists of these lengths."""
+def index_bytes(lengths, b, block=BLOCK, multiple=1):
+    """The bytes of an index of lists of these lengths, words and blocks filled up to the next multiples of a number."""
     blocks = 0
     for length in lengths:
         if length > b:
-            data = -(-length // BLOCK)
-            blocks += data if data <= b else data + -(-data // BLOCK)
-    return len(lengths) * (17 + 8 * b) + blocks * 8 * BLOCK
+            data = -(-length // block)
+            blocks += data if data <= b else data + -(-data // block)
+    return filled(len(lengths), multiple) * (17 + 8 * b) + filled(blocks, multiple) * 8 * block
+
+
+def filled(count, multiple):
+    return -(-count // multiple) * multiple
 
 
 class Signals:
@@ -234,26 +262,37 @@ class Signals:
 SIGNALS = Signals()
 
 
-def begin(program):
-    """The program, begun; signals are held back from here on."""
+def program(name):
+    """Where a program is: `make` puts it into bin/, and SSE_LOCAL and the like name another place."""
+    return os.environ.get(name.upper()) or os.path.join(HERE, os.pardir, "bin", name)
+
+
+def begin(name, *words, **options):
+    """A program, begun; signals are held back from here on."""
     SIGNALS.held = True
+    place = program(name)
     try:
-        return subprocess.Popen([program, "run"], stdin=subprocess.PIPE, stdout=subprocess.PIPE)
+        return subprocess.Popen([place, *words], stdin=subprocess.PIPE, stdout=subprocess.PIPE, **options)
     except OSError as error:
         SIGNALS.release()
-        raise Unreadable(f"{program}: {error.strerror} (`make` builds it)") from error
+        raise Unreadable(f"{place}: {error.strerror} (`make` builds it)") from error
 
 
-def run(script):
-    """The lines that the program prints, and its status."""
-    with begin(os.environ.get("SSE_LOCAL") or os.path.join(HERE, os.pardir, "bin", "sse_local")) as program:
+def run(script, name, *words):
+    """The lines that a program prints of a script, and its status."""
+    with begin(name, *words) as process:
         try:
             SIGNALS.release()
-            printed, _ = program.communicate(script)
+            printed, _ = process.communicate(script)
         except BaseException:
-            program.kill()
+            process.kill()
             raise
-    return printed.decode().splitlines(), program.returncode if program.returncode >= 0 else 128 - program.returncode
+    return printed.decode().splitlines(), status_of(process)
+
+
+def status_of(process):
+    """The status of a process that has ended, as a shell gives it."""
+    return process.returncode if process.returncode >= 0 else 128 - process.returncode
 
 
 def main(description, source, read):
@@ -262,25 +301,39 @@ def main(description, source, read):
     It ends with 0; with 1 where a query was no word or the store refused something; with 2 where it was called
     in another way, or the source can't be read; else with the status of the program (docs/FORMATS.md).
     """
-    for number in (signal.SIGINT, signal.SIGTERM, signal.SIGHUP):
-        if signal.getsignal(number) != signal.SIG_IGN:
-            signal.signal(number, SIGNALS.take)
-    sys.stdout.reconfigure(encoding="utf-8")
-    sys.stderr.reconfigure(encoding="utf-8", errors="backslashreplace")
+    prepare()
     parser = argparse.ArgumentParser(description=description, formatter_class=argparse.RawDescriptionHelpFormatter)
     parser.add_argument("source", metavar=source)
     parser.add_argument("words", metavar="WORD", nargs="+")
     asked = parser.parse_args()
     shelf = Shelf()
-    try:
+
+    def answer():
         read(asked.source, shelf)
-        status = shelf.search(asked.words)
+        return shelf.search(asked.words)
+
+    sys.exit(carried_out(answer))
+
+
+def prepare():
+    """What a program begins with: its signals, and the encoding of what it prints."""
+    for number in (signal.SIGINT, signal.SIGTERM, signal.SIGHUP):
+        if signal.getsignal(number) != signal.SIG_IGN:
+            signal.signal(number, SIGNALS.take)
+    sys.stdout.reconfigure(encoding="utf-8")
+    sys.stderr.reconfigure(encoding="utf-8", errors="backslashreplace")
+
+
+def carried_out(command):
+    """The status of a command, or what it comes to where it can't go on."""
+    try:
+        status = command()
         sys.stdout.flush()
+        return status
     except BrokenPipeError:
         # whoever read the answers has seen enough
         os.dup2(os.open(os.devnull, os.O_WRONLY), sys.stdout.fileno())
-        status = 128 + signal.SIGPIPE
+        return 128 + signal.SIGPIPE
     except (Unreadable, OSError) as error:
         say(error)
-        status = 2
-    sys.exit(status)
+        return getattr(error, "status", 2)
