@@ -1,0 +1,172 @@
+"""What `archive` does beside indexing: search, show, status, leaks."""
+import os
+import sys
+import unicodedata
+
+import shelf
+from kept import sources
+from kept.client import Client
+from kept.folder import SEARCHES, WORDS, Trouble
+from kept.index import opened
+from kept.journal import Journal
+from kept.texts_file import Texts
+
+
+def search(folder, queries, files, with_zeros, progress):
+    """Prints the texts that hold all words of the queries. Returns the status."""
+    faults = [(query, shelf.fault_of(query, None)) for query in queries]
+    for query, fault in faults:
+        if fault:
+            shelf.say(f"{shelf.on_a_line(query)} is no word: {fault}")
+    if any(fault for _, fault in faults):
+        return 1
+    words = list(dict.fromkeys(word for query in queries for word in shelf.words_of(query)))
+    texts = Texts(folder)
+    names = texts.by_identifier()
+    found = searched(folder, words, names, progress)
+    progress.end()
+    if files:
+        end = "\0" if with_zeros else "\n"
+        for path in sorted({path for path, _, _ in found}):
+            print_raw(path if with_zeros else shelf.on_a_line(path), end)
+        return 0
+    print(f"{' '.join(words)}: {len(found):,}")
+    for path, label, number in sorted(found, key=lambda name: (name[1] or name[0], name[2])):
+        print(f"  {number:>9}  {shelf.on_a_line(label or path)}")
+    return 0
+
+
+def searched(folder, words, names, progress):
+    """The names of the texts that hold all words, as (path, label, identifier). Behind a word that nothing is left with no other is searched."""
+    journal = Journal(folder)
+    if not journal.records:
+        raise Trouble(WORDS, "nothing was indexed yet: say what, `archive index PATHS..`")
+    kept = folder.searches()
+    found = None
+    progress.show("archive: the client goes on")
+    with Client(folder, "more") as client:
+        client.tell(f"key {folder.key()}")
+        client.line()
+        for word in words:
+            # it is kept before it is sent, as `leaks` tells what the server may have seen
+            kept.append((journal.records, word))
+            folder.keep_searches(kept)
+            client.tell(f"find {word}")
+            numbers = client.line().partition(":")[2].split()
+            held = {names.get(int(number), ("", f"(text {number}, whose name isn't known)", int(number))) for number in numbers}
+            found = held if found is None else found & held
+            if not found:
+                break
+        client.end()
+    return found or set()
+
+
+def print_raw(text, end="\n"):
+    """A name as its bytes are."""
+    sys.stdout.flush()
+    sys.stdout.buffer.write(os.fsencode(text + end))
+
+
+def show(folder, name):
+    """Prints a text as it is now. Returns the status."""
+    _, texts = opened(folder)
+    found = named(texts, name)
+    if not found:
+        raise Trouble(1, f"nothing is indexed as {shelf.on_a_line(name)}: give the number that `archive search` prints, or a path")
+    if len(found) > 1:
+        print(f"{shelf.on_a_line(name)}: {len(found):,} texts, each shown by its number")
+        for source, text in found:
+            print(f"  {first(text):>9}  {shelf.on_a_line(text.label)}")
+        return 1
+    source, text = found[0]
+    return print_text(source, text)
+
+
+def first(text):
+    return text.identifiers[0] if text.identifiers else "-"
+
+
+def named(texts, name):
+    """The texts that a name is for: a number, a path, a label."""
+    every = [(source, text) for source in texts.sources.values() for text in source.texts]
+    if name.isdecimal() and name.isascii():
+        found = [(source, text) for source, text in every if int(name) in text.identifiers]
+        if found:
+            return found
+    path = os.path.realpath(name)
+    found = [(source, text) for source, text in every if path == source.path]
+    return found or [(source, text) for source, text in every if name == text.label]
+
+
+def print_text(source, text):
+    reading = sources.Reading()
+    read = sources.texts_of(source.path, reading)
+    found = read[2] if read else []
+    same = [pieces for label, pieces in found if sources.checksum(sources.words_in(label, pieces, sources.Reading())) == text.held]
+    if not same and len(found) != 1:
+        raise Trouble(1, f"{shelf.on_a_line(source.path)} has changed since it was indexed, or is gone: `archive index` it again. The "
+                      f"text was {shelf.on_a_line(text.label)}")
+    print(f"File: {shelf.on_a_line(source.path)}")
+    print(f"Text: {' '.join(map(str, text.identifiers)) or 'without a word'}")
+    for name, piece in same[0] if same else found[0][1]:
+        print(printable(f"{name}: {' '.join(piece.split())}" if name else f"\n{piece}"))
+    if not same:
+        shelf.say("the file has changed since it was indexed: `archive index` it again")
+    return 0
+
+
+class Printable(dict):
+    """For str.translate: a character that would move a terminal's cursor, or can't be written, becomes a question mark."""
+
+    def __missing__(self, code):
+        character = chr(code)
+        is_kept = character in "\n\t" or unicodedata.category(character) not in ("Cc", "Cs")
+        self[code] = character if is_kept else "" if character == "\r" else "?"
+        return self[code]
+
+
+PRINTABLE = Printable()
+
+
+def printable(text):
+    return text.translate(PRINTABLE)
+
+
+def status(folder, is_offline):
+    """Prints what the archive is, and asks the server. Returns the status."""
+    journal, texts = opened(folder)
+    every = [text for source in texts.sources.values() for text in source.texts]
+    to_read, to_delete = texts.to_do()
+    print(f"archive:  {shelf.on_a_line(folder.path)}")
+    print(f"indexed:  {len(every):,} texts of {len(texts.sources):,} files, {sum(journal.live.values()):,} words, each once for a text")
+    for path in texts.paths:
+        print(f"  {shelf.on_a_line(path)}")
+    print(f"journal:  {journal.records:,} records, {journal.bytes:,} bytes")
+    print(f"searched: {len(folder.searches()):,} words, kept in {SEARCHES}")
+    if to_read or to_delete:
+        print(f"to do:    {to_read:,} files to be read again, {to_delete:,} documents to be deleted: archive index")
+    print(f"server:   {folder.settings['server']}", end="" if journal.records and not is_offline else "\n", flush=True)
+    if not journal.records or is_offline:
+        return 0
+    try:
+        with Client(folder, "more") as client:
+            client.tell(f"key {folder.key()}")
+            line = client.line()
+            client.end()
+    except Trouble:
+        print(", not asked to the end")
+        raise
+    print(f", has all that is indexed ({line})")
+    return 0
+
+
+def leaks(folder):
+    """Prints what the server has learned, a line for each command. Returns the status."""
+    journal = Journal(folder)
+    if not journal.records:
+        raise Trouble(WORDS, "nothing was indexed yet, so the server has learned nothing")
+    script = [f"key {folder.key()}", *journal.script(folder.searches())]
+    lines, ended = shelf.run("\n".join(script).encode() + b"\n", "sse_leaks")
+    for line in lines:
+        print(line)
+    return ended

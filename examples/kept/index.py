@@ -1,0 +1,236 @@
+"""`archive index`: what is new, changed or gone since the last time is added and deleted."""
+import bisect
+import collections
+import os
+import secrets
+import random
+
+import shelf
+from kept import sources
+from kept.client import Client
+from kept.folder import JOURNAL_LOST, JOURNAL, TEXTS, WORDS, Trouble
+from kept.journal import Journal
+from kept.texts_file import Source, Text, Texts
+
+# identifiers are drawn below the larger of these: short ones, and many more than there are
+LEAST_RANGE, RANGE_FOR_EACH = 10**9, 1000
+NEW, CHANGED, GONE, MOVED, BEFORE = "new", "changed", "gone", "moved", "as before"
+
+
+def opened(folder):
+    """The journal, and the texts as it has them."""
+    journal, texts = Journal(folder), Texts(folder)
+    if journal.records < texts.records:
+        raise Trouble(JOURNAL_LOST, f"{folder.shown(JOURNAL)} has {journal.records} records and had {texts.records}: put it back from "
+                      "a copy that isn't older than the last `archive index`. Where there is none, index into a new archive with a "
+                      "server of its own; the texts are where they were")
+    texts.follow(journal)
+    return journal, texts
+
+
+def index(folder, paths, with_gone, progress):
+    """Prints what was done, and returns the status."""
+    journal, texts = opened(folder)
+    plan = Plan(folder, journal, texts, progress)
+    paths = plan.paths_of(paths, with_gone)
+    plan.read(paths)
+    plan.assign()
+    texts.paths = sorted(set(texts.paths) | set(paths))
+    refused = plan.carry_out() if plan.additions or texts.leaving else {}
+    texts.keep()
+    progress.end()
+    plan.reading.tell()
+    for line, count in refused.items():
+        shelf.say(f"{line} ({count} times)" if count > 1 else line)
+    print("indexed: " + ", ".join(f"{plan.counts[what]:,} {what}" for what in (NEW, CHANGED, MOVED, GONE, BEFORE)))
+    if plan.reading.places:
+        shelf.say("what couldn't be read stays as it was indexed before")
+    return int(bool(plan.reading.places or refused))
+
+
+class Plan:
+    """What the texts at some paths come to: the new state of their sources, documents to be added, and those to be deleted."""
+
+    def __init__(self, folder, journal, texts, progress):
+        self.folder, self.journal, self.texts, self.progress = folder, journal, texts, progress
+        self.reading = sources.Reading()
+        self.used = set(journal.used)
+        self.additions = []  # an identifier and the words of each document
+        self.unmatched = []  # texts that were read and have no identifiers yet, with their sources and words
+        self.left = collections.defaultdict(list)  # by checksum: texts that aren't where they were, with their sources
+        self.counts = collections.Counter()
+        self.pool = {}  # each word once, since texts share most of theirs
+
+    def paths_of(self, asked, with_gone):
+        paths = [os.path.realpath(path) for path in asked] or self.texts.paths
+        if not paths:
+            raise Trouble(WORDS, "nothing was indexed yet: say what, `archive index PATHS..`")
+        for path in paths:
+            if not os.path.lexists(path) and not with_gone:
+                raise Trouble(WORDS, f"{shelf.on_a_line(path)} isn't there: name another path; or, where its texts are gone for good, "
+                              "`archive index --gone` with it deletes them. Nothing was changed")
+        return paths
+
+    def read(self, paths):
+        before = {key for path in paths for key in self.texts.below(path)}
+        files = (file for path in paths if os.path.lexists(path) for file in sources.files_at(path, self.folder.path, self.reading))
+        looked_at, seen = set(), set()
+        for file in files:
+            if file not in looked_at:
+                looked_at.add(file)
+                self.progress.show("archive: {:,} files looked at, {:,} texts to be added", len(looked_at), len(self.unmatched))
+                key = sources.key_of(file)
+                # two files whose names differ in flags alone aren't the same
+                key = file if key in seen else key
+                seen.add(key)
+                self.take(key, file)
+        for key in before - seen:
+            source = self.texts.sources[key]
+            if self.reading.covers(source.path):
+                self.counts[BEFORE] += len(source.texts)
+            else:
+                self.part_with(self.texts.sources.pop(key))
+
+    def take(self, key, path):
+        """A file that is there: as before, or read."""
+        known = self.texts.sources.get(key)
+        if known and known.state and known.state == self.state_of(path):
+            known.path = path
+            self.counts[BEFORE] += len(known.texts)
+            return
+        read = sources.texts_of(path, self.reading)
+        if read is None:
+            self.counts[BEFORE] += len(known.texts) if known else 0
+            return
+        kind, state, found = read
+        source = Source(path, kind, state, [])
+        held = collections.defaultdict(list)
+        for text in known.texts if known else []:
+            held[text.held].append(text)
+        for label, pieces in found:
+            self.take_text(source, label, sources.words_in(label, pieces, self.reading), held)
+        self.counts[CHANGED] += self.is_change(known, source, held)
+        for texts in held.values():
+            for text in texts:
+                self.left[text.held].append((source, text))
+        if kind is None:
+            self.texts.sources.pop(key, None)
+        else:
+            self.texts.sources[key] = source
+
+    def state_of(self, path):
+        try:
+            return sources.state_of(os.stat(path))
+        except OSError:
+            return None
+
+    def take_text(self, source, label, words, held):
+        """A text of a source: one that held the same before, or one for which that is still to be found."""
+        mark = sources.checksum(words)
+        text = held[mark].pop() if held[mark] else None
+        if text:
+            text.label = label
+            self.counts[BEFORE] += 1
+        else:
+            text = Text(label, mark, None)
+            self.unmatched.append((source, text, [self.pool.setdefault(word, word) for word in words]))
+        source.texts.append(text)
+
+    def is_change(self, known, source, held):
+        """Whether a file of one text holds another one than before. It is counted as that, and not as a new one and one that is gone."""
+        is_one = known and known.kind == source.kind and len(known.texts) == len(source.texts) == 1
+        return bool(is_one and any(held.values()))
+
+    def part_with(self, source):
+        for text in source.texts:
+            self.left[text.held].append((source, text))
+
+    def assign(self):
+        """Gives each new text the identifiers of one that isn't where it was and held the same, or new ones."""
+        for source, text, words in self.unmatched:
+            others = self.left[text.held]
+            if others:
+                text.identifiers = others.pop()[1].identifiers
+                self.counts[MOVED] += 1
+                continue
+            text.identifiers = []
+            for part in shelf.documents_of(words):
+                text.identifiers.append(self.fresh())
+                self.additions.append((text.identifiers[-1], part))
+            self.counts[NEW] += 1
+        for others in self.left.values():
+            for source, text in others:
+                self.texts.leave(source, text)
+                self.counts[GONE] += 1
+        both = min(self.counts[CHANGED], self.counts[NEW], self.counts[GONE])
+        self.counts.update({CHANGED: both - self.counts[CHANGED], NEW: -both, GONE: -both})
+
+    def fresh(self):
+        """An identifier that no document has or had: a document under one that was deleted would show that it is the same."""
+        limit = max(LEAST_RANGE, RANGE_FOR_EACH * len(self.used))
+        while True:
+            number = secrets.randbelow(limit) + 1
+            if number not in self.used:
+                self.used.add(number)
+                return number
+
+    def carry_out(self):
+        """Keeps what is to be, then has the client do it. Returns what was refused, each line with how often."""
+        deletions = list(self.texts.leaving)
+        # numbers and order are drawn at random, so that they say nothing of the texts
+        random.SystemRandom().shuffle(self.additions)
+        random.SystemRandom().shuffle(deletions)
+        mode = "more" if self.journal.records else "run"
+        if mode == "run" and not self.additions:
+            return {}
+        self.texts.keep()
+        refused = self.send(mode, self.script(mode, deletions), len(self.additions) + len(deletions))
+        self.texts.follow(Journal(self.folder))
+        return refused
+
+    def script(self, mode, deletions):
+        """What is added comes before what is deleted, so that a text that changed is found at any moment."""
+        yield f"key {self.folder.key()}"
+        count = 0
+        if mode == "run":
+            sizes = [self.folder.settings[name] for name in "bBQ"]
+            count = first_setup([words for _, words in self.additions], *sizes)
+            for identifier, words in self.additions[:count]:
+                yield " ".join(["doc", str(identifier), *words])
+            yield "setup {} {} {}".format(*sizes)
+        for identifier, words in self.additions[count:]:
+            yield " ".join(["add", str(identifier), *words])
+        for identifier in deletions:
+            yield f"del {identifier}"
+
+    def send(self, mode, script, count):
+        refused, done = collections.Counter(), 0
+        script = list(script)
+        if mode == "run":
+            self.progress.show("archive: the first {:,} texts are set up", count)
+        with Client(self.folder, mode) as client:
+            client.tell_all(script)
+            for line in client.lines():
+                if line.startswith("refused: "):
+                    refused[line] += 1
+                done += line.startswith(("added ", "deleted "))
+                self.progress.show("archive: {:,} of {:,} documents added or deleted", done, count)
+        return refused
+
+
+def first_setup(documents, b, block, multiple):
+    """How many of the documents one setup of these sizes holds."""
+
+    def is_too_large(count):
+        lengths = collections.Counter(word for words in documents[:count] for word in words).values()
+        return (max(lengths, default=0) > b * block * block
+                or shelf.index_bytes(lengths, b, block, multiple) > shelf.INDEX_BYTES)
+
+    class Sizes:
+        """Whether so many are too large, as a list that rises from False to True."""
+
+        def __getitem__(self, count):
+            return is_too_large(count)
+
+    count = shelf.first_setup(documents)
+    return count if not is_too_large(count) else bisect.bisect_left(Sizes(), True, 0, count) - 1

@@ -1,0 +1,110 @@
+"""What an archive knows of its texts: the file `texts` of its folder, as JSON.
+
+A source is a file with one text, or with several (an mbox file, a CSV file). Its texts are known again by what they hold,
+so one may stand at another place of its file, or in another file, and keep its identifiers. The file is written before
+anything is sent, with the identifiers that texts are to get and those that are still to be deleted; which of both are
+there is then told by the journal (`follow`).
+"""
+import json
+import os
+
+import shelf
+from kept.folder import DISK, TEXTS, Trouble, write_whole
+
+VERSION = 1
+NO_NAME = ["", "(its name was lost)"]
+
+
+class Text:
+    """A line that names it, a checksum of its words, and the identifiers of its documents."""
+
+    __slots__ = ("label", "held", "identifiers")
+
+    def __init__(self, label, held, identifiers):
+        self.label, self.held, self.identifiers = label, held, identifiers
+
+
+class Source:
+    """Where it is, what it is, its size and time when it was read (None where it is to be read again), and its texts."""
+
+    __slots__ = ("path", "kind", "state", "texts")
+
+    def __init__(self, path, kind, state, texts):
+        self.path, self.kind, self.state, self.texts = path, kind, state, texts
+
+
+class Texts:
+    def __init__(self, folder):
+        self.folder = folder
+        self.sources = {}  # by key: a path that stays where a mail's flags change
+        self.leaving = {}  # identifiers that are to be deleted: the path and the label of each
+        self.paths = []  # what `archive index` was told
+        self.records = 0  # how many the journal had when this was written
+        self.read()
+
+    def read(self):
+        try:
+            with open(self.folder.of(TEXTS), encoding="ascii") as file:
+                kept = json.load(file)
+            if kept["version"] != VERSION:
+                raise ValueError(kept["version"])
+            self.paths, self.records = kept["paths"], kept["records"]
+            self.leaving = {int(identifier): name for identifier, name in kept["leaving"].items()}
+            for key, (path, kind, state, texts) in kept["sources"].items():
+                self.sources[key] = Source(path, kind, state, [Text(*text) for text in texts])
+        except FileNotFoundError:
+            pass
+        except (ValueError, KeyError, TypeError, AttributeError):
+            raise Trouble(DISK, f"{self.folder.shown(TEXTS)} is damaged: put it back from a copy; or move it away, and `archive "
+                          "index PATHS..` indexes all texts anew and deletes those that are there") from None
+
+    def keep(self):
+        sources = {
+            key: [source.path, source.kind, source.state, [[text.label, text.held, text.identifiers] for text in source.texts]]
+            for key, source in self.sources.items()
+        }
+        kept = {"version": VERSION, "paths": self.paths, "records": self.records, "leaving": self.leaving, "sources": sources}
+        write_whole(self.folder.of(TEXTS), json.dumps(kept, separators=(",", ":")).encode())
+
+    def follow(self, journal):
+        """Brings this to what the journal says: a text is there where all of its documents are; what is there of another one
+        is to be deleted, and its source to be read again."""
+        for source in self.sources.values():
+            there = [text for text in source.texts if all(number in journal.live for number in text.identifiers)]
+            if len(there) < len(source.texts):
+                for text in set(source.texts) - set(there):
+                    self.leave(source, text)
+                source.texts, source.state = there, None
+        self.leaving = {number: name for number, name in self.leaving.items() if number in journal.live}
+        named = {number for source in self.sources.values() for text in source.texts for number in text.identifiers}
+        for number in journal.live:
+            if number not in named:
+                self.leaving.setdefault(number, NO_NAME)
+        self.records = journal.records
+
+    def leave(self, source, text):
+        for number in text.identifiers:
+            self.leaving[number] = [source.path, text.label]
+
+    def below(self, path):
+        """The keys of the sources at a path or in its folders."""
+        inside = os.path.join(path, "")
+        return [key for key in self.sources if key == path or key.startswith(inside)]
+
+    def by_identifier(self):
+        """For each identifier the path of its text, its label, and the first identifier of it."""
+        found = {number: (*name, number) for number, name in self.leaving.items()}
+        for source in self.sources.values():
+            for text in source.texts:
+                for number in text.identifiers:
+                    found[number] = (source.path, text.label, text.identifiers[0])
+        return found
+
+    def to_do(self):
+        """How many sources are to be read again, and how many documents to be deleted."""
+        return sum(source.state is None for source in self.sources.values()), len(self.leaving)
+
+
+def shown(path, label):
+    """A text's name in a line: a label that is its path, or begins with it, or one that says more than a path."""
+    return shelf.on_a_line(label or path)
