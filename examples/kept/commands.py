@@ -8,8 +8,10 @@ from kept import sources
 from kept.client import Client
 from kept.folder import SEARCHES, WORDS, Trouble
 from kept.index import opened
-from kept.journal import Journal
-from kept.texts_file import Texts
+
+
+# how wide numbers of texts are printed
+NUMBER_WIDTH = 6
 
 
 def search(folder, queries, files, with_zeros, progress):
@@ -21,24 +23,32 @@ def search(folder, queries, files, with_zeros, progress):
     if any(fault for _, fault in faults):
         return 1
     words = list(dict.fromkeys(word for query in queries for word in shelf.words_of(query)))
-    texts = Texts(folder)
-    names = texts.by_identifier()
-    found = searched(folder, words, names, progress)
+    journal, texts = opened(folder)
+    found = searched(folder, journal, words, texts.by_identifier(), progress)
     progress.end()
     if files:
         end = "\0" if with_zeros else "\n"
         for path in sorted({path for path, _, _ in found}):
-            print_raw(path if with_zeros else shelf.on_a_line(path), end)
+            print_raw(path if with_zeros else shelf.on_a_line(nearer(path)), end)
         return 0
     print(f"{' '.join(words)}: {len(found):,}")
-    for path, label, number in sorted(found, key=lambda name: (name[1] or name[0], name[2])):
-        print(f"  {number:>9}  {shelf.on_a_line(label or path)}")
+    for _, label, number in sorted(found, key=lambda name: name[1:]):
+        print_name(number, label)
     return 0
 
 
-def searched(folder, words, names, progress):
-    """The names of the texts that hold all words, as (path, label, identifier). Behind a word that nothing is left with no other is searched."""
-    journal = Journal(folder)
+def print_name(number, label):
+    print(f"  {number:>{NUMBER_WIDTH}}  {shelf.on_a_line(nearer(label))}")
+
+
+def nearer(path):
+    """A path, or a label that begins with one, from the current folder on where it is below that."""
+    here = os.path.join(os.getcwd(), "")
+    return path[len(here) :] if path.startswith(here) and here != os.sep else path
+
+
+def searched(folder, journal, words, names, progress):
+    """The names of the texts that hold all words, as (path, label, identifier). Behind a word with which none is left no other is searched."""
     if not journal.records:
         raise Trouble(WORDS, "nothing was indexed yet: say what, `archive index PATHS..`")
     kept = folder.searches()
@@ -52,8 +62,8 @@ def searched(folder, words, names, progress):
             kept.append((journal.records, word))
             folder.keep_searches(kept)
             client.tell(f"find {word}")
-            numbers = client.line().partition(":")[2].split()
-            held = {names.get(int(number), ("", f"(text {number}, whose name isn't known)", int(number))) for number in numbers}
+            identifiers = client.line().partition(":")[2].split()
+            held = {names.get(int(identifier), ("", f"(document {identifier}, which isn't of this archive)", 0)) for identifier in identifiers}
             found = held if found is None else found & held
             if not found:
                 break
@@ -72,28 +82,24 @@ def show(folder, name):
     _, texts = opened(folder)
     found = named(texts, name)
     if not found:
-        raise Trouble(1, f"nothing is indexed as {shelf.on_a_line(name)}: give the number that `archive search` prints, or a path")
+        raise Trouble(1, f"nothing is indexed as {shelf.on_a_line(name)}: give a number that `archive search` prints, or a path")
     if len(found) > 1:
         print(f"{shelf.on_a_line(name)}: {len(found):,} texts, each shown by its number")
         for source, text in found:
-            print(f"  {first(text):>9}  {shelf.on_a_line(text.label)}")
+            print_name(text.number, text.label)
         return 1
     source, text = found[0]
     return print_text(source, text)
-
-
-def first(text):
-    return text.identifiers[0] if text.identifiers else "-"
 
 
 def named(texts, name):
     """The texts that a name is for: a number, a path, a label."""
     every = [(source, text) for source in texts.sources.values() for text in source.texts]
     if name.isdecimal() and name.isascii():
-        found = [(source, text) for source, text in every if int(name) in text.identifiers]
+        found = [(source, text) for source, text in every if int(name) == text.number]
         if found:
             return found
-    path = os.path.realpath(name)
+    path = os.path.abspath(name)
     found = [(source, text) for source, text in every if path == source.path]
     return found or [(source, text) for source, text in every if name == text.label]
 
@@ -106,8 +112,8 @@ def print_text(source, text):
     if not same and len(found) != 1:
         raise Trouble(1, f"{shelf.on_a_line(source.path)} has changed since it was indexed, or is gone: `archive index` it again. The "
                       f"text was {shelf.on_a_line(text.label)}")
-    print(f"File: {shelf.on_a_line(source.path)}")
-    print(f"Text: {' '.join(map(str, text.identifiers)) or 'without a word'}")
+    print(f"File: {shelf.on_a_line(nearer(source.path))}")
+    print(f"Text: {text.number}, at the server {' '.join(map(str, text.identifiers)) or 'nothing, as it has no word'}")
     for name, piece in same[0] if same else found[0][1]:
         print(printable(f"{name}: {' '.join(piece.split())}" if name else f"\n{piece}"))
     if not same:
@@ -140,7 +146,7 @@ def status(folder, is_offline):
     print(f"archive:  {shelf.on_a_line(folder.path)}")
     print(f"indexed:  {len(every):,} texts of {len(texts.sources):,} files, {sum(journal.live.values()):,} words, each once for a text")
     for path in texts.paths:
-        print(f"  {shelf.on_a_line(path)}")
+        print(f"          {shelf.on_a_line(nearer(path))}")
     print(f"journal:  {journal.records:,} records, {journal.bytes:,} bytes")
     print(f"searched: {len(folder.searches()):,} words, kept in {SEARCHES}")
     if to_read or to_delete:
@@ -162,7 +168,7 @@ def status(folder, is_offline):
 
 def leaks(folder):
     """Prints what the server has learned, a line for each command. Returns the status."""
-    journal = Journal(folder)
+    journal, _ = opened(folder)
     if not journal.records:
         raise Trouble(WORDS, "nothing was indexed yet, so the server has learned nothing")
     script = [f"key {folder.key()}", *journal.script(folder.searches())]

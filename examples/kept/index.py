@@ -62,7 +62,7 @@ class Plan:
         self.pool = {}  # each word once, since texts share most of theirs
 
     def paths_of(self, asked, with_gone):
-        paths = [os.path.realpath(path) for path in asked] or self.texts.paths
+        paths = [os.path.abspath(path) for path in asked] or self.texts.paths
         if not paths:
             raise Trouble(WORDS, "nothing was indexed yet: say what, `archive index PATHS..`")
         for path in paths:
@@ -109,7 +109,7 @@ class Plan:
             held[text.held].append(text)
         for label, pieces in found:
             self.take_text(source, label, sources.words_in(label, pieces, self.reading), held)
-        self.counts[CHANGED] += self.is_change(known, source, held)
+        self.note_change(known, source)
         for texts in held.values():
             for text in texts:
                 self.left[text.held].append((source, text))
@@ -132,14 +132,17 @@ class Plan:
             text.label = label
             self.counts[BEFORE] += 1
         else:
-            text = Text(label, mark, None)
+            text = Text(None, label, mark, None)
             self.unmatched.append((source, text, [self.pool.setdefault(word, word) for word in words]))
         source.texts.append(text)
 
-    def is_change(self, known, source, held):
-        """Whether a file of one text holds another one than before. It is counted as that, and not as a new one and one that is gone."""
-        is_one = known and known.kind == source.kind and len(known.texts) == len(source.texts) == 1
-        return bool(is_one and any(held.values()))
+    def note_change(self, known, source):
+        """Of a file of one text, which holds another one than before: that keeps its number, and is neither new nor gone."""
+        if known and known.kind == source.kind and len(known.texts) == len(source.texts) == 1:
+            (before,), (now,) = known.texts, source.texts
+            if now.number is None:
+                now.number = before.number
+                self.counts.update({CHANGED: 1, NEW: -1, GONE: -1})
 
     def part_with(self, source):
         for text in source.texts:
@@ -147,12 +150,15 @@ class Plan:
 
     def assign(self):
         """Gives each new text the identifiers of one that isn't where it was and held the same, or new ones."""
-        for source, text, words in self.unmatched:
+        for _, text, words in self.unmatched:
             others = self.left[text.held]
             if others:
-                text.identifiers = others.pop()[1].identifiers
-                self.counts[MOVED] += 1
+                _, other = others.pop()
+                text.identifiers = other.identifiers
+                self.counts.update({NEW: 1, GONE: 1} if text.number else {MOVED: 1})
+                text.number = text.number or other.number
                 continue
+            text.number = text.number or self.texts.next_number()
             text.identifiers = []
             for part in shelf.documents_of(words):
                 text.identifiers.append(self.fresh())
@@ -162,8 +168,6 @@ class Plan:
             for source, text in others:
                 self.texts.leave(source, text)
                 self.counts[GONE] += 1
-        both = min(self.counts[CHANGED], self.counts[NEW], self.counts[GONE])
-        self.counts.update({CHANGED: both - self.counts[CHANGED], NEW: -both, GONE: -both})
 
     def fresh(self):
         """An identifier that no document has or had: a document under one that was deleted would show that it is the same."""

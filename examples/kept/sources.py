@@ -140,9 +140,7 @@ def read_rows(path, file, reading):
 
 
 def read_mail(path, file, reading):
-    found = mail_in(file, path, reading)
-    if found:
-        yield found
+    yield mail_in(file, path, reading)
 
 
 def read_mbox(path, _, reading):
@@ -150,9 +148,7 @@ def read_mbox(path, _, reading):
     try:
         for number in box.keys():
             with box.get_file(number) as file:
-                found = mail_in(file, f"{path}: {number + 1}", reading)
-            if found:
-                yield found
+                yield mail_in(file, f"{path}: {number + 1}", reading)
     except KeyError:
         raise Changed from None
     finally:
@@ -160,17 +156,20 @@ def read_mbox(path, _, reading):
 
 
 def mail_in(file, place, reading):
+    """A mail's label and pieces."""
     try:
-        message = mails.message_in(file, place, reading)
-        return mails.label_of(message, place, reading), list(mails.pieces_of(message, place, reading, mails.FIELDS))
+        return taken_apart(mails.message_in(file, place, reading), place, reading)
     except OSError:
         raise
-    except RecursionError:
-        reading.leave_out("mails with too many parts in one another", place)
     except Exception as error:  # pylint: disable=broad-except
-        # the library raises errors of many kinds at mails that are damaged enough; one such mail isn't to keep the others out
-        reading.leave_out(f"mails that can't be taken apart ({type(error).__name__})", place)
-    return None
+        # the library raises errors of many kinds at mails that are damaged enough, or that have too many parts in one another
+        reading.leave_out(f"mails that can't be taken apart ({type(error).__name__}), whose texts are taken as they stand", place)
+        file.seek(0)
+        return taken_apart(mails.message_as_it_stands(file), place, reading)
+
+
+def taken_apart(message, place, reading):
+    return mails.label_of(message, place, reading), list(mails.pieces_of(message, place, reading, mails.FIELDS))
 
 
 READERS = {TEXT: read_text, ROWS: read_rows, MAIL: read_mail, MBOX: read_mbox}

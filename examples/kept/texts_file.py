@@ -8,20 +8,21 @@ there is then told by the journal (`follow`).
 import json
 import os
 
-import shelf
 from kept.folder import DISK, TEXTS, Trouble, write_whole
 
 VERSION = 1
-NO_NAME = ["", "(its name was lost)"]
 
 
 class Text:
-    """A line that names it, a checksum of its words, and the identifiers of its documents."""
+    """A number and a line that name it here, a checksum of its words, and the identifiers of its documents."""
 
-    __slots__ = ("label", "held", "identifiers")
+    __slots__ = ("number", "label", "held", "identifiers")
 
-    def __init__(self, label, held, identifiers):
-        self.label, self.held, self.identifiers = label, held, identifiers
+    def __init__(self, number, label, held, identifiers):
+        self.number, self.label, self.held, self.identifiers = number, label, held, identifiers
+
+    def kept(self):
+        return [self.number, self.label, self.held, self.identifiers]
 
 
 class Source:
@@ -37,8 +38,9 @@ class Texts:
     def __init__(self, folder):
         self.folder = folder
         self.sources = {}  # by key: a path that stays where a mail's flags change
-        self.leaving = {}  # identifiers that are to be deleted: the path and the label of each
+        self.leaving = {}  # identifiers that are to be deleted: the path, the label and the number of each
         self.paths = []  # what `archive index` was told
+        self.last = 0  # the last number that a text was given
         self.records = 0  # how many the journal had when this was written
         self.read()
 
@@ -48,7 +50,7 @@ class Texts:
                 kept = json.load(file)
             if kept["version"] != VERSION:
                 raise ValueError(kept["version"])
-            self.paths, self.records = kept["paths"], kept["records"]
+            self.paths, self.records, self.last = kept["paths"], kept["records"], kept["last"]
             self.leaving = {int(identifier): name for identifier, name in kept["leaving"].items()}
             for key, (path, kind, state, texts) in kept["sources"].items():
                 self.sources[key] = Source(path, kind, state, [Text(*text) for text in texts])
@@ -60,31 +62,36 @@ class Texts:
 
     def keep(self):
         sources = {
-            key: [source.path, source.kind, source.state, [[text.label, text.held, text.identifiers] for text in source.texts]]
+            key: [source.path, source.kind, source.state, [text.kept() for text in source.texts]]
             for key, source in self.sources.items()
         }
-        kept = {"version": VERSION, "paths": self.paths, "records": self.records, "leaving": self.leaving, "sources": sources}
+        kept = {"version": VERSION, "paths": self.paths, "records": self.records, "last": self.last, "leaving": self.leaving,
+                "sources": sources}
         write_whole(self.folder.of(TEXTS), json.dumps(kept, separators=(",", ":")).encode())
 
     def follow(self, journal):
         """Brings this to what the journal says: a text is there where all of its documents are; what is there of another one
         is to be deleted, and its source to be read again."""
         for source in self.sources.values():
-            there = [text for text in source.texts if all(number in journal.live for number in text.identifiers)]
+            there = [text for text in source.texts if all(identifier in journal.live for identifier in text.identifiers)]
             if len(there) < len(source.texts):
                 for text in set(source.texts) - set(there):
                     self.leave(source, text)
                 source.texts, source.state = there, None
-        self.leaving = {number: name for number, name in self.leaving.items() if number in journal.live}
-        named = {number for source in self.sources.values() for text in source.texts for number in text.identifiers}
-        for number in journal.live:
-            if number not in named:
-                self.leaving.setdefault(number, NO_NAME)
+        self.leaving = {identifier: name for identifier, name in self.leaving.items() if identifier in journal.live}
+        named = {identifier for source in self.sources.values() for text in source.texts for identifier in text.identifiers}
+        for identifier in journal.live:
+            if identifier not in named:
+                self.leaving.setdefault(identifier, ["", f"(document {identifier}, whose name was lost)", 0])
         self.records = journal.records
 
     def leave(self, source, text):
-        for number in text.identifiers:
-            self.leaving[number] = [source.path, text.label]
+        for identifier in text.identifiers:
+            self.leaving[identifier] = [source.path, text.label, text.number]
+
+    def next_number(self):
+        self.last += 1
+        return self.last
 
     def below(self, path):
         """The keys of the sources at a path or in its folders."""
@@ -92,19 +99,15 @@ class Texts:
         return [key for key in self.sources if key == path or key.startswith(inside)]
 
     def by_identifier(self):
-        """For each identifier the path of its text, its label, and the first identifier of it."""
-        found = {number: (*name, number) for number, name in self.leaving.items()}
+        """For each identifier the path, the label and the number of its text."""
+        found = {identifier: tuple(name) for identifier, name in self.leaving.items()}
         for source in self.sources.values():
             for text in source.texts:
-                for number in text.identifiers:
-                    found[number] = (source.path, text.label, text.identifiers[0])
+                for identifier in text.identifiers:
+                    found[identifier] = (source.path, text.label, text.number)
         return found
 
     def to_do(self):
         """How many sources are to be read again, and how many documents to be deleted."""
         return sum(source.state is None for source in self.sources.values()), len(self.leaving)
 
-
-def shown(path, label):
-    """A text's name in a line: a label that is its path, or begins with it, or one that says more than a path."""
-    return shelf.on_a_line(label or path)

@@ -9,7 +9,9 @@ import email.errors
 import email.header
 import email.policy
 import email.utils
+import email.parser
 import html.parser
+import io
 import re
 
 # what a person reads of a header
@@ -56,11 +58,35 @@ def message_in(file, place, report):
     return email.message_from_bytes(content, policy=AS_THEY_STAND)
 
 
+def message_as_it_stands(file):
+    """The mail in a file with its body as one text, for one that can't be taken apart."""
+    message = email.parser.BytesHeaderParser(policy=AS_THEY_STAND).parsebytes(file.read(TEXT_BYTES))
+    for name in ("content-type", "content-transfer-encoding"):
+        del message[name]
+    return message
+
+
+class Raw(io.RawIOBase):
+    """A file to be read in pieces: those that the mailbox module hands out are slow where they are read by lines."""
+
+    def __init__(self, file):
+        super().__init__()
+        self.file = file
+
+    def readable(self):
+        return True
+
+    def readinto(self, buffer):
+        piece = self.file.read(len(buffer))
+        buffer[: len(piece)] = piece
+        return len(piece)
+
+
 class Lightened:
     """A mail's lines without the bodies of parts that aren't text."""
 
     def __init__(self, file, place, report):
-        self.file, self.place, self.report = file, place, report
+        self.file, self.place, self.report = io.BufferedReader(Raw(file), LINE_BYTES), place, report
         self.boundaries = []  # of the parts that are open, the outermost first
         self.header = []  # its lines so far; None in a body
         self.left = TEXT_BYTES  # how much of a body, or of a header, still counts
@@ -185,7 +211,7 @@ def decoded(part, place, report):
         report.leave_out("what can't be read of damaged parts of mails", place)
     try:
         return report.decoded(content, place, known(part.get_content_charset("utf-8")))
-    except (LookupError, ValueError):
+    except (LookupError, ValueError, TypeError):
         report.leave_out("character sets that aren't known, taken for UTF-8", place)
         return report.decoded(content, place)
 
