@@ -2,13 +2,13 @@
 import bisect
 import collections
 import os
-import secrets
 import random
+import secrets
 
 import shelf
 from kept import sources
 from kept.client import Client
-from kept.folder import JOURNAL_LOST, JOURNAL, TEXTS, WORDS, Trouble
+from kept.folder import JOURNAL, JOURNAL_LOST, WORDS, Trouble
 from kept.journal import Journal
 from kept.texts_file import Source, Text, Texts
 
@@ -56,6 +56,7 @@ class Plan:
         self.reading = sources.Reading()
         self.used = set(journal.used)
         self.additions = []  # an identifier and the words of each document
+        self.set_up = 0  # how many of them the setup has
         self.unmatched = []  # texts that were read and have no identifiers yet, with their sources and words
         self.left = collections.defaultdict(list)  # by checksum: texts that aren't where they were, with their sources
         self.counts = collections.Counter()
@@ -195,14 +196,13 @@ class Plan:
     def script(self, mode, deletions):
         """What is added comes before what is deleted, so that a text that changed is found at any moment."""
         yield f"key {self.folder.key()}"
-        count = 0
         if mode == "run":
             sizes = [self.folder.settings[name] for name in "bBQ"]
-            count = first_setup([words for _, words in self.additions], *sizes)
-            for identifier, words in self.additions[:count]:
+            self.set_up = first_setup([words for _, words in self.additions], *sizes)
+            for identifier, words in self.additions[: self.set_up]:
                 yield " ".join(["doc", str(identifier), *words])
             yield "setup {} {} {}".format(*sizes)
-        for identifier, words in self.additions[count:]:
+        for identifier, words in self.additions[self.set_up :]:
             yield " ".join(["add", str(identifier), *words])
         for identifier in deletions:
             yield f"del {identifier}"
@@ -210,14 +210,13 @@ class Plan:
     def send(self, mode, script, count):
         refused, done = collections.Counter(), 0
         script = list(script)
-        if mode == "run":
-            self.progress.show("archive: the first {:,} texts are set up", count)
+        self.progress.show("archive: {:,} documents are set up together" if mode == "run" else "archive: the client goes on", self.set_up)
         with Client(self.folder, mode) as client:
             client.tell_all(script)
             for line in client.lines():
                 if line.startswith("refused: "):
                     refused[line] += 1
-                done += line.startswith(("added ", "deleted "))
+                done += self.set_up if line.startswith("set up ") else line.startswith(("added ", "deleted "))
                 self.progress.show("archive: {:,} of {:,} documents added or deleted", done, count)
         return refused
 
