@@ -4,6 +4,7 @@
 # make check  the whole gate: every proof, test, must-fail edit and end-to-end check
 # make quick  what can be told without a proof: layers, documents, and what has to compile and what mustn't
 # make docs   the checks of documents and layers alone, in seconds
+# make draw   draws the pictures of the documents anew, from what they show
 # make bench  times bin/sse_local on made-up scripts, and the rows of bin/sse_bench
 # make clean  forgets what was proved and built in this checkout
 # make help   prints these lines
@@ -19,7 +20,7 @@ LAST = bin/.seconds
 # what make try runs
 SCRIPT = examples/first.sse
 
-.PHONY: all try demo check quick docs bench clean help
+.PHONY: all try demo check quick docs draw bench clean help
 
 all: $(PROGRAMS:%=bin/%)
 
@@ -59,6 +60,9 @@ docs:
 	.ci/layers
 	.ci/documents
 	.ci/documents --self-test
+
+draw:
+	docs/pictures/make_pictures.py
 
 help:
 	@sed -n 's/^# \(make .*\)/\1/p' Makefile

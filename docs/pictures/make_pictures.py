@@ -1,0 +1,26 @@
+#!/usr/bin/env python3
+"""Makes the pictures of the documents: docs/sides.svg of crates.txt, docs/ARCHITECTURE.md and docs/FORMATS.md.
+
+    docs/pictures/make_pictures.py
+
+`.ci/documents` tells where one that is there isn't the one that this makes."""
+import os
+import sys
+
+sys.dont_write_bytecode = True
+sys.path.insert(0, os.path.dirname(os.path.abspath(__file__)))
+import sides  # noqa: E402
+
+# each picture's path from the top, and what makes it
+PICTURES = {"docs/sides.svg": sides.picture}
+
+
+def main():
+    for path, made in PICTURES.items():
+        with open(os.path.join(sides.TOP, path), "w", encoding="utf-8") as file:
+            file.write(made())
+        print(f"pictures: {path}")
+
+
+if __name__ == "__main__":
+    main()
