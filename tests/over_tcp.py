@@ -1,5 +1,5 @@
 """What checks of the programs over TCP share: servers that are started on a free port of this machine and ended by their own number,
-what has to pass for a script and to stand in the server's journal, a script in parts, files, and a list of checks that is gone
+clients, what has to pass for a script and to stand in both journals, a script in parts, files, and a list of checks that is gone
 through, each in a folder of its own."""
 import concurrent.futures
 import multiprocessing
@@ -12,11 +12,13 @@ import tempfile
 import compare
 import journal_model
 import leak_model
+import record_model
 import script_model
 
 TOP = os.path.dirname(os.path.dirname(os.path.abspath(__file__)))
 SERVED = os.path.join(TOP, "crates", "sse_served", "out", "sse_served")
 NET = os.path.join(TOP, "crates", "sse_net", "out", "sse_net")
+KEY = b"key " + b"0" * 64 + b"\n"
 HOST = "127.0.0.1"
 SERVING = b"serving\n"
 NO_ADDRESS = b"stopped: link\n"
@@ -83,13 +85,53 @@ def exchanges(script):
     return frames
 
 
+def by_command(frames):
+    """What passes for each command, the greeting first: the frames of a setup behind its first one belong to it."""
+    commands = []
+    for exchange in frames:
+        if exchange[0][4] in range(3, 6):
+            commands[-1].append(exchange)
+        else:
+            commands.append([exchange])
+    return commands
+
+
+def parts(script):
+    """The text up to the setup that is accepted, then of each command behind it, each with the lines that it prints."""
+    lines, found, begin, told = script_model.lines_of(script), [], 0, b""
+    for end, line in enumerate(lines, 1):
+        if found or line.lstrip(b" ").startswith(b"setup"):
+            printed, _ = script_model.answer(b"\n".join(lines[:end]))
+            if len(printed) > len(told) and b"\nset up " in b"\n" + printed:
+                found.append((b"".join(line + b"\n" for line in lines[begin:end]), printed[len(told):]))
+                begin, told = end, printed
+    return found
+
+
 def is_update(frame):
     return frame[4] in UPDATES
 
 
+def server_records(frames):
+    """The payloads in the journal of a server that took these, each with its replies."""
+    return [frame[4:] for frame, _ in frames if is_update(frame)]
+
+
 def server_journal(frames):
-    """The journal of a server that took these, each with its replies."""
-    return journal_model.file_of([frame[4:] for frame, _ in frames if is_update(frame)])
+    return journal_model.file_of(server_records(frames))
+
+
+def client_path(path):
+    return path + ".client"
+
+
+def client_journal(script):
+    return journal_model.file_of(record_model.records(script))
+
+
+def have_journals(path, script, frames):
+    same("the server's journal", read(path), server_journal(frames))
+    same("the client's journal", read(client_path(path)), client_journal(script))
 
 
 def parts(script):
@@ -123,8 +165,8 @@ def by_command(frames):
 
 
 class Server:
-    """The server's program over a journal, listening; it is ended where the block is left. What is given besides is how it is
-    started."""
+    """The server's program over a journal, listening; it is ended where the block is left. Where no address is given, another free one
+    is tried as long as one is taken in between. What is given besides is how it is started."""
 
     def __init__(self, path, *count, address=None, folder=None, **given):
         for _ in range(TRIES):
@@ -151,6 +193,27 @@ class Server:
         rest, _ = self.process.communicate(timeout=SECONDS)
         same("what is printed", self.printed + rest, line)
         same("the status", self.process.returncode, status)
+
+
+def next_number(server):
+    """How many update frames the server has taken, as it tells another peer."""
+    with server.connect() as peer:
+        peer.sendall(leak_model.framed(1))
+        reply = receive(peer, 9)
+    same("the kind of the reply to a greeting", reply[:5], b"\0\0\0\5\x81")
+    return int.from_bytes(reply[5:], "big")
+
+
+def client(address, path, mode, script):
+    """What the client's program prints, and its status."""
+    ran = subprocess.run([NET, address, path, mode], input=script, stdout=subprocess.PIPE, timeout=SECONDS, check=False)
+    return ran.stdout, ran.returncode
+
+
+def run(address, path, mode, script, lines, status):
+    printed, ended = client(address, path, mode, script)
+    same(f"what {mode} prints", printed, lines)
+    same(f"the status of {mode}", ended, status)
 
 
 def ends(program, words, line, status, script=b""):
