@@ -85,53 +85,8 @@ def exchanges(script):
     return frames
 
 
-def by_command(frames):
-    """What passes for each command, the greeting first: the frames of a setup behind its first one belong to it."""
-    commands = []
-    for exchange in frames:
-        if exchange[0][4] in range(3, 6):
-            commands[-1].append(exchange)
-        else:
-            commands.append([exchange])
-    return commands
-
-
-def parts(script):
-    """The text up to the setup that is accepted, then of each command behind it, each with the lines that it prints."""
-    lines, found, begin, told = script_model.lines_of(script), [], 0, b""
-    for end, line in enumerate(lines, 1):
-        if found or line.lstrip(b" ").startswith(b"setup"):
-            printed, _ = script_model.answer(b"\n".join(lines[:end]))
-            if len(printed) > len(told) and b"\nset up " in b"\n" + printed:
-                found.append((b"".join(line + b"\n" for line in lines[begin:end]), printed[len(told):]))
-                begin, told = end, printed
-    return found
-
-
 def is_update(frame):
     return frame[4] in UPDATES
-
-
-def server_records(frames):
-    """The payloads in the journal of a server that took these, each with its replies."""
-    return [frame[4:] for frame, _ in frames if is_update(frame)]
-
-
-def server_journal(frames):
-    return journal_model.file_of(server_records(frames))
-
-
-def client_path(path):
-    return path + ".client"
-
-
-def client_journal(script):
-    return journal_model.file_of(record_model.records(script))
-
-
-def have_journals(path, script, frames):
-    same("the server's journal", read(path), server_journal(frames))
-    same("the client's journal", read(client_path(path)), client_journal(script))
 
 
 def parts(script):
@@ -162,6 +117,28 @@ def by_command(frames):
         else:
             commands.append([exchange])
     return commands
+
+
+def server_records(frames):
+    """The payloads in the journal of a server that took these, each with its replies."""
+    return [frame[4:] for frame, _ in frames if is_update(frame)]
+
+
+def server_journal(frames):
+    return journal_model.file_of(server_records(frames))
+
+
+def client_path(path):
+    return path + ".client"
+
+
+def client_journal(script):
+    return journal_model.file_of(record_model.records(script))
+
+
+def have_journals(path, script, frames):
+    same("the server's journal", read(path), server_journal(frames))
+    same("the client's journal", read(client_path(path)), client_journal(script))
 
 
 class Server:
