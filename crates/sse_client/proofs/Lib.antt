@@ -20,3 +20,4 @@ pub mod LastLine
 pub mod InMemory
 pub mod GoingOn
 pub mod RunsOnDisk
+pub mod RecordsLast

@@ -13,6 +13,7 @@ use Rattle.script_meaning.specs.Runs.{Ended}
 use Rattle.script_meaning.specs.Stops as ends
 use Rattle.script_meaning.specs.Stops.{status_of}
 use Rattle.sse_journal.specs.FileRecords.{records_in_file}
+use Rattle.sse_journal.specs.Files.{Gives}
 use Rattle.sse_outside.specs.Causes.{Rose}
 use Rattle.sse_client.specs.GoingOn.{EndsLine, GoesOnOver}
 use Rattle.sse_client.specs.LastLine.{HasLastLine, HasShortLine, IsWholeOrRose}
@@ -27,6 +28,10 @@ kept_on content = option_map records_in_file content
 -- what is seen of a run over a link, a disk and a sink
 abbrev pub seen_with : Told → (content written : Option (List ℕ)) → Outside
 seen_with told content written = outside_of (seen told (kept_on content)) written
+
+-- every file that a crash may leave at this moment gives the records of the file as it reads
+abbrev pub Lasts : (content : Option (List ℕ)) (images : List ℕ → Type 0) → Type 0
+Lasts content images = IfSome content (λ file. (image : List ℕ) → images image → Gives (records_in_file file) image)
 
 -- Why a run that goes on doesn't come to its lines.
 

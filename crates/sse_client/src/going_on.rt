@@ -11,6 +11,7 @@ ghost use Rattle.run_texts.specs.Causes.{CommandCause, KeepCommandCause, KeepsRe
 ghost use Rattle.run_texts.specs.Stops.{command_cause};
 ghost use Rattle.sse_client.specs.Calls.{shows, KeepsLink};
 ghost use Rattle.sse_client.specs.GoingOn.{HasEndedAfter, HasResent, ResumesTo, StopsResending};
+ghost use Rattle.sse_client.specs.Keeping.{StaysWhole, WholeAtStop};
 ghost use Rattle.sse_client.specs.Resuming.{stop_of_resume};
 ghost use Rattle.sse_client.specs.Stages.{hash_keys_under};
 ghost use Rattle.sse_client.specs.Stands.{seen, outside_of};
@@ -129,6 +130,7 @@ fn go_on<K: Keyed, L: Link, R: Recorder, S: Source, W: Sink>(
     ensures source { KeepsSource SourceCause (S.faults source.old) (S.faults source.new) result }
     ensures sink { KeepsSink (W.faults sink.old) (W.faults sink.new) (W.shortages sink.old) (W.shortages sink.new) result }
     ensures link { KeepsLink LinkCause (shows (L.transcript link.old) (L.faults link.old) (L.began link.old)) (shows (L.transcript link.new) (L.faults link.new) (L.began link.new)) result }
+    ensures whole_after { StaysWhole WholeAtStop (R.whole recorder.new) result }
     ensures recorder { KeepsRecorder RecorderCause (R.faults recorder.old) (R.faults recorder.new) result }
 {
     let Restart { client, master } = restart;
@@ -178,6 +180,7 @@ pub(crate) fn gone_on<K: Keyed, L: Link, R: Recorder, S: Source, W: Sink>(
     ensures began { L.began link.new ≡ L.began link.old }
     ensures recorder_failed { result ≡ 6 → Rose (R.faults recorder.old) (R.faults recorder.new) }
     ensures recorder_steady { result ≢ 6 → R.faults recorder.new ≡ R.faults recorder.old }
+    ensures lasts { result ≢ 6 → result ≢ 7 → R.whole recorder.new }
     ensures known { result ≤ 9 }
 {
     match go_on(alloc, keyed, link, recorder, source, sink, input, restart) {

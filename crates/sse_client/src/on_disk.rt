@@ -10,7 +10,7 @@ ghost use Rattle.run_texts.specs.Words as asks;
 ghost use Rattle.script_meaning.specs.Exchange.{Told};
 ghost use Rattle.sse_client.specs.GoingOn.{GoesOnTo, Restores};
 ghost use Rattle.sse_client.specs.KeyLines.{FindsKey};
-ghost use Rattle.sse_client.specs.OnDisk.{HasBegun, HasGoneOn, HeldCause, HeldSource, IsNotBegun, IsNotReopened, IsUnopened, held_stop, kept_on, seen_with};
+ghost use Rattle.sse_client.specs.OnDisk.{HasBegun, HasGoneOn, HeldCause, HeldSource, IsNotBegun, IsNotReopened, IsUnopened, Lasts, held_stop, kept_on, seen_with};
 ghost use Rattle.sse_client.specs.Stages.{hash_keys_under};
 ghost use Rattle.sse_journal.specs.JournalView.{broken_by, records_of};
 ghost use Rattle.sse_outside.specs.Causes.{Rose};
@@ -148,6 +148,7 @@ pub fn run_on_disk<K: Keyed, L: Link, D: Disk, S: Source, W: Sink>(
     ensures began { L.began link.new ≡ L.began link.old }
     ensures disk_failed { result.0 ≡ 6 → Rose (D.faults disk) (D.faults result.1) }
     ensures disk_steady { result.0 ≢ 6 → D.faults result.1 ≡ D.faults disk }
+    ensures lasts { (mode : asks.DiskMode) → asks.disk_mode_of (map (λ word. string_bytes word) words.now) ≡ Some mode → result.0 ≢ 6 → result.0 ≢ 7 → result.0 ≢ 10 → Lasts (D.content result.1) (D.images result.1) }
     ensures known { result.0 ≤ 11 }
 {
     match disk_mode_of(words) {
@@ -181,6 +182,7 @@ fn begin_run<K: Keyed, L: Link, D: Disk, S: Source, W: Sink>(
     ensures began { L.began link.new ≡ L.began link.old }
     ensures disk_failed { result.0 ≡ 6 → Rose (D.faults disk) (D.faults result.1) }
     ensures disk_steady { result.0 ≢ 6 → D.faults result.1 ≡ D.faults disk }
+    ensures lasts { result.0 ≢ 6 → result.0 ≢ 7 → result.0 ≢ 10 → Lasts (D.content result.1) (D.images result.1) }
     ensures known { result.0 ≤ 10 }
 {
     let mut disk = disk;
@@ -218,6 +220,7 @@ fn more<K: Keyed, L: Link, D: Disk, S: Source, W: Sink>(
     ensures began { L.began link.new ≡ L.began link.old }
     ensures disk_failed { result.0 ≡ 6 → Rose (D.faults disk) (D.faults result.1) }
     ensures disk_steady { result.0 ≢ 6 → D.faults result.1 ≡ D.faults disk }
+    ensures lasts { result.0 ≢ 6 → result.0 ≢ 7 → result.0 ≢ 10 → Lasts (D.content result.1) (D.images result.1) }
     ensures known { result.0 ≤ 11 }
 {
     let mut disk = disk;
@@ -253,6 +256,7 @@ fn go_on_from<K: Keyed, L: Link, D: Disk, S: Source, W: Sink>(
     ensures began { L.began link.new ≡ L.began link.old }
     ensures disk_failed { result.0 ≡ 6 → Rose (D.faults disk) (D.faults result.1) }
     ensures disk_steady { result.0 ≢ 6 → D.faults result.1 ≡ D.faults disk }
+    ensures lasts { result.0 ≢ 6 → result.0 ≢ 7 → Lasts (D.content result.1) (D.images result.1) }
     ensures known { result.0 ≤ 11 }
 {
     let mut disk = disk;

@@ -15,6 +15,7 @@ ghost use Rattle.script_meaning.specs.Session.{IsFree};
 ghost use Rattle.script_meaning.specs.Stops as ends;
 ghost use Rattle.server_core.specs.State.{at_first};
 ghost use Rattle.sse_client.specs.Calls.{shows, KeepsLink};
+ghost use Rattle.sse_client.specs.Keeping.{StaysWhole, WholeAtStop};
 ghost use Rattle.sse_client.specs.KeyLines as keys;
 ghost use Rattle.sse_client.specs.LastLine.{HasLastLine, HasShortLine, IsWholeOrRose};
 ghost use Rattle.sse_client.specs.OverServer.{HasRunOverServer, PrintsAsRun, PrintsLastLine, PrintsShortLine, PrintsAsMeant};
@@ -89,6 +90,7 @@ pub fn sse_run<K: Keyed, L: Link, R: Recorder, S: Source, W: Sink>(
     ensures words_recorder { asks.mode_of (map (λ word. string_bytes word) words.now) ≡ None → recorder.new ≡ recorder.old }
     ensures recorder_failed { result ≡ 6 → Rose (R.faults recorder.old) (R.faults recorder.new) }
     ensures recorder_steady { result ≢ 6 → R.faults recorder.new ≡ R.faults recorder.old }
+    ensures lasts { result ≢ 6 → result ≢ 7 → R.whole recorder.new }
     ensures known { result ≤ 9 }
 {
     match mode_of(words) {
@@ -123,6 +125,7 @@ pub(crate) fn whole_run<K: Keyed, L: Link, R: Recorder, S: Source, W: Sink>(
     ensures began { L.began link.new ≡ L.began link.old }
     ensures recorder_failed { result ≡ 6 → Rose (R.faults recorder.old) (R.faults recorder.new) }
     ensures recorder_steady { result ≢ 6 → R.faults recorder.new ≡ R.faults recorder.old }
+    ensures lasts { result ≢ 6 → result ≢ 7 → R.whole recorder.new }
     ensures known { result ≤ 9 }
 {
     match run_script(alloc, keyed, link, recorder, source, sink) {
@@ -148,6 +151,7 @@ fn run_script<K: Keyed, L: Link, R: Recorder, S: Source, W: Sink>(
     ensures source { KeepsSource SourceCause (S.faults source.old) (S.faults source.new) result }
     ensures sink { KeepsSink (W.faults sink.old) (W.faults sink.new) (W.shortages sink.old) (W.shortages sink.new) result }
     ensures link { KeepsLink LinkCause (shows (L.transcript link.old) (L.faults link.old) (L.began link.old)) (shows (L.transcript link.new) (L.faults link.new) (L.began link.new)) result }
+    ensures whole_after { StaysWhole WholeAtStop (R.whole recorder.new) result }
     ensures recorder { KeepsRecorder RecorderCause (R.faults recorder.old) (R.faults recorder.new) result }
 {
     let mut input = Input::new(alloc)?;
@@ -240,6 +244,7 @@ pub fn run_over_server<K: Keyed, T: Tables, R: Recorder, S: Source, W: Sink>(
     ensures words_recorder { asks.mode_of (map (λ word. string_bytes word) words.now) ≡ None → recorder.new ≡ recorder.old }
     ensures recorder_failed { result ≡ 6 → Rose (R.faults recorder.old) (R.faults recorder.new) }
     ensures recorder_steady { result ≢ 6 → R.faults recorder.new ≡ R.faults recorder.old }
+    ensures lasts { result ≢ 6 → result ≢ 7 → R.whole recorder.new }
     ensures known { result ≤ 9 }
 {
     let status = sse_run(alloc, words, keyed, link, recorder, source, sink);

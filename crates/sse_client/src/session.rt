@@ -4,7 +4,7 @@ ghost use Rattle.client_registry.specs.Setup.{setup_with};
 ghost use Rattle.keyed_fn.specs.KeyedFn.{KeyedFn, keyed_fn};
 ghost use Rattle.run_texts.specs.Causes.{CommandCause, KeepCommandCause, KeepsRecorder};
 ghost use Rattle.client_core.specs.Payloads.{setup_payload};
-ghost use Rattle.sse_client.specs.Keeping.{SendsKept};
+ghost use Rattle.sse_client.specs.Keeping.{SendsKept, StaysWhole, WholeAt};
 ghost use Rattle.script_meaning.specs.Carries.{Kept};
 ghost use Rattle.run_texts.specs.LineWords.{words_in};
 ghost use Rattle.run_texts.specs.LineResultViews.{line_result_view, refuses};
@@ -64,7 +64,7 @@ pub(crate) fn take_line<K: Keyed, L: Link, R: Recorder>(
     ensures may_stop { OnErr result (MayStop (keyed_fn K.prf K.pad) stage (line_view line.entry)) }
     ensures same_key { IfOk result (λ done. key_of done.0 ≡ key_of stage) }
     ensures keeps { KeepsLink CommandCause (shows (L.transcript link.old) (L.faults link.old) (L.began link.old)) (shows (L.transcript link.new) (L.faults link.new) (L.began link.new)) result }
-    ensures whole_after { OnOk result (R.whole recorder.new) }
+    ensures whole_after { StaysWhole WholeAt (R.whole recorder.new) result }
     ensures recorder { KeepsRecorder KeepCommandCause (R.faults recorder.old) (R.faults recorder.new) result }
 {
     match line {
@@ -148,7 +148,7 @@ fn set_up<K: Keyed, L: Link, R: Recorder>(
     ensures may_stop { OnErr result (MayStop (keyed_fn K.prf K.pad) stage (lines.SetupLine numbers.b numbers.big numbers.pad)) }
     ensures same_key { IfOk result (λ done. key_of done.0 ≡ key_of stage) }
     ensures keeps { KeepsLink CommandCause (shows (L.transcript link.old) (L.faults link.old) (L.began link.old)) (shows (L.transcript link.new) (L.faults link.new) (L.began link.new)) result }
-    ensures whole_after { OnOk result (R.whole recorder.new) }
+    ensures whole_after { StaysWhole WholeAt (R.whole recorder.new) result }
     ensures recorder { KeepsRecorder KeepCommandCause (R.faults recorder.old) (R.faults recorder.new) result }
 {
     match stage {
@@ -198,7 +198,7 @@ fn send_setup<L: Link, R: Recorder>(
     ensures hash_keys { IfOk result (λ done. hash_keys_of done.0 ≡ docs.keys) }
     ensures key { IfOk result (λ done. key_of done.0 ≡ client.key) }
     ensures keeps { KeepsLink CommandCause (shows (L.transcript link.old) (L.faults link.old) (L.began link.old)) (shows (L.transcript link.new) (L.faults link.new) (L.began link.new)) result }
-    ensures whole_after { OnOk result (R.whole recorder.new) }
+    ensures whole_after { StaysWhole WholeAt (R.whole recorder.new) result }
     ensures recorder { KeepsRecorder KeepCommandCause (R.faults recorder.old) (R.faults recorder.new) result }
 {
     let (words, blocks) = (planned.own_words(), planned.own_blocks());
@@ -239,7 +239,7 @@ fn add<K: Keyed, L: Link, R: Recorder>(
     ensures may_stop { OnErr result (MayStop (keyed_fn K.prf K.pad) stage (lines.AddLine id fields.entry)) }
     ensures same_key { IfOk result (λ done. key_of done.0 ≡ key_of stage) }
     ensures keeps { KeepsLink CommandCause (shows (L.transcript link.old) (L.faults link.old) (L.began link.old)) (shows (L.transcript link.new) (L.faults link.new) (L.began link.new)) result }
-    ensures whole_after { OnOk result (R.whole recorder.new) }
+    ensures whole_after { StaysWhole WholeAt (R.whole recorder.new) result }
     ensures recorder { KeepsRecorder KeepCommandCause (R.faults recorder.old) (R.faults recorder.new) result }
 {
     match stage {
@@ -278,7 +278,7 @@ fn delete<K: Keyed, L: Link, R: Recorder>(
     ensures may_stop { OnErr result (MayStop (keyed_fn K.prf K.pad) stage (lines.Del id)) }
     ensures same_key { IfOk result (λ done. key_of done.0 ≡ key_of stage) }
     ensures keeps { KeepsLink CommandCause (shows (L.transcript link.old) (L.faults link.old) (L.began link.old)) (shows (L.transcript link.new) (L.faults link.new) (L.began link.new)) result }
-    ensures whole_after { OnOk result (R.whole recorder.new) }
+    ensures whole_after { StaysWhole WholeAt (R.whole recorder.new) result }
     ensures recorder { KeepsRecorder KeepCommandCause (R.faults recorder.old) (R.faults recorder.new) result }
 {
     match stage {

@@ -12,6 +12,7 @@ ghost use Rattle.script_meaning.specs.Outcome.{Place, Does, unless};
 ghost use Rattle.script_meaning.specs.Refused.{add_refusal, delete_refusal};
 ghost use Rattle.script_meaning.specs.Stops as ends;
 ghost use Rattle.sse_client.specs.Calls.{shows, KeepsLink};
+ghost use Rattle.sse_client.specs.Keeping.{StaysWhole, WholeAt};
 ghost use Rattle.sse_client.specs.Stages.{key_of};
 ghost use Rattle.sse_client.specs.Stands.{IsAt, GoesOn, seen, outside_of};
 ghost use Rattle.sse_client.specs.UpdatePlans.{IsRefused, IsUpdatePlan};
@@ -97,7 +98,7 @@ pub(crate) fn send_update<L: Link, R: Recorder>(
     ensures as_planned { (stop : WhyUnsent) → planned ≡ Err (UpdateFault.Stopped stop) → result ≡ Err (CommandStop.Planning stop) }
     ensures same_key { IfOk result (λ went. key_of went.0 ≡ client.key) }
     ensures keeps { KeepsLink CommandCause (shows (L.transcript link.old) (L.faults link.old) (L.began link.old)) (shows (L.transcript link.new) (L.faults link.new) (L.began link.new)) result }
-    ensures whole_after { OnOk result (R.whole recorder.new) }
+    ensures whole_after { StaysWhole WholeAt (R.whole recorder.new) result }
     ensures recorder { KeepsRecorder KeepCommandCause (R.faults recorder.old) (R.faults recorder.new) result }
 {
     match planned {

@@ -16,6 +16,8 @@ use Rattle.sse_client.specs.Calls.{shows}
 use Rattle.sse_client.specs.Stands.{IsAt, seen, outside_of}
 use Rattle.sse_client.specs.Turns.{ending}
 use Rattle.sse_client.specs.declared.session.Stage.TheVariants.{Searching}
+use Rattle.sse_client.specs.Keeping.{WholeAtStop}
+use Rattle.sse_client.proofs.RecordsLast.{StaysWhole-err, whole_at, whole_at_stop}
 use Rattle.sse_client.proofs.going_on.go_on.Goals as goal
 
 pub run_lines-requires : goal.run_lines-requires
@@ -120,3 +122,15 @@ returns-in_err-print-clause-link g c =
 pub returns-in_err-print-clause-recorder : goal.returns-in_err-print-clause-recorder
 returns-in_err-print-clause-recorder g c =
     KeepsRecorder-err RecorderCause _ _ c.from_residual-in_err-print.result (stop_of_sink c.in_err-print.field-0.0) c.from_residual-in_err-print.ensures.1 (RecorderCause-printed _ _ c.in_err-print.field-0.0 refl)
+
+pub returns-in_err-ready-clause-whole_after : goal.returns-in_err-ready-clause-whole_after
+returns-in_err-ready-clause-whole_after g c =
+    let stop = c.in_err-ready.field-0.0 in
+    let whole = g.R.Recorder.whole c.args.recorder.now in
+    StaysWhole-err WholeAtStop whole c.from_residual-in_err-ready.result (stops.Command stop) c.from_residual-in_err-ready.ensures.1 (whole_at whole c.requires.whole stop)
+
+pub returns-in_err-print-clause-whole_after : goal.returns-in_err-print-clause-whole_after
+returns-in_err-print-clause-whole_after g c =
+    let stop = stop_of_sink c.in_err-print.field-0.0 in
+    let whole = g.R.Recorder.whole c.args.recorder.now in
+    StaysWhole-err WholeAtStop whole c.from_residual-in_err-print.result stop c.from_residual-in_err-print.ensures.1 (whole_at_stop whole c.requires.whole stop)

@@ -12,6 +12,7 @@ use Rattle.sse_client.proofs.LastLine.{ends_line}
 use Rattle.sse_client.proofs.WholeRun.{nothing_more}
 use Rattle.sse_client.specs.Stands.{has_refused, seen, outside_of, stop_view}
 use Rattle.sse_client.specs.declared.lines.Refusals.{Refusals}
+use Rattle.sse_client.proofs.RecordsLast.{whole_but_kept}
 use Rattle.sse_client.proofs.going_on.gone_on.Goals as goal
 
 -- the status at the end of a script
@@ -97,3 +98,7 @@ returns-in-Err-clause-recorder_failed g c = λ is.
 pub returns-in-Err-clause-recorder_steady : goal.returns-in-Err-clause-recorder_steady
 returns-in-Err-clause-recorder_steady g c = λ other.
     recorder_same (g.R.Recorder.faults c.args.recorder.now) (g.R.Recorder.faults c.go_on.new.recorder) c.in-Err.stop c.in-Err.ensures.recorder.cause (λ e. other (c.finish.ensures.status ∙ ap stop_status e))
+
+pub returns-in-Err-clause-lasts : goal.returns-in-Err-clause-lasts
+returns-in-Err-clause-lasts g c = λ disk memory.
+    whole_but_kept (g.R.Recorder.whole c.go_on.new.recorder) c.in-Err.stop c.in-Err.ensures.whole_after.stopped (λ e. disk (c.finish.ensures.status ∙ e)) (λ e. memory (c.finish.ensures.status ∙ e))

@@ -10,6 +10,8 @@ use Rattle.sse_client.specs.Stands.{seen, outside_of, stop_view, has_refused}
 use Rattle.sse_client.specs.Turns.{IfNext, LeadsTo, OnEnd}
 use Rattle.sse_client.specs.declared.lines.Turn.{Turn}
 use Rattle.sse_client.proofs.RunGoesOn.{ends-joined, ends-stopped_so, there-joined, there-start}
+use Rattle.sse_client.specs.Keeping.{WholeAtStop}
+use Rattle.sse_client.proofs.RecordsLast.{StaysWhole-err}
 use Rattle.sse_client.proofs.lines.run_lines.Goals as goal
 
 pub lines-init : goal.lines-init
@@ -41,7 +43,7 @@ lines-preserved g c =
       source = c.in_ok-next.ensures.source.steady ∙ c.lines.invariant.source;
       sink = c.in_ok-next.ensures.sink.steady ∙ c.lines.invariant.sink;
       shortages = omega (arith, c.lines.invariant.shortages, c.in_ok-next.ensures.sink.no_fewer);
-      whole = c.in_ok-next.ensures.whole_after;
+      whole = c.in_ok-next.ensures.whole_after.after;
       recorder = c.in_ok-next.ensures.recorder.steady ∙ c.lines.invariant.recorder;
       began = c.in_ok-next.ensures.link.began ∙ c.lines.invariant.began;
       link = c.in_ok-next.ensures.link.steady ∙ c.lines.invariant.link;
@@ -71,3 +73,7 @@ returns-in-End-clause-ends g c = λ place at.
 
 pub returns-in-End-clause-at_end : goal.returns-in-End-clause-at_end
 returns-in-End-clause-at_end g c = subst (λ (t : Turn). OnEnd t (IsAtEnd (g.S.Source.remaining c.take_turn.new.source))) c.in-End.is c.in_ok-next.ensures.at_end
+
+pub returns-in_err-next-clause-whole_after : goal.returns-in_err-next-clause-whole_after
+returns-in_err-next-clause-whole_after g c =
+    StaysWhole-err WholeAtStop (g.R.Recorder.whole c.take_turn.new.recorder) c.from_residual.result c.in_err-next.field-0.0 c.from_residual.ensures.1 c.in_err-next.ensures.whole_after.stopped

@@ -12,6 +12,8 @@ use Rattle.sse_client.specs.Stands.{seen, has_refused}
 use Rattle.sse_client.proofs.CountsAtStop.{LinkCause-printed, RecorderCause-printed, SinkCause-printed, SourceCause-printed}
 use Rattle.sse_client.proofs.TranscriptsJoined.{KeepsLink-err, KeepsRecorder-err, KeepsSink-err, KeepsSource-err}
 use Rattle.sse_client.proofs.RunGoesOn.{line_in-read, line_in-none, command_of, ends-bad, ends-input, ends-end, ends-stopped, carries-printed, leads-bad, leads-stopped, stops-unprinted, there-empty, there-next, there-start}
+use Rattle.sse_client.specs.Keeping.{WholeAtStop}
+use Rattle.sse_client.proofs.RecordsLast.{StaysWhole-err, whole_at_stop}
 use Rattle.sse_client.proofs.lines.take_turn.Goals as goal
 
 pub returns-in_err-advance-clause-turns : goal.returns-in_err-advance-clause-turns
@@ -124,3 +126,13 @@ returns-in_err-next-in_default-clause-recorder g c = KeepsRecorder-err RecorderC
 
 pub returns-in_err-print-in_default-clause-recorder : goal.returns-in_err-print-in_default-clause-recorder
 returns-in_err-print-in_default-clause-recorder g c = KeepsRecorder-err RecorderCause _ _ c.from_residual-in_err-print-in_default.result (stop_of_sink c.in_err-print-in_default.field-0.0) c.from_residual-in_err-print-in_default.ensures.1 (RecorderCause-printed _ _ c.in_err-print-in_default.field-0.0 c.in_ok-next-in_default.ensures.recorder.steady)
+
+pub returns-in_err-next-in_default-clause-whole_after : goal.returns-in_err-next-in_default-clause-whole_after
+returns-in_err-next-in_default-clause-whole_after g c =
+    StaysWhole-err WholeAtStop (g.R.Recorder.whole c.take_line.new.recorder) c.from_residual-in_err-next-in_default.result (stops.Command c.in_err-next-in_default.field-0.0) c.from_residual-in_err-next-in_default.ensures.1 c.in_err-next-in_default.ensures.whole_after.stopped
+
+pub returns-in_err-print-in_default-clause-whole_after : goal.returns-in_err-print-in_default-clause-whole_after
+returns-in_err-print-in_default-clause-whole_after g c =
+    let stop = stop_of_sink c.in_err-print-in_default.field-0.0 in
+    let whole = g.R.Recorder.whole c.take_line.new.recorder in
+    StaysWhole-err WholeAtStop whole c.from_residual-in_err-print-in_default.result stop c.from_residual-in_err-print-in_default.ensures.1 (whole_at_stop whole c.in_ok-next-in_default.ensures.whole_after.after stop)

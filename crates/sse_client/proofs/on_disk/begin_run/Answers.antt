@@ -4,8 +4,9 @@ use Rattle.sse_client.proofs.GoingOn.{for_all}
 use Rattle.sse_client.proofs.RunsOnDisk.{has_begun, not_begun, unopened}
 use Rattle.sse_client.proofs.WholeRun.{IfSome-then}
 use Rattle.std.specs.Prelude.{IfSome}
-use Rattle.sse_client.specs.OnDisk.{HasBegun, IsNotBegun, kept_on}
+use Rattle.sse_client.specs.OnDisk.{HasBegun, IsNotBegun, Lasts, kept_on}
 use Rattle.sse_client.specs.Stands.{outside_of, seen}
+use Rattle.sse_client.proofs.RecordsLast.{takes_lasts}
 use Rattle.sse_client.proofs.on_disk.begin_run.Goals as goal
 
 pub returns-in-Ok-clause-begun : goal.returns-in-Ok-clause-begun
@@ -45,3 +46,16 @@ returns-in-Err-clause-begun g c =
     (g.W.Sink.faults c.args.sink.now) (g.W.Sink.faults c.finish_unopened.new.sink) (g.W.Sink.shortages c.args.sink.now) (g.W.Sink.shortages c.finish_unopened.new.sink)
     (not_begun stop content (λ e. c.in-Err.ensures.has_records (search e)) (λ e. IfSome-then content _ _ (λ file is. is.0) (c.in-Err.ensures.no_journal (search e))) (λ n e. c.in-Err.ensures.never_bad n (search e)) (λ e. c.in-Err.ensures.never_key (search e)))
     (λ disk memory. c.in-Err.ensures.same_refused (λ e. disk (cc)) (λ e. memory (cc))) c.finish_unopened.ensures.line c.finish_unopened.ensures.status))
+
+pub returns-in-Ok-clause-lasts : goal.returns-in-Ok-clause-lasts
+returns-in-Ok-clause-lasts g c = λ disk memory other.
+    let recorder = c.whole_run-status.new.recorder in
+    subst (λ d. Lasts (g.D.Disk.content d) (g.D.Disk.images d)) (sym c.into_disk.ensures) (takes_lasts recorder.journal (g.D.Disk.content recorder.disk) (g.D.Disk.images recorder.disk) (c.whole_run-status.ensures.lasts disk memory))
+
+pub returns-in-Err-clause-lasts : goal.returns-in-Err-clause-lasts
+returns-in-Err-clause-lasts g c = λ disk memory other. elim c.finish_unopened.ensures.known [
+  | inl six ↦ absurd (disk six)
+  | inr (inl seven) ↦ absurd (memory seven)
+  | inr (inr (inl ten)) ↦ absurd (other ten)
+  | inr (inr (inr eleven)) ↦ absurd (let e = c.finish_unopened.ensures.key eleven in c.in-Err.ensures.never_key (search e))
+]

@@ -9,7 +9,8 @@ use Rattle.sse_script.specs.TextLines.{lines_left}
 use Rattle.sse_client.proofs.LastLine.{ends_line}
 use Rattle.sse_client.proofs.RunsOnDisk.{has_gone_on, has_gone_on-held}
 use Rattle.sse_client.specs.GoingOn.{GoesOnTo, HasEndedAfter}
-use Rattle.sse_client.specs.OnDisk.{held_stop, kept_on, seen_with}
+use Rattle.sse_client.specs.OnDisk.{Lasts, held_stop, kept_on, seen_with}
+use Rattle.sse_client.proofs.RecordsLast.{takes_lasts}
 use Rattle.sse_client.proofs.on_disk.go_on_from.Goals as goal
 
 pub returns-in-Ok-clause-gone_on : goal.returns-in-Ok-clause-gone_on
@@ -72,3 +73,16 @@ returns-clause-gone_on g c =
     (g.W.Sink.shortages c.args.sink.now) (g.W.Sink.shortages c.finish.new.sink) goes refl (ap kept_on c.in-Err-Input.ensures.kept)
     (ends_line stop written (g.W.Sink.written c.finish.new.sink) status (g.W.Sink.faults c.args.sink.now) (g.W.Sink.faults c.args.sink.now) (g.W.Sink.faults c.finish.new.sink)
     (g.W.Sink.shortages c.args.sink.now) (g.W.Sink.shortages c.args.sink.now) (g.W.Sink.shortages c.finish.new.sink) is line (λ other. refl) (omega arith)) is
+
+pub returns-in-Ok-clause-lasts : goal.returns-in-Ok-clause-lasts
+returns-in-Ok-clause-lasts g c = λ disk memory.
+    let recorder = c.gone_on-status.new.recorder in
+    subst (λ d. Lasts (g.D.Disk.content d) (g.D.Disk.images d)) (sym c.into_disk.ensures) (takes_lasts recorder.journal (g.D.Disk.content recorder.disk) (g.D.Disk.images recorder.disk) (c.gone_on-status.ensures.lasts disk memory))
+
+pub returns-in-Err-Journal-clause-lasts : goal.returns-in-Err-Journal-clause-lasts
+returns-in-Err-Journal-clause-lasts g c = λ disk memory.
+    takes_lasts c.args.journal (g.D.Disk.content c.restored.new.disk) (g.D.Disk.images c.restored.new.disk) (record { unbroken = c.requires.unbroken; holds = c.in-Err-Journal.ensures.holds })
+
+pub returns-clause-lasts : goal.returns-clause-lasts
+returns-clause-lasts g c = λ disk memory.
+    takes_lasts c.args.journal (g.D.Disk.content c.restored.new.disk) (g.D.Disk.images c.restored.new.disk) (record { unbroken = c.requires.unbroken; holds = c.in-Err-Input.ensures.holds })

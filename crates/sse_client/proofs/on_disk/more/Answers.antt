@@ -1,4 +1,4 @@
-use Rattle.std.proofs.Common.{inl}
+use Rattle.std.proofs.Common.{inl, inr}
 use Rattle.sse_client.proofs.GoingOn.{for_all}
 use Rattle.sse_client.proofs.RunsOnDisk.{not_reopened, unopened}
 use Rattle.sse_client.proofs.WholeRun.{IfSome-then}
@@ -18,3 +18,11 @@ returns-in-Err-clause-more g c =
     (g.W.Sink.faults c.args.sink.now) (g.W.Sink.faults c.finish_unopened.new.sink) (g.W.Sink.shortages c.args.sink.now) (g.W.Sink.shortages c.finish_unopened.new.sink)
     (not_reopened stop content (λ e. c.in-Err.ensures.no_journal (search e)) (λ e. c.in-Err.ensures.never_records (search e)) (λ n e. c.in-Err.ensures.never_bad n (search e)) (λ e. c.in-Err.ensures.never_key (search e)))
     (λ disk memory. c.in-Err.ensures.same_refused (λ e. disk (cc)) (λ e. memory (cc))) c.finish_unopened.ensures.line c.finish_unopened.ensures.status))
+
+pub returns-in-Err-clause-lasts : goal.returns-in-Err-clause-lasts
+returns-in-Err-clause-lasts g c = λ disk memory other. elim c.finish_unopened.ensures.known [
+  | inl six ↦ absurd (disk six)
+  | inr (inl seven) ↦ absurd (memory seven)
+  | inr (inr (inl ten)) ↦ absurd (other ten)
+  | inr (inr (inr eleven)) ↦ absurd (let e = c.finish_unopened.ensures.key eleven in c.in-Err.ensures.never_key (search e))
+]

@@ -13,6 +13,7 @@ use Rattle.run_texts.specs.declared.stop_cause.StopCause.TheVariants as stops
 use Rattle.sse_client.proofs.CountsAtStop.{link_same, recorder_same, seen_status, seen_text, sink_same, source_same}
 use Rattle.sse_client.proofs.LastLine.{has_last_line, last_line}
 use Rattle.sse_client.proofs.WholeRun.{has_run, nothing_more}
+use Rattle.sse_client.proofs.RecordsLast.{whole_but_kept}
 use Rattle.sse_client.proofs.run.whole_run.Goals as goal
 
 -- the status at the end of a script
@@ -90,3 +91,7 @@ returns-in-Err-clause-recorder_failed g c = λ is.
 pub returns-in-Err-clause-recorder_steady : goal.returns-in-Err-clause-recorder_steady
 returns-in-Err-clause-recorder_steady g c = λ other.
     recorder_same (g.R.Recorder.faults c.args.recorder.now) (g.R.Recorder.faults c.run_script.new.recorder) c.in-Err.stop c.in-Err.ensures.recorder.cause (λ e. other (c.finish.ensures.status ∙ ap stop_status e))
+
+pub returns-in-Err-clause-lasts : goal.returns-in-Err-clause-lasts
+returns-in-Err-clause-lasts g c = λ disk memory.
+    whole_but_kept (g.R.Recorder.whole c.run_script.new.recorder) c.in-Err.stop c.in-Err.ensures.whole_after.stopped (λ e. disk (c.finish.ensures.status ∙ e)) (λ e. memory (c.finish.ensures.status ∙ e))

@@ -1,0 +1,57 @@
+-- What is kept lasts: at a stop that isn't for the record of a command, what keeps the records takes more of them, and each file that a
+-- crash may leave of a journal gives its records.
+use Rattle.std.proofs.Common.{◌≡◌, ◌≢◌, ℕ, List, Option, None, Some, Result, Ok, Err, IsErrAnd, refl, sym, ap, subst, ◌∙◌}
+use Rattle.run_texts.specs.Stops.{stop_status}
+use Rattle.run_texts.specs.declared.command_stop.CommandStop.{CommandStop}
+use Rattle.run_texts.specs.declared.command_stop.CommandStop.TheVariants as commands
+use Rattle.run_texts.specs.declared.stop_cause.StopCause.{StopCause}
+use Rattle.run_texts.specs.declared.stop_cause.StopCause.TheVariants as stops
+use Rattle.sse_journal.proofs.FileRecords.{journal_records}
+use Rattle.sse_journal.proofs.Once.{file_gives}
+use Rattle.sse_journal.specs.FileRecords.{TakesRecords, records_in_file}
+use Rattle.sse_journal.specs.Files.{Gives, file}
+use Rattle.sse_journal.specs.declared.journal.Journal.{Journal}
+use Rattle.sse_outside.specs.declared.device_fault.DeviceFault.TheVariants as devices
+use Rattle.sse_client.proofs.TranscriptsJoined.{IfErr-from, may_stop-ok}
+use Rattle.sse_client.specs.Keeping.{StaysWhole, WholeAt, WholeAtStop}
+use Rattle.sse_client.specs.OnDisk.{Lasts}
+
+pub StaysWhole-err : {T E : Type 0} (showing : Type 0 → E → Type 0) (whole : Type 0) (r : Result T E) (stop : E) → IsErrAnd r (λ e. e ≡ stop) → showing whole stop → StaysWhole showing whole r
+StaysWhole-err showing whole r stop is holds = record { after = may_stop-ok r stop is _; stopped = IfErr-from r stop (showing whole) is holds }
+
+-- what is whole is so at every stop
+pub whole_at : (whole : Type 0) → whole → (stop : CommandStop) → WholeAt whole stop
+whole_at whole is (commands.Keeping fault) = tt
+whole_at whole is (commands.Planning stop) = is
+whole_at whole is (commands.Exchange stop) = is
+
+pub whole_at_stop : (whole : Type 0) → whole → (stop : StopCause) → WholeAtStop whole stop
+whole_at_stop whole is (stops.Command stop) = whole_at whole is stop
+whole_at_stop whole is stops.Words = is
+whole_at_stop whole is (stops.Input stop) = is
+whole_at_stop whole is stops.Sink = is
+whole_at_stop whole is stops.Memory = is
+
+pub StaysWhole-same : {T : Type 0} (whole : Type 0) → whole → (r : Result T CommandStop) → StaysWhole WholeAt whole r
+StaysWhole-same whole is (Ok x) = record { after = is; stopped = tt }
+StaysWhole-same whole is (Err stop) = record { after = tt; stopped = whole_at whole is stop }
+
+-- a stop for the record of a command has the status 6 or 7
+pub whole_but_kept : (whole : Type 0) (stop : StopCause) → WholeAtStop whole stop → stop_status stop ≢ 6 → stop_status stop ≢ 7 → whole
+whole_but_kept whole (stops.Command (commands.Keeping devices.Failed)) is disk memory = absurd (disk refl)
+whole_but_kept whole (stops.Command (commands.Keeping devices.NoMemory)) is disk memory = absurd (memory refl)
+whole_but_kept whole (stops.Command (commands.Planning stop)) is disk memory = is
+whole_but_kept whole (stops.Command (commands.Exchange stop)) is disk memory = is
+whole_but_kept whole stops.Words is disk memory = is
+whole_but_kept whole (stops.Input stop) is disk memory = is
+whole_but_kept whole stops.Sink is disk memory = is
+whole_but_kept whole stops.Memory is disk memory = is
+
+-- a journal that takes records is of those that each file gives which a crash may leave
+pub takes_lasts : (j : Journal) (content : Option (List ℕ)) (images : List ℕ → Type 0) → TakesRecords j content images → Lasts content images
+takes_lasts j None images takes = tt
+takes_lasts j (Some held) images takes = λ image left.
+    let payloads = takes.holds.0 in
+    let of = takes.holds.1 in
+    let records : records_in_file held ≡ payloads = (let is = journal_records payloads j (Some held) images of in cc) in
+    subst (λ r. Gives r image) (sym records) (subst (Gives payloads) (sym (of.settled.durable image left)) (file_gives payloads of.payloads_are))
