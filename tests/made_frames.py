@@ -142,12 +142,12 @@ class Maker:
     def spoilt(self, server):
         """A frame that is wrong in one place: an item stands twice or at another place, a count or a number is another one, or bytes
         are too many or missing."""
-        frame = self.frame(server)
-        body, size = frame[4:], self.draw.choice([8, 16, 24, 17 + 8 * server.b])
-        at, way = self.draw.choice([5, 7, 9, 9, 9 + size, 9 + 2 * size]), self.draw.randrange(5)
+        body = self.frame(server)[4:]
+        # where its items begin, the bytes of one, and where their count stands
+        first, size, count = {3: (9, 17 + 8 * server.b, 7), 4: (9, 8 * server.B, 7), 6: (9, 24, 5), 7: (7, 16, 5)}.get(body[0], (5, 8, 5))
+        at, way = first + size * self.draw.choice([0, 0, 1]), self.draw.randrange(5)
         if way == 0:
             body = body[:at] + body[at:at + size] + body[at:]
-            count = self.draw.choice([5, 7])
             body = body[:count] + be(2, (int.from_bytes(body[count:count + 2], "big") + 1) % 2**16) + body[count + 2:]
         elif way == 1:
             body = body[:at] + body[at + size:at + 2 * size] + body[at:at + size] + body[at + 2 * size:]
