@@ -4,7 +4,6 @@ run of the client over an address in front of the server's, at which what passes
 import contextlib
 import os
 import selectors
-import signal
 import socket
 import struct
 import subprocess
@@ -278,43 +277,3 @@ class Run:
                     side.setsockopt(socket.SOL_SOCKET, socket.SO_LINGER, struct.pack("ii", 1, 0))
                 side.close()
         self.client_side = self.server_side = None
-
-
-# What may be done at a moment of a run.
-
-
-def kill_client(run):
-    run.process.kill()
-
-
-def kill_server(run):
-    run.server.process.kill()
-
-
-def kill_both(run):
-    kill_server(run)
-    kill_client(run)
-
-
-def cut(run):
-    run.close()
-
-
-def cut_at_once(run):
-    run.close(at_once=True)
-
-
-def stopped_for(moment, is_client):
-    def action(run):
-        process = run.process if is_client else run.server.process
-        process.send_signal(signal.SIGSTOP)
-        run.at(moment, lambda _: process.send_signal(signal.SIGCONT))
-        run.at_end.append(lambda: process.send_signal(signal.SIGCONT))
-    return action
-
-
-def leave_stopped(run):
-    """The server is stopped, the client killed, and what is on its way left for the server to find when it goes on."""
-    run.server.process.send_signal(signal.SIGSTOP)
-    kill_client(run)
-    run.close()
