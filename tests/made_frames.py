@@ -54,7 +54,7 @@ class Maker:
 
     def numbers(self, most):
         """Numbers with zeros behind them, at times with a zero between or one that points nowhere."""
-        choice = [*SMALL, 1, 1] if self.chance(0.85) else [*SMALL, 0, 2**64 - 1]
+        choice = [*SMALL, 1, 1] if self.chance(0.8) else [1, 2, 0, 0, 2**64 - 1]
         return leak_model.numbers_text([self.draw.choice(choice) for _ in range(self.draw.randint(0, most))], most)
 
     def begin(self, server):
