@@ -8,24 +8,13 @@ import secrets
 import shelf
 from kept import sources
 from kept.client import Client
-from kept.folder import JOURNAL, JOURNAL_LOST, WORDS, Trouble
+from kept.folder import WORDS, Trouble
 from kept.journal import Journal
-from kept.texts_file import Source, Text, Texts
+from kept.texts_file import Source, Text, opened
 
 # identifiers are drawn below the larger of these: short ones, and many more than there are
 LEAST_RANGE, RANGE_FOR_EACH = 10**9, 1000
 NEW, CHANGED, GONE, MOVED, BEFORE = "new", "changed", "gone", "moved", "as before"
-
-
-def opened(folder):
-    """The journal, and the texts as it has them."""
-    journal, texts = Journal(folder), Texts(folder)
-    if journal.records < texts.records:
-        raise Trouble(JOURNAL_LOST, f"{folder.shown(JOURNAL)} has {journal.records} records and had {texts.records}: put it back from "
-                      "a copy that isn't older than the last `archive index`. Where there is none, index into a new archive with a "
-                      "server of its own; the texts are where they were")
-    texts.follow(journal)
-    return journal, texts
 
 
 def index(folder, paths, with_gone, progress):

@@ -8,7 +8,8 @@ there is then told by the journal (`follow`).
 import json
 import os
 
-from kept.folder import DISK, TEXTS, Trouble, write_whole
+from kept.folder import DISK, JOURNAL, JOURNAL_LOST, TEXTS, Trouble, write_whole
+from kept.journal import Journal
 
 VERSION = 1
 
@@ -111,3 +112,13 @@ class Texts:
         """How many sources are to be read again, and how many documents to be deleted."""
         return sum(source.state is None for source in self.sources.values()), len(self.leaving)
 
+
+def opened(folder):
+    """The journal, and the texts as it has them."""
+    journal, texts = Journal(folder), Texts(folder)
+    if journal.records < texts.records:
+        raise Trouble(JOURNAL_LOST, f"{folder.shown(JOURNAL)} has {journal.records} records and had {texts.records}: put it back from "
+                      "a copy that isn't older than the last `archive index`. Where there is none, index into a new archive with a "
+                      "server of its own; the texts are where they were")
+    texts.follow(journal)
+    return journal, texts
