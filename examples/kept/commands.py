@@ -51,7 +51,7 @@ def searched(folder, journal, words, names, progress):
         raise Trouble(WORDS, "nothing was indexed yet: say what, `archive index PATHS..`")
     kept = folder.searches()
     found = None
-    progress.show("archive: the client goes on")
+    progress.show("the client goes on")
     with Client(folder, "more") as client:
         client.tell(f"key {folder.key()}")
         client.line()
@@ -59,6 +59,7 @@ def searched(folder, journal, words, names, progress):
             # it is kept before it is sent, as `leaks` tells what the server may have seen
             kept.append((journal.records, word))
             folder.keep_searches(kept)
+            progress.show("{} of {} words searched", words.index(word), len(words))
             client.tell(f"find {word}")
             identifiers = client.line().partition(":")[2].split()
             held = {names.get(int(identifier), ("", f"(document {identifier}, which isn't of this archive)", 0)) for identifier in identifiers}
@@ -75,13 +76,12 @@ def print_raw(text, end="\n"):
     sys.stdout.buffer.write(os.fsencode(text + end))
 
 
-def status(folder, is_offline):
+def status(folder, is_offline, progress):
     """Prints what the archive is, and asks the server. Returns the status."""
     journal, texts = opened(folder)
-    every = [text for source in texts.sources.values() for text in source.texts]
     to_read, to_delete = texts.to_do()
     print(f"archive:  {shelf.on_a_line(folder.path)}")
-    print(f"indexed:  {len(every):,} texts of {len(texts.sources):,} files, {sum(journal.live.values()):,} words, each once for a text")
+    print(f"indexed:  {len(texts.every()):,} texts of {len(texts.sources):,} files, {sum(journal.live.values()):,} words, each once for a text")
     for path in texts.paths:
         print(f"          {shelf.on_a_line(nearer(path))}")
     print(f"journal:  {journal.records:,} records, {journal.bytes:,} bytes")
@@ -91,25 +91,30 @@ def status(folder, is_offline):
     print(f"server:   {folder.settings['server']}", end="" if journal.records and not is_offline else "\n", flush=True)
     if not journal.records or is_offline:
         return 0
+    progress.show("the client goes on")
     try:
         with Client(folder, "more") as client:
             client.tell(f"key {folder.key()}")
             line = client.line()
             client.end()
     except Trouble:
-        print(", not asked to the end")
+        progress.end()
+        print()
         raise
+    progress.end()
     print(f", has all that is indexed ({line})")
     return 0
 
 
-def leaks(folder):
+def leaks(folder, progress):
     """Prints what the server has learned, a line for each command. Returns the status."""
     journal, _ = opened(folder)
     if not journal.records:
         raise Trouble(WORDS, "nothing was indexed yet, so the server has learned nothing")
     script = [f"key {folder.key()}", *journal.script(folder.searches())]
+    progress.show("the history of {:,} records is looked through", journal.records)
     lines, ended = shelf.run("\n".join(script).encode() + b"\n", "sse_leaks")
+    progress.end()
     for line in lines:
         print(line)
     return ended

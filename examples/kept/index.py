@@ -25,7 +25,9 @@ def index(folder, paths, with_gone, progress):
     plan.read(paths)
     plan.assign()
     texts.paths = sorted(set(texts.paths) | set(paths))
+    planned = len(texts.every())
     refused = plan.carry_out() if plan.additions or texts.leaving else {}
+    plan.counts[NEW] -= planned - len(texts.every())
     texts.keep()
     progress.end()
     plan.reading.tell()
@@ -68,7 +70,7 @@ class Plan:
         for file in files:
             if file not in looked_at:
                 looked_at.add(file)
-                self.progress.show("archive: {:,} files looked at, {:,} texts to be added", len(looked_at), len(self.unmatched))
+                self.progress.show("{:,} files looked at, {:,} texts to be added", len(looked_at), len(self.unmatched))
                 key = sources.key_of(file)
                 # two files whose names differ in flags alone aren't the same
                 key = file if key in seen else key
@@ -199,14 +201,14 @@ class Plan:
     def send(self, mode, script, count):
         refused, done = collections.Counter(), 0
         script = list(script)
-        self.progress.show("archive: {:,} documents are set up together" if mode == "run" else "archive: the client goes on", self.set_up)
+        self.progress.show("{:,} documents are set up together" if mode == "run" else "the client goes on", self.set_up)
         with Client(self.folder, mode) as client:
             client.tell_all(script)
             for line in client.lines():
                 if line.startswith("refused: "):
                     refused[line] += 1
                 done += self.set_up if line.startswith("set up ") else line.startswith(("added ", "deleted "))
-                self.progress.show("archive: {:,} of {:,} documents added or deleted", done, count)
+                self.progress.show("{:,} of {:,} documents added or deleted", done, count)
         return refused
 
 

@@ -1,33 +1,46 @@
 """How far a command is, on standard error, for what takes more than a second."""
 import sys
+import threading
 import time
 
-EVERY = 0.25
+# after how many seconds it is told, and how often then: on a terminal, and elsewhere
+FIRST, EVERY, EVERY_ELSEWHERE = 1, 0.25, 1
 
 
 class Progress:
-    """Lines over one another on a terminal; elsewhere, where they are asked for, one below the other."""
+    """What is shown last, with the seconds since the begin: on a terminal in one line over and over; elsewhere, where it is asked for,
+    one line below the other."""
 
     def __init__(self, is_wanted):
         self.is_terminal = sys.stderr.isatty()
-        self.is_wanted = is_wanted or self.is_terminal
-        self.next = time.monotonic() + 1
-        self.is_shown = False
+        self.begin = time.monotonic()
+        self.text = None
+        self.over = threading.Event()
+        self.teller = threading.Thread(target=self.tell, daemon=True)
+        if is_wanted or self.is_terminal:
+            self.teller.start()
 
     def show(self, text, *numbers):
-        now = time.monotonic()
-        if not self.is_wanted or now < self.next:
+        self.text = text, numbers
+
+    def tell(self):
+        if self.over.wait(FIRST):
             return
-        self.next = now + (EVERY if self.is_terminal else 1)
-        line = text.format(*numbers)
-        if self.is_terminal:
-            print(f"\r\x1b[K{line}", end="", file=sys.stderr, flush=True)
-            self.is_shown = True
-        else:
-            print(line, file=sys.stderr, flush=True)
+        while True:
+            self.print_line()
+            if self.over.wait(EVERY if self.is_terminal else EVERY_ELSEWHERE):
+                return
+
+    def print_line(self):
+        if self.text:
+            text, numbers = self.text
+            line = f"archive: {text.format(*numbers)} ({time.monotonic() - self.begin:.0f} s)"
+            print(f"\r\x1b[K{line}" if self.is_terminal else line, end="" if self.is_terminal else "\n", file=sys.stderr, flush=True)
 
     def end(self):
         """Clears the line, so that what is said next stands alone."""
-        if self.is_shown:
-            print("\r\x1b[K", end="", file=sys.stderr, flush=True)
-            self.is_shown = False
+        self.over.set()
+        if self.teller.is_alive():
+            self.teller.join()
+            if self.is_terminal:
+                print("\r\x1b[K", end="", file=sys.stderr, flush=True)

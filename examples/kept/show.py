@@ -26,7 +26,7 @@ def show(folder, name):
 
 def named(texts, name):
     """The texts that a name is for: a number, a path, a label."""
-    every = [(source, text) for source in texts.sources.values() for text in source.texts]
+    every = texts.every()
     if name.isdecimal() and name.isascii():
         found = [(source, text) for source, text in every if int(name) == text.number]
         if found:

@@ -80,7 +80,7 @@ class Texts:
                     self.leave(source, text)
                 source.texts, source.state = there, None
         self.leaving = {identifier: name for identifier, name in self.leaving.items() if identifier in journal.live}
-        named = {identifier for source in self.sources.values() for text in source.texts for identifier in text.identifiers}
+        named = {identifier for _, text in self.every() for identifier in text.identifiers}
         for identifier in journal.live:
             if identifier not in named:
                 self.leaving.setdefault(identifier, ["", f"(document {identifier}, whose name was lost)", 0])
@@ -99,13 +99,16 @@ class Texts:
         inside = os.path.join(path, "")
         return [key for key in self.sources if key == path or key.startswith(inside)]
 
+    def every(self):
+        """Each text with its source."""
+        return [(source, text) for source in self.sources.values() for text in source.texts]
+
     def by_identifier(self):
         """For each identifier the path, the label and the number of its text."""
         found = {identifier: tuple(name) for identifier, name in self.leaving.items()}
-        for source in self.sources.values():
-            for text in source.texts:
-                for identifier in text.identifiers:
-                    found[identifier] = (source.path, text.label, text.number)
+        for source, text in self.every():
+            for identifier in text.identifiers:
+                found[identifier] = (source.path, text.label, text.number)
         return found
 
     def to_do(self):
