@@ -9,7 +9,6 @@ import shelf
 from kept import sources
 from kept.client import Client
 from kept.folder import WORDS, Trouble
-from kept.journal import Journal
 from kept.texts_file import Source, Text, opened
 
 # identifiers are drawn below the larger of these: short ones, and many more than there are
@@ -24,7 +23,7 @@ def index(folder, paths, with_gone, progress):
     paths = plan.paths_of(paths, with_gone)
     plan.read(paths)
     plan.assign()
-    texts.paths = sorted(set(texts.paths) | set(paths))
+    texts.paths = sorted(path for path in {*texts.paths, *paths} if os.path.lexists(path) or path not in paths)
     planned = len(texts.every())
     refused = plan.carry_out() if plan.additions or texts.leaving else {}
     plan.counts[NEW] -= planned - len(texts.every())
@@ -181,7 +180,8 @@ class Plan:
             return {}
         self.texts.keep()
         refused = self.send(mode, self.script(mode, deletions), len(self.additions) + len(deletions))
-        self.texts.follow(Journal(self.folder))
+        self.journal.go_on()
+        self.texts.follow(self.journal)
         return refused
 
     def script(self, mode, deletions):

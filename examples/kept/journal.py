@@ -14,13 +14,12 @@ class NoJournal(Exception):
     """The bytes at this place are no record of a client."""
 
 
-def payloads(content):
-    """Where each record's payload begins and ends."""
+def payloads(content, place=len(MAGIC)):
+    """Where each record's payload begins and ends, from the record at a place on."""
     if len(content) <= len(MAGIC):
         return
     if content[: len(MAGIC)] != MAGIC:
         raise NoJournal(0)
-    place = len(MAGIC)
     while content[place] == 1 and place + 1 < len(content):
         begin = place + 5
         end = begin + int.from_bytes(content[place + 1 : begin], "big")
@@ -68,15 +67,19 @@ class Journal:
         self.folder = folder
         self.records = 0
         self.bytes = 0
-        self.pairs = 0  # of a word and a document that is there now
         self.live = {}  # identifier: how many words
         self.used = set()  # identifiers of documents that are there or were deleted
+        self.end = len(MAGIC)  # behind the last record
+        self.go_on()
+
+    def go_on(self):
+        """Takes the records that have come since."""
         self.content = self.read()
         try:
-            for begin, end in payloads(self.content):
+            for begin, end in payloads(self.content, self.end):
                 self.take(begin, end)
         except (NoJournal, IndexError) as error:
-            raise Trouble(JOURNAL_LOST, f"{folder.shown(JOURNAL)} is no client's journal from byte {error} on: put it back from "
+            raise Trouble(JOURNAL_LOST, f"{self.folder.shown(JOURNAL)} is no client's journal from byte {error} on: put it back from "
                           "a copy that isn't older than the last `archive index`") from error
 
     def read(self):
@@ -95,6 +98,7 @@ class Journal:
                 self.live[identifier] = count
                 self.used.add(identifier)
         self.records += 1
+        self.end = end
 
     def script(self, searches):
         """The lines of the script that the records give, with the searches among them; without a key line."""
