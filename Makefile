@@ -5,7 +5,7 @@
 # make quick  what can be told without a proof: layers, documents, and what has to compile and what mustn't
 # make docs   the checks of documents and layers alone, in seconds
 # make draw   draws the pictures of the documents anew, from what they show
-# make bench  times bin/sse_local on made-up scripts, and the rows of bin/sse_bench
+# make bench  times bin/sse_local on made-up scripts, the rows of bin/sse_bench, and sse_net with sse_served
 # make clean  forgets what was proved and built in this checkout
 # make help   prints these lines
 
