@@ -1,3 +1,4 @@
 pub mod Given
 pub mod Comparing
 pub mod ComparisonViews
+pub mod Made

@@ -1,11 +1,13 @@
-//! A client and its server in one process: the script comes from standard input, and what its lines come to
-//! goes to standard output. The words of the command line are those of `sse_run`: `run`; or `twin`, with which two scripts are compared
-//! by what a server would learn of them, and none is carried out. It ends with the status of the run, and with `stopped: memory` and 7
-//! where there is no memory to read the words in. What it chooses stands in `run_program`, a call over values: the keyed function, the
-//! words, the status. Here it only reads the command line and names its devices.
+//! A client and its server in one process: the script comes from standard input, and what its lines come to goes to standard output. The
+//! words of the command line are those of `sse_run`, `run`; or `twin`, with which two scripts are compared by what a server would learn
+//! of them, and none is carried out; or `gen SEED N`, with which a script that is made of two numbers is run and summed up in a line. It
+//! ends with the status of the run, and with `stopped: memory` and 7 where there is no memory to read the words in. What it chooses stands
+//! in `run_program`, a call over values: the keyed function, the words, the status. Here it only reads the command line and names its
+//! devices.
 #![tactic(auto)]
 
 mod comparison;
+mod made;
 mod program;
 mod twin;
 

@@ -1,17 +1,21 @@
 ghost use Rattle.std.specs.Prelude.{◌≡◌, ◌≢◌, None, Some, IfSome, drop, false, map, string_bytes, true};
 ghost use Rattle.history_reading.specs.Endings.{seen_of};
 ghost use Rattle.keyed_fn.specs.KeyedFn.{keyed_fn};
+ghost use Rattle.made_script.specs.Asked.{made_of};
 ghost use Rattle.run_texts.specs.Twins.{is_twin};
 ghost use Rattle.run_texts.specs.Words as asks;
 ghost use Rattle.sse_client.specs.OverServer.{PrintsAsRun, PrintsAsMeant};
 ghost use Rattle.sse_local.specs.Comparing.{HasCompared};
 ghost use Rattle.sse_local.specs.Given.{words_given};
+ghost use Rattle.sse_local.specs.Made.{HasMadeRun, IsMadeStatus, PrintsSummaryAsMeant};
 ghost use Rattle.sse_outside.specs.Fronts.{TookOrRose};
 ghost use Rattle.sse_script.specs.Shown.{Stopped, BadWords, NoMemory};
 ghost use Rattle.sse_script.specs.Texts.{text_of};
 
+use crate::made::made_run;
 use crate::twin::twin_run;
 use keyed_fn::{Keyed, Real};
+use made_script::made_of;
 use run_texts::{StopCause, asks_twin, finish};
 use sse_client::run_in_memory;
 use sse_outside::{Sink, Source};
@@ -29,8 +33,8 @@ pub(crate) enum CommandLine {
 }
 
 /// All that the program does with a command line, a source and a sink, and the status to end with: under the real keyed function
-/// it carries out the script, or compares two, where the words after its name ask for that. Where they aren't all texts it goes by no
-/// words.
+/// it carries out the script, or compares two, or sums up a run of a made one, where the words after its name ask for that. Where they
+/// aren't all texts it goes by no words.
 pub(crate) fn run_program<S: Source, W: Sink>(
     alloc: Global,
     given: CommandLine,
@@ -43,8 +47,13 @@ pub(crate) fn run_program<S: Source, W: Sink>(
         PrintsAsMeant (keyed_fn ⟦<Real as Keyed>⟧.prf ⟦<Real as Keyed>⟧.pad) bytes (W.written sink.old) (W.written sink.new) result)) }
     ensures compares { IfSome (words_given given) (λ words. is_twin words ≡ true → IfSome (S.remaining source.old) (λ bytes.
         HasCompared (keyed_fn ⟦<Real as Keyed>⟧.prf ⟦<Real as Keyed>⟧.pad) bytes (seen_of (W.written sink.old) (W.faults sink.old) (W.shortages sink.old)) (seen_of (W.written sink.new) (W.faults sink.new) (W.shortages sink.new)) result)) }
-    ensures other_words { IfSome (words_given given) (λ words. asks.mode_of words ≡ None → is_twin words ≡ false → result ≡ 2) }
-    ensures other_words_line { IfSome (words_given given) (λ words. asks.mode_of words ≡ None → is_twin words ≡ false →
+    ensures sums_up { IfSome (words_given given) (λ words. IfSome (made_of words) (λ made.
+        HasMadeRun (keyed_fn ⟦<Real as Keyed>⟧.prf ⟦<Real as Keyed>⟧.pad) made.seed made.documents (seen_of (W.written sink.old) (W.faults sink.old) (W.shortages sink.old)) (seen_of (W.written sink.new) (W.faults sink.new) (W.shortages sink.new)) result)) }
+    ensures summary { IfSome (words_given given) (λ words. IfSome (made_of words) (λ made. result ≢ 4 → result ≢ 7 →
+        PrintsSummaryAsMeant (keyed_fn ⟦<Real as Keyed>⟧.prf ⟦<Real as Keyed>⟧.pad) made.seed made.documents (W.written sink.old) (W.written sink.new) result)) }
+    ensures made_status { IfSome (words_given given) (λ words. IfSome (made_of words) (λ made. IsMadeStatus result (W.faults sink.old) (W.faults sink.new))) }
+    ensures other_words { IfSome (words_given given) (λ words. asks.mode_of words ≡ None → is_twin words ≡ false → made_of words ≡ None → result ≡ 2) }
+    ensures other_words_line { IfSome (words_given given) (λ words. asks.mode_of words ≡ None → is_twin words ≡ false → made_of words ≡ None →
         TookOrRose (W.written sink.old) (W.written sink.new) (text_of (Stopped BadWords)) (W.faults sink.old) (W.faults sink.new) (W.shortages sink.old) (W.shortages sink.new)) }
     ensures no_memory { words_given given ≡ None → result ≡ 7 }
     ensures no_memory_line { words_given given ≡ None →
@@ -57,7 +66,7 @@ pub(crate) fn run_program<S: Source, W: Sink>(
     }
 }
 
-/// What the words ask for: compares two scripts, or carries one out.
+/// What the words ask for: sums up a run of a made script, compares two scripts, or carries one out.
 fn by_words<S: Source, W: Sink>(alloc: Global, words: &[String], source: &mut S, sink: &mut W) -> u8
     ensures runs { asks.mode_of (map (λ word. string_bytes word) words.now) ≡ Some asks.Run → IfSome (S.remaining source.old) (λ bytes.
         PrintsAsRun (keyed_fn ⟦<Real as Keyed>⟧.prf ⟦<Real as Keyed>⟧.pad) bytes (W.written sink.old) (W.written sink.new) result) }
@@ -65,11 +74,18 @@ fn by_words<S: Source, W: Sink>(alloc: Global, words: &[String], source: &mut S,
         PrintsAsMeant (keyed_fn ⟦<Real as Keyed>⟧.prf ⟦<Real as Keyed>⟧.pad) bytes (W.written sink.old) (W.written sink.new) result) }
     ensures compares { is_twin (map (λ word. string_bytes word) words.now) ≡ true → IfSome (S.remaining source.old) (λ bytes.
         HasCompared (keyed_fn ⟦<Real as Keyed>⟧.prf ⟦<Real as Keyed>⟧.pad) bytes (seen_of (W.written sink.old) (W.faults sink.old) (W.shortages sink.old)) (seen_of (W.written sink.new) (W.faults sink.new) (W.shortages sink.new)) result) }
-    ensures other_words { asks.mode_of (map (λ word. string_bytes word) words.now) ≡ None → is_twin (map (λ word. string_bytes word) words.now) ≡ false → result ≡ 2 }
-    ensures other_words_line { asks.mode_of (map (λ word. string_bytes word) words.now) ≡ None → is_twin (map (λ word. string_bytes word) words.now) ≡ false →
+    ensures sums_up { IfSome (made_of (map (λ word. string_bytes word) words.now)) (λ made.
+        HasMadeRun (keyed_fn ⟦<Real as Keyed>⟧.prf ⟦<Real as Keyed>⟧.pad) made.seed made.documents (seen_of (W.written sink.old) (W.faults sink.old) (W.shortages sink.old)) (seen_of (W.written sink.new) (W.faults sink.new) (W.shortages sink.new)) result) }
+    ensures summary { IfSome (made_of (map (λ word. string_bytes word) words.now)) (λ made. result ≢ 4 → result ≢ 7 →
+        PrintsSummaryAsMeant (keyed_fn ⟦<Real as Keyed>⟧.prf ⟦<Real as Keyed>⟧.pad) made.seed made.documents (W.written sink.old) (W.written sink.new) result) }
+    ensures made_status { IfSome (made_of (map (λ word. string_bytes word) words.now)) (λ made. IsMadeStatus result (W.faults sink.old) (W.faults sink.new)) }
+    ensures other_words { asks.mode_of (map (λ word. string_bytes word) words.now) ≡ None → is_twin (map (λ word. string_bytes word) words.now) ≡ false → made_of (map (λ word. string_bytes word) words.now) ≡ None → result ≡ 2 }
+    ensures other_words_line { asks.mode_of (map (λ word. string_bytes word) words.now) ≡ None → is_twin (map (λ word. string_bytes word) words.now) ≡ false → made_of (map (λ word. string_bytes word) words.now) ≡ None →
         TookOrRose (W.written sink.old) (W.written sink.new) (text_of (Stopped BadWords)) (W.faults sink.old) (W.faults sink.new) (W.shortages sink.old) (W.shortages sink.new) }
 {
-    if asks_twin(words) {
+    if let Some(made) = made_of(words) {
+        made_run(alloc, &Real, made, sink)
+    } else if asks_twin(words) {
         twin_run(alloc, &Real, source, sink)
     } else {
         run_in_memory(alloc, words, &Real, source, sink)

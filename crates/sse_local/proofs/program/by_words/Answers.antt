@@ -1,7 +1,7 @@
-use Rattle.std.proofs.Common.{◌≡◌, None, Some, map, sym, ◌∙◌}
+use Rattle.std.proofs.Common.{◌≡◌, true, false, None, Some, map, sym, ◌∙◌}
 use Rattle.std.specs.Prelude.{string_bytes}
 use Rattle.run_texts.specs.Words.{Run}
-use Rattle.sse_local.proofs.Asked.{mode_of-twin}
+use Rattle.sse_local.proofs.Asked.{is_twin-made, mode_of-made, mode_of-twin}
 use Rattle.sse_local.proofs.program.by_words.Goals as goal
 
 pub returns-then-asks_twin-clause-runs : goal.returns-then-asks_twin-clause-runs
@@ -11,3 +11,15 @@ returns-then-asks_twin-clause-runs g c = λ runs.
 pub returns-then-asks_twin-clause-headline : goal.returns-then-asks_twin-clause-headline
 returns-then-asks_twin-clause-headline g c = λ runs.
     let no : None ≡ Some Run = sym (mode_of-twin (map (λ word. string_bytes word) c.args.words.now) (sym c.asks_twin.ensures ∙ c.if-asks_twin.true)) ∙ runs in absurd (cc)
+
+pub returns-in-Some-clause-runs : goal.returns-in-Some-clause-runs
+returns-in-Some-clause-runs g c = λ runs.
+    let no : None ≡ Some Run = sym (mode_of-made (map (λ word. string_bytes word) c.args.words.now) c.in-Some.made (sym c.in-Some.ensures)) ∙ runs in absurd (cc)
+
+pub returns-in-Some-clause-headline : goal.returns-in-Some-clause-headline
+returns-in-Some-clause-headline g c = λ runs.
+    let no : None ≡ Some Run = sym (mode_of-made (map (λ word. string_bytes word) c.args.words.now) c.in-Some.made (sym c.in-Some.ensures)) ∙ runs in absurd (cc)
+
+pub returns-in-Some-clause-compares : goal.returns-in-Some-clause-compares
+returns-in-Some-clause-compares g c = λ twin.
+    let no : false ≡ true = sym (is_twin-made (map (λ word. string_bytes word) c.args.words.now) c.in-Some.made (sym c.in-Some.ensures)) ∙ twin in absurd (cc)

@@ -26,3 +26,15 @@ returns-in-Words-clause-other_words g c =
 pub returns-in-Words-clause-other_words_line : goal.returns-in-Words-clause-other_words_line
 returns-in-Words-clause-other_words_line g c =
     of_words _ _ _ (ap words_given c.in-Words.is ∙ ap (λ words. Some (map (λ word. string_bytes word) words)) (sym (c.behind_name.ensures ∙ ap (drop 1) c.as_slice.ensures.value))) c.by_words.ensures.other_words_line
+
+pub returns-in-Words-clause-sums_up : goal.returns-in-Words-clause-sums_up
+returns-in-Words-clause-sums_up g c =
+    of_words _ _ _ (ap words_given c.in-Words.is ∙ ap (λ words. Some (map (λ word. string_bytes word) words)) (sym (c.behind_name.ensures ∙ ap (drop 1) c.as_slice.ensures.value))) c.by_words.ensures.sums_up
+
+pub returns-in-Words-clause-summary : goal.returns-in-Words-clause-summary
+returns-in-Words-clause-summary g c =
+    of_words _ _ _ (ap words_given c.in-Words.is ∙ ap (λ words. Some (map (λ word. string_bytes word) words)) (sym (c.behind_name.ensures ∙ ap (drop 1) c.as_slice.ensures.value))) c.by_words.ensures.summary
+
+pub returns-in-Words-clause-made_status : goal.returns-in-Words-clause-made_status
+returns-in-Words-clause-made_status g c =
+    of_words _ _ _ (ap words_given c.in-Words.is ∙ ap (λ words. Some (map (λ word. string_bytes word) words)) (sym (c.behind_name.ensures ∙ ap (drop 1) c.as_slice.ensures.value))) c.by_words.ensures.made_status
