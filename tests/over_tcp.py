@@ -85,8 +85,15 @@ def exchanges(script):
     return frames
 
 
-def is_update(frame):
-    return frame[4] in UPDATES
+def by_command(frames):
+    """What passes for each command, the greeting first: the frames of a setup behind its first one belong to it."""
+    commands = []
+    for exchange in frames:
+        if exchange[0][4] in range(3, 6):
+            commands[-1].append(exchange)
+        else:
+            commands.append([exchange])
+    return commands
 
 
 def parts(script):
@@ -108,15 +115,8 @@ def parts(script):
     return found
 
 
-def by_command(frames):
-    """What passes for each command, the greeting first: the frames of a setup behind its first one belong to it."""
-    commands = []
-    for exchange in frames:
-        if exchange[0][4] in range(3, 6):
-            commands[-1].append(exchange)
-        else:
-            commands.append([exchange])
-    return commands
+def is_update(frame):
+    return frame[4] in UPDATES
 
 
 def server_records(frames):
