@@ -51,6 +51,7 @@ pub(crate) fn run_program<S: Source, W: Sink>(
         HasMadeRun (keyed_fn ⟦<Real as Keyed>⟧.prf ⟦<Real as Keyed>⟧.pad) made.seed made.documents (seen_of (W.written sink.old) (W.faults sink.old) (W.shortages sink.old)) (seen_of (W.written sink.new) (W.faults sink.new) (W.shortages sink.new)) result)) }
     ensures summary { IfSome (words_given given) (λ words. IfSome (made_of words) (λ made. result ≢ 4 → result ≢ 7 →
         PrintsSummaryAsMeant (keyed_fn ⟦<Real as Keyed>⟧.prf ⟦<Real as Keyed>⟧.pad) made.seed made.documents (W.written sink.old) (W.written sink.new) result)) }
+    ensures made_unread { IfSome (words_given given) (λ words. IfSome (made_of words) (λ made. source.new ≡ source.old)) }
     ensures made_status { IfSome (words_given given) (λ words. IfSome (made_of words) (λ made. IsMadeStatus result (W.faults sink.old) (W.faults sink.new))) }
     ensures other_words { IfSome (words_given given) (λ words. asks.mode_of words ≡ None → is_twin words ≡ false → made_of words ≡ None → result ≡ 2) }
     ensures other_words_line { IfSome (words_given given) (λ words. asks.mode_of words ≡ None → is_twin words ≡ false → made_of words ≡ None →
@@ -78,6 +79,7 @@ fn by_words<S: Source, W: Sink>(alloc: Global, words: &[String], source: &mut S,
         HasMadeRun (keyed_fn ⟦<Real as Keyed>⟧.prf ⟦<Real as Keyed>⟧.pad) made.seed made.documents (seen_of (W.written sink.old) (W.faults sink.old) (W.shortages sink.old)) (seen_of (W.written sink.new) (W.faults sink.new) (W.shortages sink.new)) result) }
     ensures summary { IfSome (made_of (map (λ word. string_bytes word) words.now)) (λ made. result ≢ 4 → result ≢ 7 →
         PrintsSummaryAsMeant (keyed_fn ⟦<Real as Keyed>⟧.prf ⟦<Real as Keyed>⟧.pad) made.seed made.documents (W.written sink.old) (W.written sink.new) result) }
+    ensures made_unread { IfSome (made_of (map (λ word. string_bytes word) words.now)) (λ made. source.new ≡ source.old) }
     ensures made_status { IfSome (made_of (map (λ word. string_bytes word) words.now)) (λ made. IsMadeStatus result (W.faults sink.old) (W.faults sink.new)) }
     ensures other_words { asks.mode_of (map (λ word. string_bytes word) words.now) ≡ None → is_twin (map (λ word. string_bytes word) words.now) ≡ false → made_of (map (λ word. string_bytes word) words.now) ≡ None → result ≡ 2 }
     ensures other_words_line { asks.mode_of (map (λ word. string_bytes word) words.now) ≡ None → is_twin (map (λ word. string_bytes word) words.now) ≡ false → made_of (map (λ word. string_bytes word) words.now) ≡ None →

@@ -38,3 +38,7 @@ returns-in-Words-clause-summary g c =
 pub returns-in-Words-clause-made_status : goal.returns-in-Words-clause-made_status
 returns-in-Words-clause-made_status g c =
     of_words _ _ _ (ap words_given c.in-Words.is ∙ ap (λ words. Some (map (λ word. string_bytes word) words)) (sym (c.behind_name.ensures ∙ ap (drop 1) c.as_slice.ensures.value))) c.by_words.ensures.made_status
+
+pub returns-in-Words-clause-made_unread : goal.returns-in-Words-clause-made_unread
+returns-in-Words-clause-made_unread g c =
+    of_words _ _ _ (ap words_given c.in-Words.is ∙ ap (λ words. Some (map (λ word. string_bytes word) words)) (sym (c.behind_name.ensures ∙ ap (drop 1) c.as_slice.ensures.value))) c.by_words.ensures.made_unread
