@@ -1,5 +1,5 @@
 -- What the fields of the pairs of a word stand for, and which of them are found by halving.
-use Rattle.std.specs.Prelude.{◌≡◌, ℕ, ◌++◌, List, true, false, length, nat_eq}
+use Rattle.std.specs.Prelude.{◌≡◌, ◌-◌, ◌<◌, ℕ, ◌++◌, List, true, false, length, nat_eq, slice_index}
 use Rattle.std.specs.List.{list_any}
 use Rattle.std.specs.List.Sorted.{IsStrictlyIncreasing}
 use Rattle.sse_simulator.specs.Leaks.{ListedLeak}
@@ -11,8 +11,9 @@ use Rattle.leakage_model.specs.declared.pairs.Pairs.TheInside.{Inside}
 abbrev pub pairs_of : Inside → List ListedLeak
 pairs_of w = pairs_beside w.ids.items w.front.items ++ pairs_in w.rest.entries
 
--- the first identifiers rise, each has its pair, and none of them is that of another pair
+-- the first identifiers rise to the last, each has its pair, and none of them is that of another pair
 pub record AreInOrder (w : Inside) : Type 0 where
   pub rising : IsStrictlyIncreasing w.ids.items
   pub beside : length w.front.items ≡ length w.ids.items
+  pub last : 0 < length w.ids.items → slice_index w.ids.items (length w.ids.items - 1) ≡ w.last
   pub apart : (id : ℕ) → list_any (nat_eq id) w.ids.items ≡ true → lists id (pairs_in w.rest.entries) ≡ false

@@ -18,13 +18,15 @@ use std::marker::Model;
 type Hashed = IndexMap<DocId, Pair, HashKeys>;
 
 /// The pairs of a word, in the order in which they were listed. As long as each identifier is greater than those before it, a pair is
-/// found by halving, so that one more is put behind the others and nothing else is read or written.
+/// found by halving, and one more is put behind the others, of which none is read.
 #[derive(Drop)]
 pub(crate) struct Pairs {
     /// The identifiers up to the first that isn't greater than the one before it.
     ids: Vec<u64>,
     /// What is kept of their pairs.
     front: Vec<Pair>,
+    /// The last of these identifiers, or 0: it lies here, since the end of a long list is in no cache.
+    last: u64,
     /// The pairs behind them.
     rest: Hashed,
 }
@@ -50,6 +52,7 @@ impl Pairs {
         Pairs {
             ids: Vec::new(alloc),
             front: Vec::new(alloc),
+            last: 0,
             rest: IndexMap::with_hasher(alloc, keys),
         }
     }
@@ -65,7 +68,7 @@ impl Pairs {
     pub(crate) fn lists(&self, id: DocId) -> bool
         ensures { result ≡ lists (id_number id) self.now }
     {
-        match place_among(&self.ids, id.get()) {
+        match place_among(&self.ids, self.last, id.get()) {
             Some(_) => true,
             None => self.rest.contains_key(&id),
         }
@@ -75,7 +78,7 @@ impl Pairs {
     pub(crate) fn number(&self, id: DocId) -> Option<Origin>
         ensures { option_map origin_view result ≡ number_among (id_number id) self.now }
     {
-        match place_among(&self.ids, id.get()) {
+        match place_among(&self.ids, self.last, id.get()) {
             Some(place) => self.front[place].number,
             None => number_in(&self.rest, id),
         }
@@ -85,7 +88,7 @@ impl Pairs {
     pub(crate) fn send(&mut self, id: DocId, there: Origin, revoked: bool)
         ensures { self.new ≡ sent_among (id_number id) (origin_view there) revoked self.old }
     {
-        match place_among(&self.ids, id.get()) {
+        match place_among(&self.ids, self.last, id.get()) {
             Some(place) => {
                 let pair = &mut self.front[place];
                 pair.send(there, revoked);
@@ -100,14 +103,15 @@ impl Pairs {
     pub(crate) fn add(&mut self, id: DocId, there: Origin) -> Result<(), AllocError>
         ensures { OnOk result (self.new ≡ listed_with (id_number id) (origin_view there) self.old) }
     {
-        if is_behind(&self.ids, &self.rest, id) {
+        if is_behind(self.last, &self.rest, id) {
             // All memory is taken first, so that the two stay as long as each other.
             self.front.reserve(1)?;
             self.ids.push(id.get())?;
             self.front.push_reserved(listed_pair(there));
+            self.last = id.get();
             return Ok(());
         }
-        match place_among(&self.ids, id.get()) {
+        match place_among(&self.ids, self.last, id.get()) {
             Some(place) => {
                 let pair = &mut self.front[place];
                 pair.send(there, false);
@@ -180,23 +184,14 @@ fn leak_of(id: u64, pair: &Pair) -> ListedLeak
     }
 }
 
-/// Whether the identifier is greater than the last of these.
-fn is_above(ids: &[u64], id: u64) -> bool
-    ensures { result ≡ true → 0 < length ids.now → slice_index ids.now (length ids.now - 1) < id }
-{
-    match ids.last() {
-        Some(last) => *last < id,
-        None => true,
-    }
-}
-
-/// Where the identifier stands among these, which rise. One that is greater than the last is not looked for.
-fn place_among(ids: &[u64], id: u64) -> Option<usize>
-    requires { IsStrictlyIncreasing ids.now }
+/// Where the identifier stands among these, which rise up to the last. One that is greater than it is not looked for.
+fn place_among(ids: &[u64], last: u64, id: u64) -> Option<usize>
+    requires rising { IsStrictlyIncreasing ids.now }
+    requires last { 0 < length ids.now → slice_index ids.now (length ids.now - 1) ≡ last }
     ensures found { IfSome result (λ place. slice_get ids.now place ≡ Some id) }
     ensures absent { IfNone result (list_any (nat_eq id) ids.now ≡ false) }
 {
-    if is_above(ids, id) {
+    if last < id {
         return None;
     }
     match ids.binary_search(&id) {
@@ -205,15 +200,15 @@ fn place_among(ids: &[u64], id: u64) -> Option<usize>
     }
 }
 
-/// Whether a pair of this identifier goes behind those of these identifiers, where there are no others and it is greater than the last.
-fn is_behind(ids: &[u64], rest: &Hashed, id: DocId) -> bool
+/// Whether a pair of this identifier goes behind those up to the last identifier, where there are no others and it is greater.
+fn is_behind(last: u64, rest: &Hashed, id: DocId) -> bool
     ensures alone { result ≡ true → rest.now.entries ≡ [] }
-    ensures above { result ≡ true → 0 < length ids.now → slice_index ids.now (length ids.now - 1) < id_number id }
+    ensures above { result ≡ true → last < id_number id }
 {
     if !rest.is_empty() {
         return false;
     }
-    is_above(ids, id.get())
+    last < id.get()
 }
 
 /// Where the revocation number of the pair of this identifier was first sent.

@@ -1,4 +1,4 @@
-use Rattle.std.proofs.Common.{refl, sym, ap, ◌∙◌}
+use Rattle.std.proofs.Common.{◌<◌, sym, ap, subst, ◌∙◌}
 use Rattle.std.specs.Prelude.{is_ok}
 use Rattle.std.proofs.lemmas.List.Sorted.{searched}
 use Rattle.client_registry.proofs.MemberLaws.{found_among}
@@ -9,7 +9,7 @@ pub returns-in-Err-clause-absent : goal.returns-in-Err-clause-absent
 returns-in-Err-clause-absent c =
     let ids = c.args.ids.now in
     let r = c.binary_search.result in
-    sym (found_among ids c.args.id r (searched ids c.args.id r c.binary_search.ensures.position (rising_order ids c.requires))) ∙ ap is_ok c.in-Err.is
+    sym (found_among ids c.args.id r (searched ids c.args.id r c.binary_search.ensures.position (rising_order ids c.requires.rising))) ∙ ap is_ok c.in-Err.is
 
-pub returns-then-is_above-clause-absent : goal.returns-then-is_above-clause-absent
-returns-then-is_above-clause-absent c = none-above c.args.ids.now c.args.id c.requires (c.if-is_above.ensures refl)
+pub returns-then-last-id-clause-absent : goal.returns-then-last-id-clause-absent
+returns-then-last-id-clause-absent c = none-above c.args.ids.now c.args.id c.requires.rising (λ some. subst (λ n. n < c.args.id) (sym (c.requires.last some)) c.if-last-id.true)

@@ -21,7 +21,7 @@ returns-then-is_behind c =
     let now = c.args.self.now in
     let empty : w.rest.entries ≡ [] = c.if-is_behind.ensures.alone refl in
     let none : list_any (nat_eq id) w.ids.items ≡ false =
-    none-above w.ids.items id had.rising (subst (λ ids. 0 < length ids → slice_index ids (length ids - 1) < id) c.deref.ensures.value (c.if-is_behind.ensures.above refl)) in
+    none-above w.ids.items id had.rising (λ some. subst (λ n. n < id) (sym (had.last some)) (c.if-is_behind.ensures.above refl)) in
     let unlisted : lists id now ≡ false =
     ap (lists id) (sym c.self.view_is) ∙ lists-behind w.ids.items w.front.items (pairs_in w.rest.entries) id had.beside none ∙ ap (λ es. lists id (pairs_in es)) empty in
     let alone : pairs_beside w.ids.items w.front.items ≡ now =
@@ -39,7 +39,7 @@ index_mut-pair-requires c =
     let i = c.in-Some.place in
     subst (λ n. i < n) (sym (w.front.ok.0 ∙ c.self.invariant.beside))
     (slice_get_within w.ids.items i (id_number c.args.id)
-    (ap (λ ids. slice_get ids i) (sym c.deref-2.ensures.value) ∙ c.in-Some.ensures.found ∙ ap (λ n. Some n) c.get-2.ensures.number))
+    (ap (λ ids. slice_get ids i) (sym c.deref.ensures.value) ∙ c.in-Some.ensures.found ∙ ap (λ n. Some n) c.get-2.ensures.number))
 
 pub invariant_of-self-in-None : goal.invariant_of-self-in-None
 invariant_of-self-in-None c =
@@ -48,10 +48,11 @@ invariant_of-self-in-None c =
     let id = id_number c.args.id in
     let there = origin_view c.args.there in
     let none : list_any (nat_eq id) w.ids.items ≡ false =
-    (λ i. list_any (nat_eq (sym c.get-2.ensures.number i)) (sym c.deref-2.ensures.value i)) ∙ c.in-None.ensures.absent in
+    (λ i. list_any (nat_eq (sym c.get-2.ensures.number i)) (sym c.deref.ensures.value i)) ∙ c.in-None.ensures.absent in
     record {
       rising = had.rising;
       beside = had.beside;
+      last = had.last;
       apart =
           λ x here.
           of_either c.add_pair.result (pairs_in c.add_pair.new.pairs.entries) (listed_with id there (pairs_in w.rest.entries)) (pairs_in w.rest.entries) x
@@ -71,7 +72,7 @@ returns-in-Some c =
     let there = origin_view c.args.there in
     let i = c.in-Some.place in
     let now = c.args.self.now in
-    let at = ap (λ ids. slice_get ids i) (sym c.deref-2.ensures.value) ∙ c.in-Some.ensures.found ∙ ap (λ n. Some n) c.get-2.ensures.number in
+    let at = ap (λ ids. slice_get ids i) (sym c.deref.ensures.value) ∙ c.in-Some.ensures.found ∙ ap (λ n. Some n) c.get-2.ensures.number in
     let listed : lists id now ≡ true = ap (lists id) (sym c.self.view_is) ∙ lists-at w.ids.items w.front.items (pairs_in w.rest.entries) id i had.beside at in
     sent-at w.ids.items w.front.items (pairs_in w.rest.entries) id i c.index_mut-pair.result.now c.send.new.self there false had.rising had.beside at
     (slice_get_read w.front.items (length w.ids.items) i c.index_mut-pair.result.now (sym had.beside) (slice_get_within w.ids.items i id at) c.index_mut-pair.ensures.value)
@@ -89,6 +90,6 @@ returns-in-None c =
     (λ more.
     ap (λ ps. pairs_beside w.ids.items w.front.items ++ ps) more
     ∙ listed-behind w.ids.items w.front.items (pairs_in w.rest.entries) id c.self.invariant.beside
-    ((λ i. list_any (nat_eq (sym c.get-2.ensures.number i)) (sym c.deref-2.ensures.value i)) ∙ c.in-None.ensures.absent) there
+    ((λ i. list_any (nat_eq (sym c.get-2.ensures.number i)) (sym c.deref.ensures.value i)) ∙ c.in-None.ensures.absent) there
     ∙ ap (listed_with id there) c.self.view_is)
     c.add_pair.ensures.ok

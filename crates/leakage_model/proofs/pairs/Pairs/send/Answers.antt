@@ -16,6 +16,7 @@ invariant_of-self-in-None c =
     record {
       rising = had.rising;
       beside = had.beside;
+      last = had.last;
       apart =
           λ x here.
           ap (lists x) c.send_number.ensures.sent ∙ lists-sent x (id_number c.args.id) (origin_view c.args.there) c.args.revoked (pairs_in w.rest.entries) ∙ had.apart x here;
