@@ -56,8 +56,9 @@ impl Bytes {
 fn mask(bytes: &mut [u8], text: &[u8])
     ensures { bytes.new ≡ xored bytes.old text.now }
 {
-    for (i, byte) in bytes.iter_mut().enumerate() {
-        *byte ^= byte_at(text, i);
+    let shared = bytes.len().min(text.len());
+    for i in 0..shared {
+        bytes[i] ^= text[i];
     }
 }
 

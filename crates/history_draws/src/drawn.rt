@@ -21,7 +21,7 @@ use crate::values::draw_of;
 use command_history::{Command, History};
 use drawn_values::{Drawing, drawings};
 use named_values::Sheet;
-use setup_plaintexts::plaintexts;
+use setup_plaintexts::{Text, plaintexts};
 use simulated_frames::Draw;
 use sse_frames::Items;
 use std::alloc::{AllocError, Global};
@@ -31,7 +31,7 @@ fn draws_beside(
     alloc: Global,
     sheet: &Sheet,
     drawings: &[Drawing],
-    clears: &[Items<u8>],
+    clears: &[Text],
 ) -> Result<Items<Draw>, AllocError>
     requires { length drawings.now ≡ length clears.now }
     ensures { IfOk result (λ draws. map draw_view draws ≡ beside (draw_given sheet.now) drawings.now clears.now) }

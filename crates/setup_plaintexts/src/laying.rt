@@ -8,8 +8,8 @@ ghost use Rattle.sse_model.specs.Positions.{block_positions, block_text, blocks_
 ghost use Rattle.two_level.specs.Laid.{laid};
 ghost use Rattle.two_level.specs.Plan as layout;
 
-use crate::bytes::{copied, zeros};
 use crate::size::setup_size;
+use crate::text::Text;
 use client_registry::{Docs, Size};
 use command_history::History;
 use index_setup::{blocks_in, lists_of};
@@ -18,12 +18,7 @@ use std::alloc::{AllocError, Global};
 use two_level::{Shape, lay_block, lay_cell};
 
 /// The cell of a list in the clear. `ranks` has the places of its blocks.
-fn clear_cell(
-    alloc: Global,
-    ids: &[u64],
-    ranks: &[u32],
-    shape: Shape,
-) -> Result<Items<u8>, AllocError>
+fn clear_cell(alloc: Global, ids: &[u64], ranks: &[u32], shape: Shape) -> Result<Text, AllocError>
     requires some { 1 ≤ length ids.now }
     requires planned { IsSome (layout.plan shape (length ids.now)) }
     requires ranks { length ranks.now ≡ layout.block_count (layout.plan shape (length ids.now)) }
@@ -31,7 +26,7 @@ fn clear_cell(
 {
     let mut cell = vec![in alloc; 0u8; shape.cell_size()]?;
     lay_cell(ids, ranks, shape, &mut cell);
-    copied(alloc, &cell)
+    Ok(Text::of(cell))
 }
 
 /// Block i of a list in the clear.
@@ -41,7 +36,7 @@ fn clear_block(
     ranks: &[u32],
     shape: Shape,
     i: u32,
-) -> Result<Items<u8>, AllocError>
+) -> Result<Text, AllocError>
     requires some { 1 ≤ length ids.now }
     requires planned { IsSome (layout.plan shape (length ids.now)) }
     requires ranks { length ranks.now ≡ layout.block_count (layout.plan shape (length ids.now)) }
@@ -50,13 +45,13 @@ fn clear_block(
 {
     let mut block = vec![in alloc; 0u8; shape.block_size()]?;
     lay_block(ids, ranks, shape, i, &mut block);
-    copied(alloc, &block)
+    Ok(Text::of(block))
 }
 
 /// Appends each block of a list in the clear.
 fn push_blocks_of(
     alloc: Global,
-    texts: &mut Items<Items<u8>>,
+    texts: &mut Items<Text>,
     ids: &[u64],
     ranks: &[u32],
     shape: Shape,
@@ -76,7 +71,7 @@ fn push_blocks_of(
 /// Appends the cell of each word's list. `ids` has all lists, by word number, and `ranks` the place of each block.
 fn push_cells(
     alloc: Global,
-    texts: &mut Items<Items<u8>>,
+    texts: &mut Items<Text>,
     docs: &Docs,
     size: &Size,
     ids: &[u64],
@@ -102,7 +97,7 @@ fn push_cells(
 /// Appends the blocks of each word's list.
 fn push_blocks(
     alloc: Global,
-    texts: &mut Items<Items<u8>>,
+    texts: &mut Items<Text>,
     docs: &Docs,
     size: &Size,
     ids: &[u64],
@@ -128,14 +123,14 @@ fn push_blocks(
 /// Appends so many texts of zeros, each of this size.
 fn push_zeros(
     alloc: Global,
-    texts: &mut Items<Items<u8>>,
+    texts: &mut Items<Text>,
     count: u32,
     size: usize,
 ) -> Result<(), AllocError>
     ensures { OnOk result (texts.new ≡ texts.old ++ map (λ i. replicate size 0) (range_with_len 0 count)) }
 {
     for _ in 0..count {
-        texts.push(zeros(alloc, size)?)?;
+        texts.push(Text::zeros(alloc, size)?)?;
     }
     Ok(())
 }
@@ -146,7 +141,7 @@ pub fn plaintexts(
     alloc: Global,
     history: &History,
     ranks: &[u32],
-) -> Result<Items<Items<u8>>, AllocError>
+) -> Result<Items<Text>, AllocError>
     requires accepted { size_refusal history.now.setup ≡ None }
     requires ranks { blocks_of history.now.setup ≤ length ranks.now }
     ensures { IfOk result (λ texts. texts ≡ clears ranks.now (entry_positions 0 history.now.setup ++ block_positions 0 history.now.setup)) }

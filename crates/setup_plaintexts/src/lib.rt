@@ -4,8 +4,9 @@
 //! positions of the definitions, in their order. No key, label or pad is known here, and nothing is encrypted.
 #![tactic(auto)]
 
-mod bytes;
 mod laying;
 mod size;
+mod text;
 
 pub use laying::plaintexts;
+pub use text::Text;

@@ -1,4 +1,4 @@
-use Rattle.std.proofs.Common.{◌≡◌, IfOk, length, ap, subst, ◌∙◌}
+use Rattle.std.proofs.Common.{length, ap, ◌∙◌}
 use Rattle.two_level.specs.Laid.{laid}
 use Rattle.setup_plaintexts.proofs.ClearLaws.{written_back, block_laid}
 use Rattle.setup_plaintexts.proofs.laying.clear_block.Goals as goal
@@ -7,7 +7,6 @@ pub returns : goal.returns
 returns c =
     let block = c.in_ok-block.block in
     let out = c.lay_block.new.out in
-    subst (λ bytes. IfOk c.copied.result (λ text. text ≡ bytes))
-    (c.deref.ensures.value
+    c.of.ensures
     ∙ written_back out block.items block.len block.ok.0 (c.lay_block.auto.out ∙ ap length c.deref_mut.ensures.value)
-    ∙ block_laid c.args.i (laid c.args.shape c.args.ranks.now c.args.ids.now) out c.lay_block.ensures) c.copied.ensures
+    ∙ block_laid c.args.i (laid c.args.shape c.args.ranks.now c.args.ids.now) out c.lay_block.ensures
