@@ -27,6 +27,7 @@ def index(folder, paths, with_gone, progress):
     planned = len(texts.every())
     refused = plan.carry_out() if plan.additions or texts.leaving else {}
     plan.counts[NEW] -= planned - len(texts.every())
+    texts.settle()
     texts.keep()
     progress.end()
     plan.reading.tell()

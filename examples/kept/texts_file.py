@@ -41,7 +41,8 @@ class Texts:
         self.sources = {}  # by key: a path that stays where a mail's flags change
         self.leaving = {}  # identifiers that are to be deleted: the path, the label and the number of each
         self.paths = []  # what `archive index` was told
-        self.last = 0  # the last number that a text was given
+        self.last = 0  # the last number of a text that was indexed
+        self.given = 0  # the last one that this run has given
         self.records = 0  # how many the journal had when this was written
         self.read()
 
@@ -85,14 +86,20 @@ class Texts:
             if identifier not in named:
                 self.leaving.setdefault(identifier, ["", f"(document {identifier}, whose name was lost)", 0])
         self.records = journal.records
+        self.settle()
+
+    def settle(self):
+        """Keeps the numbers that texts have; those that a run had given, and which didn't get there, are given again."""
+        self.last = max([self.last, *(text.number for _, text in self.every()), *(number for _, _, number in self.leaving.values())])
+        self.given = self.last
 
     def leave(self, source, text):
         for identifier in text.identifiers:
             self.leaving[identifier] = [source.path, text.label, text.number]
 
     def next_number(self):
-        self.last += 1
-        return self.last
+        self.given += 1
+        return self.given
 
     def below(self, path):
         """The keys of the sources at a path or in its folders."""
