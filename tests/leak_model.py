@@ -529,7 +529,7 @@ def block_tags(key, s):
     """The tag of each block, by its word and its number there, then those of the dummies."""
     tags = {(word, i): value(key, TAG, word, i) for word in setup_words(s) for i in range(word_blocks(s, word))}
     dummies = range(FIRST_DUMMY_BLOCK, FIRST_DUMMY_BLOCK + padded_counts(s)[1] - len(tags))
-    return tags | {(NO_WORD, j): value(key, DUMMY, NO_WORD, j) for j in dummies}
+    return {**tags, **{(NO_WORD, j): value(key, DUMMY, NO_WORD, j) for j in dummies}}
 
 
 def ranks_of(tags):
