@@ -152,7 +152,8 @@ class Faults:
     def any(self):
         if CALLS["ways"] == ["skipped"]:
             return self.at_a_call()
-        made = 2 * [self.killed_on_the_wire, self.killed_at_a_time, self.cut, self.full] + [self.killed_behind_a_line, self.stopped, self.left_stopped]
+        made = 2 * [self.killed_on_the_wire, self.killed_at_a_time, self.cut, self.full]
+        made += [self.killed_behind_a_line, self.stopped, self.left_stopped]
         if CALLS["object"]:
             made += 5 * [self.at_a_call]
         return self.draw.choice(made)()

@@ -118,10 +118,12 @@ class Maker:
 
     def frame(self, server):
         """A frame that may fit the server's stage, or one of any kind."""
-        fitting = [[self.begin], [self.lists, self.blocks, self.end, self.lists], [self.addition, self.addition, self.deletion, self.search, self.search]][server.stage]
+        every = [self.begin, self.lists, self.blocks, self.end, self.addition, self.deletion, self.search]
+        ready = [self.addition, self.addition, self.deletion, self.search, self.search]
+        fitting = [[self.begin], [self.lists, self.blocks, self.end, self.lists], ready][server.stage]
         if server.stage == 1 and self.chance(0.8):
             fitting = [self.lists if len(server.lists) < server.words else self.blocks if len(server.array) < server.blocks else self.end]
-        make = self.draw.choice(fitting if self.chance(0.85) else [self.begin, self.lists, self.blocks, self.end, self.addition, self.deletion, self.search])
+        make = self.draw.choice(fitting if self.chance(0.85) else every)
         if self.chance(0.03):
             return framed(1)
         kind, fields = make(server)
