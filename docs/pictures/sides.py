@@ -53,9 +53,10 @@ def levels():
 
 
 def crates():
+    """Those that have a row there, in the order of crates.txt; `.ci/layers` names the others."""
     rows = re.findall(r"^\| \d+ \| (\w+) \| `(\w+)` \| ([^|]*) \| ([^|]*) \|$", read("docs/ARCHITECTURE.md"), re.M)
     of = {name: (side, holds, proved) for side, name, holds, proved in rows}
-    return [Crate(name, level, of[name][0], *of[name][1:]) for name, level in levels().items()]
+    return [Crate(name, level, *of[name]) for name, level in levels().items() if name in of]
 
 
 def kinds():
@@ -127,7 +128,8 @@ def picture():
         tops.append((y, level, at))
         y += ROW * max(len(rows_of(at[side], wide[side])) for side in at) + GAP
     bottom = y + 4
-    shared = [(level, [crate for crate in of_side["both"] if crate.level == level]) for level in (3, 2, 1)]
+    of_both = sorted({crate.level for crate in of_side["both"]}, reverse=True)
+    shared = [(level, [crate for crate in of_side["both"] if crate.level == level]) for level in of_both]
     height = bottom + 16 + 58 + sum(ROW * len(rows_of(row, wide["both"])) + GAP for _, row in shared) + 48
     made = svg.Picture(WIDTH, int(height), "Both sides, and what crosses",
                        "The crates of the client, of the server and of both, by level, and the frames and replies between client and server.")
