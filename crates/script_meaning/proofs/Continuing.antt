@@ -60,7 +60,7 @@ since run None first = absurd first
 since run (Some whole) first = (first.1.0, ap (λ r. Some r) (whole_run run whole first))
 
 -- what the searches of all show is what those of the run show, and then those after it
-shown_in_turn-longer : (run : Run) (more : List Command) → shown_in_turn (longer more (Some run)) ≡ shown_in_turn (Some run) ++ shown_behind run more
+pub shown_in_turn-longer : (run : Run) (more : List Command) → shown_in_turn (longer more (Some run)) ≡ shown_in_turn (Some run) ++ shown_behind run more
 shown_in_turn-longer run more =
     ap (flat_map (λ r. r)) (over-append (shown_by run.setup) [] run.later more)
     ∙ flat_map-append (λ r. r) (over (shown_by run.setup) [] run.later) (over (shown_by run.setup) run.later more)

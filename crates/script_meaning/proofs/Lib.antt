@@ -12,6 +12,8 @@ pub mod Simulated
 pub mod Recorded
 pub mod Headline
 pub mod Continuing
+pub mod Rejoining
+pub mod Joining
 mod RunRows
 mod UpdateRows
 mod ContinuedRows

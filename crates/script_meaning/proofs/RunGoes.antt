@@ -42,7 +42,7 @@ clash_status (Some (Labels first second)) cause e = ap cause_status (let same : 
 clash_status (Some (Places first second)) cause e = ap cause_status (let same : cause ≡ collision_cause (Places first second) = cc in same)
 clash_status (Some (Numbers first second)) cause e = ap cause_status (let same : cause ≡ collision_cause (Numbers first second) = cc in same)
 
-cut_status : (left : List FrameText) (cut : List Event) (cause : Cause) → IsCut left cut cause → 5 ≤ cause_status cause
+pub cut_status : (left : List FrameText) (cut : List Event) (cause : Cause) → IsCut left cut cause → 5 ≤ cause_status cause
 cut_status [] cut cause is = omega (arith, ap cause_status is.1)
 cut_status (frame ∷ left) [] cause (inl link) = omega (arith, ap cause_status link)
 cut_status (frame ∷ left) [] cause (inr memory) = omega (arith, ap cause_status memory)
@@ -59,7 +59,7 @@ turned_status low high (Sent bytes mark ∷ Sent more other ∷ events) cause is
 turned_status low high (Sent bytes mark ∷ Received reply ∷ event ∷ events) cause is = absurd is
 
 -- a cut exchange is what passed of these frames
-Passes-cut : (f : KeyedFn) (frames : List FrameText) (now : Told) (end : Ended) (events : List Event) (cause : Cause) → end.stop ≡ At cause → Adds now end.outside.told events → (c : AreCut frames events cause) → Passes f frames c.answers now end
+pub Passes-cut : (f : KeyedFn) (frames : List FrameText) (now : Told) (end : Ended) (events : List Event) (cause : Cause) → end.stop ≡ At cause → Adds now end.outside.told events → (c : AreCut frames events cause) → Passes f frames c.answers now end
 Passes-cut f frames now end events cause stops adds c = record {
   events = events;
   adds = adds;

@@ -12,3 +12,5 @@ pub mod Goes
 pub mod Recorded
 pub mod Headline
 pub mod Continues
+pub mod Rejoins
+pub mod Joined
