@@ -19,5 +19,6 @@ pub mod WholeRun
 pub mod LastLine
 pub mod InMemory
 pub mod GoingOn
+pub mod RunRejoins
 pub mod RunsOnDisk
 pub mod RecordsLast

@@ -33,6 +33,7 @@ use Rattle.sse_outside.specs.Fronts.{TookOrRose}
 use Rattle.sse_script.specs.Shown.{BadLine, NoMemory, SourceFault}
 use Rattle.sse_client.proofs.GoingOn.{for_all}
 use Rattle.sse_client.proofs.LastLine.{ends_line}
+use Rattle.sse_client.proofs.RunRejoins.{has_gone_on_so}
 use Rattle.sse_client.proofs.WholeRun.{IfSome-then, run-headline, run-honest, run-recorded, run-simulated}
 use Rattle.script_meaning.specs.Stops.{status_of}
 use Rattle.sse_client.specs.GoingOn.{AtKeyLine, EndsLine, GoesOnFrom, GoesOnOver, GoesOnTo, HasEndedAfter, IsUnrestored, Restores}
@@ -102,25 +103,18 @@ module _ (f : KeyedFn) (left : Option (List (List ℕ))) (now : Outside) where
   )
 
 -- what a run that goes on comes to, from its key line on
-pub has_gone_on : (f : KeyedFn) (remaining : Option (List ℕ)) (key : List ℕ) (run : Run) (next : ℕ) (behind : Option (List (List ℕ))) (now last : Outside) (status f0 f2 s0 s2 : ℕ) → FindsKey 1 (lines_left [] remaining) key next behind → Restores f key now.kept run
+pub has_gone_on : (f : KeyedFn) (laws : IsKeyedFn f) (remaining : Option (List ℕ)) (key : List ℕ) (run : Run) (next : ℕ) (behind : Option (List (List ℕ))) (now last : Outside) (status f0 f2 s0 s2 : ℕ) → FindsKey 1 (lines_left [] remaining) key next behind → Restores f key now.kept run
     → HasEndedAfter f key run next behind now last status f0 f2 s0 s2 → IfSome remaining (λ bytes. HasGoneOn f bytes now last status f0 f2 s0 s2)
-has_gone_on f None key run next behind now last status f0 f2 s0 s2 finds restores after = tt
-has_gone_on f (Some bytes) key run next behind now last status f0 f2 s0 s2 finds restores after =
+has_gone_on f laws None key run next behind now last status f0 f2 s0 s2 finds restores after = tt
+has_gone_on f laws (Some bytes) key run next behind now last status f0 f2 s0 s2 finds restores after =
     let goes : GoesOnFrom f key run next (lines_in finds.0) now after.end = subst (λ b. IfSome b (λ texts. GoesOnFrom f key run next (lines_in texts) now after.end)) finds.1 after.goes_on in
-    record {
-      end = after.end;
-      goes_on = inr (subst (λ k. AtKeyLine f k now after.end) (sym finds.2) (inr (run, restores, goes)));
-      told = after.told;
-      kept = after.kept;
-      line = after.line;
-      status_is = after.status_is;
-    }
+    has_gone_on_so f laws bytes now last status after.end (inr (subst (λ k. AtKeyLine f k now after.end) (sym finds.2) (inr (run, restores, goes)))) after.status_is f0 f2 s0 s2 after.told after.kept after.line
 
 -- one that stops before its lines comes to its last line
-pub has_gone_on-held : (f : KeyedFn) (remaining : Option (List ℕ)) (now last : Outside) (stop : ends.Stop) (status f0 f2 s0 s2 : ℕ) → GoesOnTo f (lines_left [] remaining) now now stop → last.told ≡ now.told → last.kept ≡ now.kept
+pub has_gone_on-held : (f : KeyedFn) (laws : IsKeyedFn f) (remaining : Option (List ℕ)) (now last : Outside) (stop : ends.Stop) (status f0 f2 s0 s2 : ℕ) → GoesOnTo f (lines_left [] remaining) now now stop → last.told ≡ now.told → last.kept ≡ now.kept
     → EndsLine stop now.written last.written status f0 f2 s0 s2 → status ≡ status_of stop → IfSome remaining (λ bytes. HasGoneOn f bytes now last status f0 f2 s0 s2)
-has_gone_on-held f None now last stop status f0 f2 s0 s2 goes told kept line is = tt
-has_gone_on-held f (Some bytes) now last stop status f0 f2 s0 s2 goes told kept line is = record { end = ended now goes.0 goes.1 stop; goes_on = goes.2; told = told; kept = kept; line = line; status_is = is }
+has_gone_on-held f laws None now last stop status f0 f2 s0 s2 goes told kept line is = tt
+has_gone_on-held f laws (Some bytes) now last stop status f0 f2 s0 s2 goes told kept line is = has_gone_on_so f laws bytes now last status (ended now goes.0 goes.1 stop) goes.2 is f0 f2 s0 s2 told kept line
 
 -- A run that begins.
 

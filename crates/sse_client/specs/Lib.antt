@@ -16,3 +16,4 @@ pub mod KeyLines
 pub mod Resuming
 pub mod GoingOn
 pub mod OnDisk
+pub mod CanGoOn

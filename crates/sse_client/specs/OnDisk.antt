@@ -15,6 +15,7 @@ use Rattle.script_meaning.specs.Stops.{status_of}
 use Rattle.sse_journal.specs.FileRecords.{records_in_file}
 use Rattle.sse_journal.specs.Files.{Gives}
 use Rattle.sse_outside.specs.Causes.{Rose}
+use Rattle.sse_client.specs.CanGoOn.{StopsUnsent, IsHonestAfter, HasHeadlineAfter}
 use Rattle.sse_client.specs.GoingOn.{EndsLine, GoesOnOver}
 use Rattle.sse_client.specs.LastLine.{HasLastLine, HasShortLine, IsWholeOrRose}
 use Rattle.sse_client.specs.Stands.{seen, outside_of, HasRun, HasHonestStatus, HasSimulatedRun, HasRecordedRun, HasHeadline}
@@ -95,3 +96,6 @@ pub record HasGoneOn (f : KeyedFn) (bytes : List ℕ) (now last : Outside) (stat
   pub kept : last.kept ≡ end.outside.kept
   pub line : EndsLine end.stop end.outside.written last.written status faults faults_now shortages shortages_now
   pub status_is : status ≡ status_of end.stop
+  pub unsent : StopsUnsent f bytes now end status
+  pub honest : IsHonestAfter f bytes now last end status
+  pub headline : HasHeadlineAfter f bytes now last status

@@ -135,6 +135,9 @@ pub fn run_on_disk<K: Keyed, L: Link, D: Disk, S: Source, W: Sink>(
         IsUnopened IsNotReopened (L.transcript link.old) (L.transcript link.new) (D.content disk) (D.content result.1) (W.written sink.old) (W.written sink.new) result.0 (W.faults sink.old) (W.faults sink.new) (W.shortages sink.old) (W.shortages sink.new)
         ⊎ HasGoneOn (keyed_fn K.prf K.pad) bytes (seen_with (L.transcript link.old) (D.content disk) (W.written sink.old)) (seen_with (L.transcript link.new) (D.content result.1) (W.written sink.new)) result.0
         (W.faults sink.old) (W.faults sink.new) (W.shortages sink.old) (W.shortages sink.new)) }
+    ensures more_accepted { asks.disk_mode_of (map (λ word. string_bytes word) words.now) ≡ Some asks.More → IfSome (D.content disk) (λ file. GivesSome file → result.0 ≢ 6 → result.0 ≢ 7 → IfSome (S.remaining source.old) (λ bytes.
+        HasGoneOn (keyed_fn K.prf K.pad) bytes (seen_with (L.transcript link.old) (D.content disk) (W.written sink.old)) (seen_with (L.transcript link.new) (D.content result.1) (W.written sink.new)) result.0
+        (W.faults sink.old) (W.faults sink.new) (W.shortages sink.old) (W.shortages sink.new))) }
     ensures more_refused { asks.disk_mode_of (map (λ word. string_bytes word) words.now) ≡ Some asks.More → IfSome (D.content disk) (λ file. HasNoRecord file → result.0 ≢ 6 → result.0 ≢ 7 → result.0 ≡ 10) }
 
     // The devices, of both.
@@ -209,6 +212,9 @@ fn more<K: Keyed, L: Link, D: Disk, S: Source, W: Sink>(
         IsUnopened IsNotReopened (L.transcript link.old) (L.transcript link.new) (D.content disk) (D.content result.1) (W.written sink.old) (W.written sink.new) result.0 (W.faults sink.old) (W.faults sink.new) (W.shortages sink.old) (W.shortages sink.new)
         ⊎ HasGoneOn (keyed_fn K.prf K.pad) bytes (seen_with (L.transcript link.old) (D.content disk) (W.written sink.old)) (seen_with (L.transcript link.new) (D.content result.1) (W.written sink.new)) result.0
         (W.faults sink.old) (W.faults sink.new) (W.shortages sink.old) (W.shortages sink.new)) }
+    ensures accepted { IfSome (D.content disk) (λ file. GivesSome file → result.0 ≢ 6 → result.0 ≢ 7 → IfSome (S.remaining source.old) (λ bytes.
+        HasGoneOn (keyed_fn K.prf K.pad) bytes (seen_with (L.transcript link.old) (D.content disk) (W.written sink.old)) (seen_with (L.transcript link.new) (D.content result.1) (W.written sink.new)) result.0
+        (W.faults sink.old) (W.faults sink.new) (W.shortages sink.old) (W.shortages sink.new))) }
     ensures refused { IfSome (D.content disk) (λ file. HasNoRecord file → result.0 ≢ 6 → result.0 ≢ 7 → result.0 ≡ 10) }
     ensures at_end { result.0 ≤ 1 → IsAtEnd (S.remaining source.new) }
     ensures source_failed { result.0 ≡ 3 → Rose (S.faults source.old) (S.faults source.new) }

@@ -1,5 +1,5 @@
 use Rattle.std.proofs.Common.{◌≡◌, ◌+◌, [], refl, ap, sym, subst, ◌∙◌, arith}
-use Rattle.keyed_fn.specs.KeyedFn.{keyed_fn}
+use Rattle.keyed_fn.specs.KeyedFn.{IsKeyedFn, keyed_fn}
 use Rattle.run_texts.specs.Stops.{input_cause, journal_cause, journal_line, journal_status, last_line, stop_status}
 use Rattle.run_texts.specs.declared.stop_cause.StopCause.TheVariants.{Input as input}
 use Rattle.script_meaning.specs.Stops as ends
@@ -16,6 +16,13 @@ use Rattle.sse_client.proofs.on_disk.go_on_from.Goals as goal
 pub returns-in-Ok-clause-gone_on : goal.returns-in-Ok-clause-gone_on
 returns-in-Ok-clause-gone_on g c =
     let f = keyed_fn g.K.Keyed.prf g.K.Keyed.pad in
+    let laws : IsKeyedFn f = record {
+      prf_length = g.met.K.Keyed.prf_length;
+      prf_bytes = g.met.K.Keyed.prf_bytes;
+      pad_length = g.met.K.Keyed.pad_length;
+      pad_bytes = g.met.K.Keyed.pad_bytes;
+      pad_prefix = g.met.K.Keyed.pad_prefix;
+    } in
     let remaining = g.S.Source.remaining c.args.source.now in
     let key = c.in-Ok.restart.client.key in
     let had = c.in-Ok.ensures.restored in
@@ -28,7 +35,7 @@ returns-in-Ok-clause-gone_on g c =
     let written' = g.W.Sink.written c.gone_on-status.new.sink in
     let same : g.D.Disk.content c.new-recorder.result.disk ≡ g.D.Disk.content c.args.disk = ap (λ d. g.D.Disk.content d) c.new-recorder.ensures.disk ∙ c.in-Ok.ensures.kept in
     let given : g.D.Disk.content c.gone_on-status.new.recorder.disk ≡ g.D.Disk.content c.into_disk.result = sym (ap (λ d. g.D.Disk.content d) c.into_disk.ensures) in
-    has_gone_on f remaining key had.0 next behind (seen_with told (g.D.Disk.content c.args.disk) written) (seen_with told' (g.D.Disk.content c.into_disk.result) written') status
+    has_gone_on f laws remaining key had.0 next behind (seen_with told (g.D.Disk.content c.args.disk) written) (seen_with told' (g.D.Disk.content c.into_disk.result) written') status
     (g.W.Sink.faults c.args.sink.now) (g.W.Sink.faults c.gone_on-status.new.sink) (g.W.Sink.shortages c.args.sink.now) (g.W.Sink.shortages c.gone_on-status.new.sink) c.in-Ok.ensures.found had.1
     (subst (λ content. HasEndedAfter f key had.0 next behind (seen_with told (g.D.Disk.content c.args.disk) written) (seen_with told' content written') status
     (g.W.Sink.faults c.args.sink.now) (g.W.Sink.faults c.gone_on-status.new.sink) (g.W.Sink.shortages c.args.sink.now) (g.W.Sink.shortages c.gone_on-status.new.sink)) given
@@ -39,6 +46,13 @@ returns-in-Ok-clause-gone_on g c =
 pub returns-in-Err-Journal-clause-gone_on : goal.returns-in-Err-Journal-clause-gone_on
 returns-in-Err-Journal-clause-gone_on g c =
     let f = keyed_fn g.K.Keyed.prf g.K.Keyed.pad in
+    let laws : IsKeyedFn f = record {
+      prf_length = g.met.K.Keyed.prf_length;
+      prf_bytes = g.met.K.Keyed.prf_bytes;
+      pad_length = g.met.K.Keyed.pad_length;
+      pad_bytes = g.met.K.Keyed.pad_bytes;
+      pad_prefix = g.met.K.Keyed.pad_prefix;
+    } in
     let remaining = g.S.Source.remaining c.args.source.now in
     let told = g.L.Link.transcript c.args.link.now in
     let old = g.D.Disk.content c.args.disk in
@@ -50,7 +64,7 @@ returns-in-Err-Journal-clause-gone_on g c =
     let line = subst (λ s. TookOrRose written (g.W.Sink.written c.finish_unopened.new.sink) (journal_line s) (g.W.Sink.faults c.args.sink.now) (g.W.Sink.faults c.finish_unopened.new.sink) (g.W.Sink.shortages c.args.sink.now) (g.W.Sink.shortages c.finish_unopened.new.sink))
     c.in-Err-Journal.stop-is c.finish_unopened.ensures.line in
     let goes = subst (λ s. GoesOnTo f (lines_left [] remaining) now now (held_stop s)) c.in-Err-Journal.field-0-is (c.in-Err-Journal.ensures.stopped told written) in
-    has_gone_on-held f remaining now (seen_with told (g.D.Disk.content c.restored.new.disk) (g.W.Sink.written c.finish_unopened.new.sink)) stop status (g.W.Sink.faults c.args.sink.now) (g.W.Sink.faults c.finish_unopened.new.sink)
+    has_gone_on-held f laws remaining now (seen_with told (g.D.Disk.content c.restored.new.disk) (g.W.Sink.written c.finish_unopened.new.sink)) stop status (g.W.Sink.faults c.args.sink.now) (g.W.Sink.faults c.finish_unopened.new.sink)
     (g.W.Sink.shortages c.args.sink.now) (g.W.Sink.shortages c.finish_unopened.new.sink) goes refl (ap kept_on c.in-Err-Journal.ensures.kept)
     (ends_line stop written (g.W.Sink.written c.finish_unopened.new.sink) status (g.W.Sink.faults c.args.sink.now) (g.W.Sink.faults c.args.sink.now) (g.W.Sink.faults c.finish_unopened.new.sink)
     (g.W.Sink.shortages c.args.sink.now) (g.W.Sink.shortages c.args.sink.now) (g.W.Sink.shortages c.finish_unopened.new.sink) is line (λ other. refl) (omega arith)) is
@@ -58,6 +72,13 @@ returns-in-Err-Journal-clause-gone_on g c =
 pub returns-clause-gone_on : goal.returns-clause-gone_on
 returns-clause-gone_on g c =
     let f = keyed_fn g.K.Keyed.prf g.K.Keyed.pad in
+    let laws : IsKeyedFn f = record {
+      prf_length = g.met.K.Keyed.prf_length;
+      prf_bytes = g.met.K.Keyed.prf_bytes;
+      pad_length = g.met.K.Keyed.pad_length;
+      pad_bytes = g.met.K.Keyed.pad_bytes;
+      pad_prefix = g.met.K.Keyed.pad_prefix;
+    } in
     let remaining = g.S.Source.remaining c.args.source.now in
     let told = g.L.Link.transcript c.args.link.now in
     let old = g.D.Disk.content c.args.disk in
@@ -69,7 +90,7 @@ returns-clause-gone_on g c =
     let line = subst (λ s. TookOrRose written (g.W.Sink.written c.finish.new.sink) (last_line (input s)) (g.W.Sink.faults c.args.sink.now) (g.W.Sink.faults c.finish.new.sink) (g.W.Sink.shortages c.args.sink.now) (g.W.Sink.shortages c.finish.new.sink))
     c.in-Err-Input.stop-is c.finish.ensures.line in
     let goes = subst (λ s. GoesOnTo f (lines_left [] remaining) now now (held_stop s)) c.in-Err-Input.field-0-is (c.in-Err-Input.ensures.stopped told written) in
-    has_gone_on-held f remaining now (seen_with told (g.D.Disk.content c.restored.new.disk) (g.W.Sink.written c.finish.new.sink)) stop status (g.W.Sink.faults c.args.sink.now) (g.W.Sink.faults c.finish.new.sink)
+    has_gone_on-held f laws remaining now (seen_with told (g.D.Disk.content c.restored.new.disk) (g.W.Sink.written c.finish.new.sink)) stop status (g.W.Sink.faults c.args.sink.now) (g.W.Sink.faults c.finish.new.sink)
     (g.W.Sink.shortages c.args.sink.now) (g.W.Sink.shortages c.finish.new.sink) goes refl (ap kept_on c.in-Err-Input.ensures.kept)
     (ends_line stop written (g.W.Sink.written c.finish.new.sink) status (g.W.Sink.faults c.args.sink.now) (g.W.Sink.faults c.args.sink.now) (g.W.Sink.faults c.finish.new.sink)
     (g.W.Sink.shortages c.args.sink.now) (g.W.Sink.shortages c.args.sink.now) (g.W.Sink.shortages c.finish.new.sink) is line (λ other. refl) (omega arith)) is

@@ -1,8 +1,13 @@
-use Rattle.std.proofs.Common.{inl, inr}
+use Rattle.std.proofs.Common.{◌≡◌, ◌∙◌, ap, inl, inr, subst}
+use Rattle.std.specs.Prelude.{IfSome}
+use Rattle.keyed_fn.specs.KeyedFn.{keyed_fn}
+use Rattle.run_texts.specs.Stops.{journal_status}
+use Rattle.run_texts.specs.declared.journal_stop.JournalStop.TheVariants as journals
 use Rattle.sse_client.proofs.GoingOn.{for_all}
 use Rattle.sse_client.proofs.RunsOnDisk.{not_reopened, unopened}
 use Rattle.sse_client.proofs.WholeRun.{IfSome-then}
-use Rattle.sse_client.specs.OnDisk.{IsNotReopened}
+use Rattle.sse_client.specs.OnDisk.{HasGoneOn, IsNotReopened, seen_with}
+use Rattle.sse_client.specs.Stands.{outside_of, seen}
 use Rattle.sse_client.proofs.on_disk.more.Goals as goal
 
 pub returns-in-Ok-clause-refused : goal.returns-in-Ok-clause-refused
@@ -26,3 +31,23 @@ returns-in-Err-clause-lasts g c = λ disk memory other. elim c.finish_unopened.e
   | inr (inr (inl ten)) ↦ absurd (other ten)
   | inr (inr (inr eleven)) ↦ absurd (let e = c.finish_unopened.ensures.key eleven in c.in-Err.ensures.never_key (search e))
 ]
+
+pub returns-in-Ok-clause-accepted : goal.returns-in-Ok-clause-accepted
+returns-in-Ok-clause-accepted g c =
+    let f = keyed_fn g.K.Keyed.prf g.K.Keyed.pad in
+    let content = g.D.Disk.content c.args.disk in
+    let told = g.L.Link.transcript c.args.link.now in
+    let written = g.W.Sink.written c.args.sink.now in
+    let told' = g.L.Link.transcript c.go_on_from.new.link in
+    let written' = g.W.Sink.written c.go_on_from.new.sink in
+    for_all content _ (λ file some disk memory.
+    subst (λ k. IfSome (g.S.Source.remaining c.args.source.now) (λ bytes. HasGoneOn f bytes (outside_of (seen told k) written) (seen_with told' (g.D.Disk.content c.go_on_from.result.1) written') c.go_on_from.result.0
+    (g.W.Sink.faults c.args.sink.now) (g.W.Sink.faults c.go_on_from.new.sink) (g.W.Sink.shortages c.args.sink.now) (g.W.Sink.shortages c.go_on_from.new.sink))) c.in-Ok.ensures.same_records c.go_on_from.ensures.gone_on)
+
+pub returns-in-Err-clause-accepted : goal.returns-in-Err-clause-accepted
+returns-in-Err-clause-accepted g c =
+    let stop = c.in-Err.stop in
+    IfSome-then (g.D.Disk.content c.args.disk) _ _ (λ file goes some disk memory. absurd (
+    let ok = goes some
+    (λ e. disk (c.finish_unopened.ensures.status ∙ ap (λ s. journal_status s) (let same : stop ≡ journals.Disk = cc in same)))
+    (λ e. memory (c.finish_unopened.ensures.status ∙ ap (λ s. journal_status s) (let same : stop ≡ journals.Memory = cc in same))) in cc)) c.in-Err.ensures.accepted

@@ -1,0 +1,455 @@
+-- A run that goes on from records: with the frames of the last command it sends all that the server lacks of the history, so that it
+-- is a session that goes on after it; and which stop its script and its records alone make.
+use Rattle.std.proofs.Common.{◌≡◌, ◌+◌, ◌-◌, ◌≤◌, ℕ, false, inl, inr, List, [], ◌∷◌, ◌++◌, drop, filter, length, map, take, Option, None, Some, refl, sym, ap, ◌∙◌, subst, arith, append_assoc, length-append}
+use Rattle.std.specs.Prelude.{◌⊎◌, IfSome, flat_map, option_map, slice_index_or}
+use Rattle.std.specs.Io.KnownBytes.{append_known}
+use Rattle.std.specs.List.{AllByRecursion}
+use Rattle.std.proofs.Math.Seq.{drop-append-add, take-length}
+use Rattle.std.proofs.lemmas.List.{append-nil, length-drop}
+use Rattle.client_core.proofs.ResumeLaws.{last_collision-with_command}
+use Rattle.client_core.specs.Owes.{last_frames}
+use Rattle.client_core.specs.Resumes.{IsWithin, first_of_last}
+use Rattle.client_journal.proofs.Fronts.{bad_not_elsewhere, bad_once, open_not_bad, open_not_elsewhere}
+use Rattle.client_journal.specs.Recordings.{IsBadUnder}
+use Rattle.client_records.proofs.OpeningLaws.{opens_once}
+use Rattle.client_records.specs.Openings.{AreUpdateRecords, Opens, OpensElsewhere}
+use Rattle.client_registry.proofs.FromEnd.{from_end}
+use Rattle.client_registry.proofs.OverLaws.{length-over}
+use Rattle.client_registry.specs.Command.{Command, Add, Delete, Search, is_update}
+use Rattle.client_registry.specs.Histories.{IsKept, empty}
+use Rattle.client_registry.specs.Over.{over}
+use Rattle.client_registry.specs.Run.{Run, at_first}
+use Rattle.client_registry.specs.Sized.{update_frames}
+use Rattle.keyed_fn.specs.KeyFormulas.{mark_of}
+use Rattle.keyed_fn.specs.KeyedFn.{KeyedFn, IsKeyedFn}
+use Rattle.sse_agreement.proofs.NoCollision.{collision_of_first-none, collision_of_next-none}
+use Rattle.server_core.specs.State.{ServerState}
+use Rattle.server_core.specs.Step.{steps}
+use Rattle.sse_agreement.specs.Taking.{Expects}
+use Rattle.sse_frames.specs.Exchange.{greeting}
+use Rattle.sse_frames.specs.Frames.{FrameText}
+use Rattle.sse_model.proofs.Prefixes.{frames_by}
+use Rattle.sse_model.specs.Compared.{Collision}
+use Rattle.sse_model.specs.Epochs.{keys_under}
+use Rattle.sse_model.specs.Histories.{HasNoCollision, first_known, table_of}
+use Rattle.sse_model.specs.Wire.{frames_of_setup, wire}
+use Rattle.sse_outside.specs.Fronts.{TookFront}
+use Rattle.sse_script.specs.Shown as says
+use Rattle.sse_script.specs.Shown.{Cause}
+use Rattle.sse_script.specs.Texts.{text_of}
+use Rattle.script_meaning.proofs.Following.{follow-key}
+use Rattle.script_meaning.proofs.Going.{Adds-nothing, AreExchanged-none}
+use Rattle.script_meaning.proofs.Kept.{IsKeptAt, IsKeptAt-opened, IsWithinItem}
+use Rattle.script_meaning.proofs.Joining.{count_alone, opened_by, took_all}
+use Rattle.script_meaning.proofs.Rejoining.{length-frames_under, rejoined, rejoined_status}
+use Rattle.script_meaning.proofs.Within.{IsWithin-lines_in, meaning_is_kept}
+use Rattle.script_meaning.specs.Carries.{Outside}
+use Rattle.script_meaning.specs.Continues.{at_run}
+use Rattle.script_meaning.specs.Exchange.{Told, AreCut, AreExchanged, IsCut, as_event}
+use Rattle.script_meaning.specs.Headline.{Headline, IsOverHonest, IsUndisturbed}
+use Rattle.script_meaning.specs.Joined.{updates_of}
+use Rattle.script_meaning.specs.Lines.{Line, Empty, Key, Command as CommandLine, script_lines}
+use Rattle.script_meaning.specs.Meaning.{meaning}
+use Rattle.script_meaning.specs.Recorded.{records_in, records_with}
+use Rattle.script_meaning.specs.Rejoins.{frames_under, lacking, CatchesUp, HasSent, Rejoins, Rejoined}
+use Rattle.script_meaning.specs.Runs.{Ended, Ends, IsGreeted, StopsReading}
+use Rattle.script_meaning.specs.Session.{IsFree, frames_with}
+use Rattle.script_meaning.specs.Stops.{At, status_of, stop_text}
+use Rattle.sse_script.specs.TextLines.{lines_of}
+use Rattle.sse_client.specs.CanGoOn.{CanGoOn, StopsUnsent, meaning_after}
+use Rattle.sse_client.specs.GoingOn.{EndsLine, GoesOnBehindKey, GoesOnFrom, GoesOnOver, HasResent, IsFound, IsHeldUp, IsUnrestored, AtKeyLine, collision_again, frames_lacking}
+use Rattle.sse_client.specs.KeyLines.{Keyed, key_line}
+use Rattle.sse_client.specs.OnDisk.{HasGoneOn}
+
+-- The history of records.
+
+updates_alone : (payloads : List (List ℕ)) (cs : List Command) → AreUpdateRecords payloads cs → filter is_update cs ≡ cs
+updates_alone [] [] are = refl
+updates_alone [] (c ∷ cs) are = absurd are
+updates_alone (payload ∷ payloads) [] are = absurd are
+updates_alone (payload ∷ payloads) (Add d ∷ cs) are = ap (λ (rest : List Command). Add d ∷ rest) (updates_alone payloads cs are.1)
+updates_alone (payload ∷ payloads) (Delete id ∷ cs) are = ap (λ (rest : List Command). Delete id ∷ rest) (updates_alone payloads cs are.1)
+updates_alone (payload ∷ payloads) (Search word ∷ cs) are = absurd are.0
+
+-- it has no search
+pub opened_updates : (mark : List ℕ) (payloads : List (List ℕ)) (run : Run) → Opens mark payloads run → filter is_update run.later ≡ run.later
+opened_updates mark [] run opened = absurd opened.say
+opened_updates mark (first ∷ others) run opened = updates_alone others run.later opened.say.1
+
+-- The frames that the server lacks.
+
+-- lists joined are those before the last, and the last
+last_joined : {A : Type 0} (first : List A) (lists : List (List A)) → (front : List A) × (flat_map (λ xs. xs) (first ∷ lists) ≡ front ++ slice_index_or (first ∷ lists) (length lists) [])
+last_joined first [] = ([], append-nil first)
+last_joined first (next ∷ lists) =
+    let rest = last_joined next lists in
+    (first ++ rest.0, ap (λ xs. first ++ xs) rest.1 ∙ sym (append_assoc first rest.0 (slice_index_or (next ∷ lists) (length lists) [])))
+
+module _ (f : KeyedFn) (key : List ℕ) (run : Run) (updates : filter is_update run.later ≡ run.later) where
+  abbrev keys : ℕ → List ℕ
+  keys = keys_under key (Some run)
+
+  abbrev own : List FrameText
+  own = last_frames f keys at_first run
+
+  abbrev lists : List (List FrameText)
+  lists = over (frames_by (table_of f keys run) at_first run.setup) [] run.later
+
+  -- all of the history are those before the last command, and its own
+  parts : (front : List FrameText) × (frames_under f key (Some run) ≡ front ++ own)
+  parts =
+      let all = last_joined (frames_of_setup (table_of f keys run) at_first run.setup) lists in
+      (all.0, all.1 ∙ ap (λ n. all.0 ++ slice_index_or (wire (table_of f keys run) at_first run) n []) (length-over (frames_by (table_of f keys run) at_first run.setup) [] run.later))
+
+  -- so those of the last command from a number on are those of the history from there on
+  pub lacking_is : (next : ℕ) → IsWithin f key run next → frames_lacking f key run next ≡ lacking f key run next
+  lacking_is next within =
+      let front = parts.0 in
+      let count : length front + length own ≡ update_frames run = sym (length-append front own) ∙ ap length (sym parts.1) ∙ length-frames_under f key run updates in
+      let low = first_of_last f key run in
+      let at : length front + (next - low) ≡ next = omega (arith, count, within.0) in
+      sym (ap (drop next) parts.1 ∙ ap (λ n. drop n (front ++ own)) (sym at) ∙ drop-append-add front own (next - low))
+
+  -- as many as its number tells
+  pub length-lacking : (next left : ℕ) → next + left ≡ update_frames run → length (lacking f key run next) ≡ left
+  length-lacking next left is = omega (arith, length-drop next (frames_under f key (Some run)), length-frames_under f key run updates, is)
+
+-- Equal values of the last command.
+
+only_one : (c : Option Collision) → first_known (c ∷ []) ≡ None → c ≡ None
+only_one None e = refl
+only_one (Some c) e = absurd (cc)
+
+-- there are none where the history has no collision
+pub none_again : (f : KeyedFn) (key : List ℕ) (run : Run) → IsKept (Some run) → HasNoCollision f (keys_under key (Some run)) (Some run) → collision_again f key run ≡ None
+none_again f key run = from_end (λ cs. IsKept (Some (with_later cs)) → HasNoCollision f keys (Some (with_later cs)) → collision_again f key (with_later cs) ≡ None) first push run.later
+  where
+    keys : ℕ → List ℕ
+    keys = keys_under key (Some run)
+
+    with_later : List Command → Run
+    with_later cs = record { setup = run.setup; later = cs }
+
+    first : IsKept (Some (with_later [])) → HasNoCollision f keys (Some (with_later [])) → collision_again f key (with_later []) ≡ None
+    first kept free = collision_of_first-none f keys run.setup free
+
+    push : (cs : List Command) (c : Command) → (IsKept (Some (with_later cs)) → HasNoCollision f keys (Some (with_later cs)) → collision_again f key (with_later cs) ≡ None)
+        → IsKept (Some (with_later (cs ++ c ∷ []))) → HasNoCollision f keys (Some (with_later (cs ++ c ∷ []))) → collision_again f key (with_later (cs ++ c ∷ [])) ≡ None
+    push cs c before kept free = last_collision-with_command f keys at_first (with_later cs) c ∙ only_one _ (collision_of_next-none f keys (Some (with_later cs)) c kept free)
+
+no_collision : (o : Option Collision) (c : Collision) → o ≡ Some c → o ≡ None → ⊥
+no_collision o c some none = cc
+
+-- The session.
+
+module _ (f : KeyedFn) (key : List ℕ) (run : Run) (updates : filter is_update run.later ≡ run.later) (kept : IsKept (Some run)) (number : ℕ) (lines : List (Option Line)) (now : Outside) (end : Ended) where
+  abbrev low : ℕ
+  low = first_of_last f key run
+
+  abbrev high : ℕ
+  high = update_frames run
+
+  -- a session that was opened with a server that expects this number
+  module _ (next : ℕ) (told : Told) (found : IsFound f key run next now.told told) where
+    abbrev greeted : Outside
+    greeted = record { told = told; kept = now.kept; written = now.written }
+
+    greets : IsGreeted low high now greeted
+    greets =
+        let g = found.greets in
+        let same : g.next ≡ next = omega (arith, g.least, g.most) in
+        record {
+          greets = record {
+            next = next;
+            least = found.within.0;
+            most = found.within.1;
+            events = g.events;
+            adds = g.adds;
+            each = g.each ∙ ap (λ n. map as_event (greeting n)) same;
+          };
+          unkept = refl;
+          unprinted = refl;
+        }
+
+    open_session : CatchesUp f (lacking f key run next) key run number lines greeted end → Rejoins f low high key run number lines now end
+    unfolding greets
+    open_session goes = inr (greeted, greets, goes)
+
+    abbrev same_frames : frames_lacking f key run next ≡ lacking f key run next
+    same_frames = lacking_is f key run updates next found.within
+
+  rejoins-held : IsHeldUp f key run now end → Rejoins f low high key run number lines now end
+  rejoins-held h = elim h.why [
+    | inl away ↦ inl (record { cause = h.cause; stops = h.stops; away = away; unkept = h.unkept; unprinted = h.unprinted; same_key = h.same_key; history = h.history })
+    | inr (next, told, found, inl (same, some, (c, again, is))) ↦
+        open_session next told found (inl (record {
+          cause = h.cause;
+          stops = h.stops;
+          short = inr (same, (c, is), λ free. no_collision (collision_again f key run) c again (none_again f key run kept free));
+          unkept = h.unkept;
+          unprinted = h.unprinted;
+          same_key = h.same_key;
+          history = h.history;
+        }))
+    | inr (next, told, found, inr (inl (same, memory))) ↦
+        open_session next told found (inl (record {
+          cause = h.cause;
+          stops = h.stops;
+          short = inl (
+            [],
+            same ∙ Adds-nothing told,
+            record {
+              n = 0;
+              answers = [];
+              before = [];
+              cut = [];
+              parts = refl;
+              exchanged = AreExchanged-none;
+              one_more = nothing_of (lacking f key run next) h.cause memory;
+            },
+          );
+          unkept = h.unkept;
+          unprinted = h.unprinted;
+          same_key = h.same_key;
+          history = h.history;
+        }))
+    | inr (next, told, found, inr (inr (some, none, cut))) ↦
+        open_session next told found (inl (record {
+          cause = h.cause;
+          stops = h.stops;
+          short = inl (cut.events, cut.adds, subst (λ fs. AreCut fs cut.events h.cause) (same_frames next told found) cut.cut);
+          unkept = h.unkept;
+          unprinted = h.unprinted;
+          same_key = h.same_key;
+          history = h.history;
+        }))
+  ]
+    where
+      nothing_of : (frames : List FrameText) (cause : Cause) → cause ≡ says.NoMemory → IsCut frames [] cause
+      nothing_of [] cause memory = (refl, memory)
+      nothing_of (frame ∷ frames) cause memory = inr memory
+
+  module _ (new : Told) (frames : ℕ) (resent : HasResent f key run now.told new frames) where
+    sent : HasSent (lacking f key run resent.next) resent.greeted new
+    sent = record {
+      events = resent.sent.events;
+      adds = resent.sent.adds;
+      exchanged = subst (λ fs. AreExchanged [] fs resent.sent.events) (same_frames resent.next resent.greeted resent.found) resent.sent.exchanged;
+    }
+
+    line : text_of (says.Resumed frames) ≡ text_of (says.Resumed (length (lacking f key run resent.next)))
+    line = ap (λ n. text_of (says.Resumed n)) (sym (length-lacking f key run updates resent.next frames resent.lacking))
+
+  -- a run that goes on after a history is such a session
+  pub rejoins : GoesOnFrom f key run number lines now end → Rejoins f low high key run number lines now end
+  rejoins (inl held) = rejoins-held held
+  rejoins (inr (inl u)) =
+      let r = u.resent in
+      open_session r.next r.greeted r.found (inr (inl (record {
+        sent = sent end.outside.told u.frames r;
+        stops = u.stops;
+        printed = subst (TookFront now.written end.outside.written) (line end.outside.told u.frames r) u.printed;
+        unkept = u.unkept;
+        same_key = u.same_key;
+        history = u.history;
+      })))
+  rejoins (inr (inr (next, resumed, runs))) =
+      let r = resumed.resent in
+      open_session r.next r.greeted r.found (inr (inr (
+        next,
+        record {
+          sent = sent next.told resumed.frames r;
+          printed = resumed.printed ∙ ap (append_known now.written) (line next.told resumed.frames r);
+          unkept = resumed.unkept;
+        },
+        runs,
+      )))
+
+-- The script.
+
+-- behind the key line stand lines of the script
+within_behind : (number : ℕ) (all : List (Option Line)) (key : List ℕ) (next : ℕ) (lines : List (Option Line)) → key_line number all ≡ Keyed key next lines → AllByRecursion IsWithinItem all → AllByRecursion IsWithinItem lines
+within_behind number [] key next lines is all = absurd (cc)
+within_behind number (None ∷ rest) key next lines is all = absurd (cc)
+within_behind number (Some Empty ∷ rest) key next lines is all = within_behind (number + 1) rest key next lines is all.1
+within_behind number (Some (Key other) ∷ rest) key next lines is all = subst (AllByRecursion IsWithinItem) (let same : rest ≡ lines = cc in same) all.1
+within_behind number (Some (CommandLine line) ∷ rest) key next lines is all = absurd (cc)
+
+-- The records.
+
+-- why they make no history under a key
+abbrev WhyUnrestored : List ℕ → List (List ℕ) → Cause → Type 0
+WhyUnrestored mark payloads cause =
+    ((n : ℕ) × (cause ≡ says.BadRecord n) × IsBadUnder mark payloads n)
+    ⊎ ((cause ≡ says.WrongKey) × OpensElsewhere mark (take 1 payloads))
+    ⊎ (cause ≡ says.DiskFault)
+    ⊎ (cause ≡ says.NoMemory)
+
+module _ (f : KeyedFn) (key : List ℕ) (kept : Option (List (List ℕ))) (payloads : List (List ℕ)) (told : kept ≡ Some payloads) where
+  of_told : (P : List (List ℕ) → Type 0) → IfSome kept P → P payloads
+  of_told P holds = subst (λ k. IfSome k P) told holds
+
+  why_unrestored : (cause : Cause) → IsUnrestored f key kept cause → WhyUnrestored (mark_of f key) payloads cause
+  why_unrestored (says.BadRecord n) why = let is = of_told _ why in inl (n, refl, record { before = is.0.0; opened = is.0.1; refused = is.1 })
+  why_unrestored says.WrongKey why = inr (inl (refl, of_told _ why))
+  why_unrestored says.NoJournal why = absurd (of_told (λ payloads. ⊥) why)
+  why_unrestored says.DiskFault why = inr (inr (inl refl))
+  why_unrestored says.NoMemory why = inr (inr (inr refl))
+  why_unrestored says.BadWords why = absurd why
+  why_unrestored (says.BadLine number) why = absurd why
+  why_unrestored says.SourceFault why = absurd why
+  why_unrestored says.LinkFault why = absurd why
+  why_unrestored (says.LabelClash first second) why = absurd why
+  why_unrestored (says.PlaceClash first second) why = absurd why
+  why_unrestored (says.NumberClash first second) why = absurd why
+  why_unrestored (says.Clash what place) why = absurd why
+  why_unrestored (says.PeerElsewhere least most got) why = absurd why
+  why_unrestored (says.BadReply start) why = absurd why
+  why_unrestored says.HasRecords why = absurd why
+
+-- A run that goes on.
+
+module _ (f : KeyedFn) (laws : IsKeyedFn f) (bytes : List ℕ) (now last : Outside) (status : ℕ) (end : Ended) (goes_on : GoesOnOver f (script_lines bytes) now end) (is : status ≡ status_of end.stop) where
+  -- its reading stops
+  reading_status : StopsReading now None empty end → (status ≡ 3) ⊎ (status ≡ 7)
+  reading_status (inl source) = inl (is ∙ ap (λ (e : Ended). status_of e.stop) source)
+  reading_status (inr memory) = inr (is ∙ ap (λ (e : Ended). status_of e.stop) memory)
+
+  behind_key : (key : List ℕ) (number : ℕ) (lines : List (Option Line)) → key_line 1 (script_lines bytes) ≡ Keyed key number lines → StopsReading now None empty end ⊎ GoesOnBehindKey f key number lines now end
+  behind_key key number lines found = elim goes_on [ inl reading ↦ inl reading | inr at ↦ inr (subst (λ k. AtKeyLine f k now end) found at) ]
+
+  stops_unsent : StopsUnsent f bytes now end status
+  stops_unsent = record {
+    no_key = λ number missing source memory. elim goes_on [
+      | inl reading ↦ absurd (elim (reading_status reading) [ inl e ↦ source e | inr e ↦ memory e ])
+      | inr at ↦ ap (λ (e : Ended). e.stop) (subst (λ k. AtKeyLine f k now end) missing at)
+    ];
+    bad_record = λ key number lines payloads n found told bad source disk memory. elim (behind_key key number lines found) [
+      | inl reading ↦ absurd (elim (reading_status reading) [ inl e ↦ source e | inr e ↦ memory e ])
+      | inr (inl (cause, why, ends)) ↦
+          let stop : end.stop ≡ At cause = ap (λ (e : Ended). e.stop) ends in
+          elim (why_unrestored f key now.kept payloads told cause why) [
+            | inl (m, named, other) ↦ stop ∙ ap (λ c. At c) (named ∙ ap (λ k. says.BadRecord k) (bad_once (mark_of f key) payloads m n other bad))
+            | inr (inl (named, other)) ↦ absurd (bad_not_elsewhere (mark_of f key) payloads n bad other)
+            | inr (inr (inl named)) ↦ absurd (disk (is ∙ ap status_of (stop ∙ ap (λ c. At c) named)))
+            | inr (inr (inr named)) ↦ absurd (memory (is ∙ ap status_of (stop ∙ ap (λ c. At c) named)))
+          ]
+      | inr (inr (run, restores, goes)) ↦ absurd (open_not_bad (mark_of f key) payloads (Some run) n (of_told f key now.kept payloads told _ restores.1) bad)
+    ];
+    wrong_key = λ key number lines payloads found told elsewhere source disk memory. elim (behind_key key number lines found) [
+      | inl reading ↦ absurd (elim (reading_status reading) [ inl e ↦ source e | inr e ↦ memory e ])
+      | inr (inl (cause, why, ends)) ↦
+          let stop : end.stop ≡ At cause = ap (λ (e : Ended). e.stop) ends in
+          elim (why_unrestored f key now.kept payloads told cause why) [
+            | inl (m, named, bad) ↦ absurd (bad_not_elsewhere (mark_of f key) payloads m bad elsewhere)
+            | inr (inl (named, other)) ↦ stop ∙ ap (λ c. At c) named
+            | inr (inr (inl named)) ↦ absurd (disk (is ∙ ap status_of (stop ∙ ap (λ c. At c) named)))
+            | inr (inr (inr named)) ↦ absurd (memory (is ∙ ap status_of (stop ∙ ap (λ c. At c) named)))
+          ]
+      | inr (inr (run, restores, goes)) ↦ absurd (open_not_elsewhere (mark_of f key) payloads (Some run) (of_told f key now.kept payloads told _ restores.1) elsewhere)
+    ];
+  }
+
+  -- Where it can go on.
+
+  module _ (can : CanGoOn f bytes now last) where
+    abbrev updates : filter is_update can.run.later ≡ can.run.later
+    updates = opened_updates (mark_of f can.key) can.payloads can.run can.opens
+
+    within : AllByRecursion IsWithinItem can.lines
+    within = within_behind 1 (script_lines bytes) can.key can.number can.lines can.found (IsWithin-lines_in (lines_of bytes))
+
+    kept_at : IsKeptAt (length can.run.later) (at_run can.key [] can.run)
+    kept_at = record { documents = (IsKeptAt-opened 0 can.key).documents; history = can.opens.kept; few = omega arith }
+
+    -- it goes on after that history, but where a device failed or memory was wanting before
+    goes_or_not : ((status ≡ 3) ⊎ (status ≡ 6) ⊎ (status ≡ 7)) ⊎ GoesOnFrom f can.key can.run can.number can.lines now end
+    goes_or_not = elim (behind_key can.key can.number can.lines can.found) [
+      | inl reading ↦ inl (elim (reading_status reading) [ inl e ↦ inl e | inr e ↦ inr (inr e) ])
+      | inr (inl (cause, why, ends)) ↦
+          let stop : end.stop ≡ At cause = ap (λ (e : Ended). e.stop) ends in
+          elim (why_unrestored f can.key now.kept can.payloads can.kept cause why) [
+            | inl (m, named, bad) ↦ absurd (open_not_bad (mark_of f can.key) can.payloads (Some can.run) m can.opens bad)
+            | inr (inl (named, elsewhere)) ↦ absurd (open_not_elsewhere (mark_of f can.key) can.payloads (Some can.run) can.opens elsewhere)
+            | inr (inr (inl named)) ↦ inl (inr (inl (is ∙ ap status_of (stop ∙ ap (λ c. At c) named))))
+            | inr (inr (inr named)) ↦ inl (inr (inr (is ∙ ap status_of (stop ∙ ap (λ c. At c) named))))
+          ]
+      | inr (inr (run, restores, goes)) ↦
+          let same : run ≡ can.run = (opens_once (mark_of f can.key) (mark_of f can.key) can.payloads run can.run (of_told f can.key now.kept can.payloads can.kept _ restores.1) can.opens).1 in
+          inr (subst (λ r. GoesOnFrom f can.key r can.number can.lines now end) same goes)
+    ]
+
+    module _ (told : last.told ≡ end.outside.told) where
+      abbrev over_link : IsOverHonest f can.before now.told end.outside.told can.state
+      over_link = subst (λ t. IsOverHonest f can.before now.told t can.state) told can.honest
+
+      honest_after : IsFree f end.key end.history → status ≤ 7
+      honest_after free = elim goes_or_not [
+        | inl early ↦ elim early [ inl e ↦ omega (arith, e) | inr (inl e) ↦ omega (arith, e) | inr (inr e) ↦ omega (arith, e) ]
+        | inr goes ↦
+            subst (λ n. n ≤ 7) (sym is)
+            (rejoined_status f laws can.key can.run updates can.next can.before can.taken (length can.run.later) can.number can.lines within kept_at
+            (first_of_last f can.key can.run) (update_frames can.run) can.opens.kept.1 can.within.0 can.within.1 now end
+            (rejoins f can.key can.run updates can.opens.kept can.number can.lines now end goes) can.state over_link free)
+      ]
+
+      headline_after : Ends end last → IsFree f (meaning_after can.key can.run can.number can.lines).key (meaning_after can.key can.run can.number can.lines).history → IsUndisturbed status
+          → Rejoined f can.taken.start can.key can.run can.next (meaning_after can.key can.run can.number can.lines) now last status can.state
+      headline_after ends free calm =
+          let m = meaning_after can.key can.run can.number can.lines in
+          elim goes_or_not [
+            | inl early ↦ absurd (elim early [ inl e ↦ calm.source e | inr (inl e) ↦ calm.disk e | inr (inr e) ↦ calm.memory e ])
+            | inr goes ↦
+                subst (λ n. Rejoined f can.taken.start can.key can.run can.next m now last n can.state) (sym is)
+                (rejoined f laws can.key can.run updates can.next can.before can.taken (length can.run.later) can.number can.lines within kept_at
+                (first_of_last f can.key can.run) (update_frames can.run) can.opens.kept.1 can.within.0 can.within.1 now end
+                (rejoins f can.key can.run updates can.opens.kept can.number can.lines now end goes) can.state over_link last ends
+                (subst (λ k. IsFree f k m.history) (follow-key (at_run can.key [] can.run) can.number can.lines false) free) (subst IsUndisturbed is calm))
+          ]
+
+  -- all that is said of it
+  module _ (f0 f2 s0 s2 : ℕ) (told : last.told ≡ end.outside.told) (kept : last.kept ≡ end.outside.kept) (line : EndsLine end.stop end.outside.written last.written status f0 f2 s0 s2) where
+    ends : Ends end last
+    ends = elim line [
+      | inl whole ↦ record { told = told; kept = kept; q = length (stop_text end.stop); printed = whole.0 ∙ ap (append_known end.outside.written) (sym (take-length (stop_text end.stop))) }
+      | inr short ↦ record { told = told; kept = kept; q = short.0.n; printed = short.0.taken }
+    ]
+
+    pub has_gone_on_so : HasGoneOn f bytes now last status f0 f2 s0 s2
+    has_gone_on_so = record {
+      end = end;
+      goes_on = goes_on;
+      told = told;
+      kept = kept;
+      line = line;
+      status_is = is;
+      unsent = stops_unsent;
+      honest = λ can free. honest_after can told free;
+      headline = λ can free calm. headline_after can told ends free calm;
+    }
+
+-- Behind a whole run.
+
+-- what a run left that nothing disturbed, over records of which there were none, is what one supposes that goes on under its key
+pub can_go_on : (f : KeyedFn) (laws : IsKeyedFn f) (start between state : ServerState) (script bytes key : List ℕ) (run : Run) (now last now' last' : Outside) (status number : ℕ) (lines : List (Option Line))
+    → Headline f start (meaning script) now last status between → (meaning script).key ≡ Some key → (meaning script).history ≡ Some run → now.kept ≡ Some [] → Expects 0 start
+    → IsFree f (Some key) (Some run) → now'.kept ≡ last.kept → key_line 1 (script_lines bytes) ≡ Keyed key number lines → IsOverHonest f between now'.told last'.told state → CanGoOn f bytes now' last'
+can_go_on f laws start between state script bytes key run now last now' last' status number lines headline key_is run_is none expects free same found honest =
+    let kept : IsKept (Some run) = subst IsKept run_is (meaning_is_kept script).0 in
+    let alone : update_frames (updates_of run) ≡ update_frames run = count_alone f key run in
+    record {
+      key = key;
+      number = number;
+      lines = lines;
+      found = found;
+      payloads = records_in f key (Some run);
+      kept = same ∙ headline.kept ∙ (λ i. option_map (λ told. told ++ records_with f (key_is i) (run_is i)) (none i));
+      run = updates_of run;
+      opens = opened_by f key run laws kept;
+      next = update_frames run;
+      before = between;
+      taken = took_all f key run laws start between kept free expects (headline.stored ∙ (λ i. (steps f start (frames_with f (key_is i) (run_is i))).0));
+      within = (omega (arith, alone), omega (arith, alone));
+      state = state;
+      honest = honest;
+    }

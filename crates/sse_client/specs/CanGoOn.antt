@@ -1,0 +1,65 @@
+-- A run that goes on where nothing stands in its way: what is supposed of its script, its records and its server, and what it did. And
+-- which stop the script and the records alone make.
+use Rattle.std.specs.Prelude.{◌≡◌, ◌≢◌, ◌≤◌, ℕ, false, List, [], take, Option, Some}
+use Rattle.client_core.specs.Resumes.{IsWithin}
+use Rattle.client_journal.specs.Recordings.{IsBadUnder}
+use Rattle.client_records.specs.Openings.{Opens, OpensElsewhere}
+use Rattle.client_registry.specs.Run.{Run}
+use Rattle.keyed_fn.specs.KeyFormulas.{mark_of}
+use Rattle.keyed_fn.specs.KeyedFn.{KeyedFn}
+use Rattle.server_core.specs.State.{ServerState}
+use Rattle.sse_script.specs.Shown.{BadLine, BadRecord, WrongKey}
+use Rattle.script_meaning.specs.Carries.{Outside}
+use Rattle.script_meaning.specs.Continues.{at_run}
+use Rattle.script_meaning.specs.Headline.{IsOverHonest, IsUndisturbed}
+use Rattle.script_meaning.specs.Lines.{Line, script_lines}
+use Rattle.script_meaning.specs.Meaning.{Meaning, follow}
+use Rattle.script_meaning.specs.Rejoins.{HasTaken, Rejoined}
+use Rattle.script_meaning.specs.Runs.{Ended}
+use Rattle.script_meaning.specs.Session.{IsFree}
+use Rattle.script_meaning.specs.Stops.{At}
+use Rattle.sse_client.specs.KeyLines.{Keyed, Missing, key_line}
+
+-- the script has a key line; the records open to one history under its key; and what passed is honest from a server that took the first
+-- frames of that history, all but at most some of its last command's
+pub record CanGoOn (f : KeyedFn) (bytes : List ℕ) (now last : Outside) : Type 0 where
+  pub key : List ℕ
+  pub number : ℕ
+  pub lines : List (Option Line)
+  pub found : key_line 1 (script_lines bytes) ≡ Keyed key number lines
+  pub payloads : List (List ℕ)
+  pub kept : now.kept ≡ Some payloads
+  pub run : Run
+  pub opens : Opens (mark_of f key) payloads run
+  pub next : ℕ
+  pub before : ServerState
+  pub taken : HasTaken f key run next before
+  pub within : IsWithin f key run next
+  pub state : ServerState
+  pub honest : IsOverHonest f before now.told last.told state
+
+-- what the lines behind the key line mean after that history
+abbrev pub meaning_after : (key : List ℕ) → Run → (number : ℕ) → List (Option Line) → Meaning
+meaning_after key run number lines = follow (at_run key [] run) number lines false
+
+-- no collision and no reply stops such a run, where its history up to its stop has no collision
+abbrev pub IsHonestAfter : KeyedFn → List ℕ → Outside → Outside → Ended → (status : ℕ) → Type 0
+IsHonestAfter f bytes now last end status = CanGoOn f bytes now last → IsFree f end.key end.history → status ≤ 7
+
+-- and where nothing else disturbed it either, it sent what the server lacked and did what its lines mean
+abbrev pub HasHeadlineAfter : KeyedFn → List ℕ → Outside → Outside → (status : ℕ) → Type 0
+HasHeadlineAfter f bytes now last status =
+    (can : CanGoOn f bytes now last) →
+    let m = meaning_after can.key can.run can.number can.lines in
+    IsFree f m.key m.history → IsUndisturbed status → Rejoined f can.taken.start can.key can.run can.next m now last status can.state
+
+-- Stops before anything is sent.
+
+-- a run that goes on ends so, unless reading failed or memory was wanting: where a script has no key line where one has to stand; where the
+-- record of a number is the first that can't stand where it does; and where the first one is that of a setup under another key
+pub record StopsUnsent (f : KeyedFn) (bytes : List ℕ) (now : Outside) (end : Ended) (status : ℕ) : Type 0 where
+  pub no_key : (number : ℕ) → key_line 1 (script_lines bytes) ≡ Missing number → status ≢ 3 → status ≢ 7 → end.stop ≡ At (BadLine number)
+  pub bad_record : (key : List ℕ) (number : ℕ) (lines : List (Option Line)) (payloads : List (List ℕ)) (n : ℕ) → key_line 1 (script_lines bytes) ≡ Keyed key number lines → now.kept ≡ Some payloads
+      → IsBadUnder (mark_of f key) payloads n → status ≢ 3 → status ≢ 6 → status ≢ 7 → end.stop ≡ At (BadRecord n)
+  pub wrong_key : (key : List ℕ) (number : ℕ) (lines : List (Option Line)) (payloads : List (List ℕ)) → key_line 1 (script_lines bytes) ≡ Keyed key number lines → now.kept ≡ Some payloads
+      → OpensElsewhere (mark_of f key) (take 1 payloads) → status ≢ 3 → status ≢ 6 → status ≢ 7 → end.stop ≡ At WrongKey
