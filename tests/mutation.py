@@ -88,30 +88,34 @@ def put_decimal(draw, text, _):
     lines = fields_of(text)
     numbers = [(line, place) for line in lines for place, field in enumerate(line) if field.isdigit()]
     line, place = draw.choice(numbers) if numbers else (lines[0], 0)
-    line[place] = draw.choice([b"%d" % draw.choice(NUMBERS), b"%d" % draw.randint(1, 9), b"0%d" % draw.choice(NUMBERS)])
+    line[place] = draw.choice([b"%d" % draw.choice(NUMBERS), *3 * [b"%d" % draw.randint(1, 9)], b"0%d" % draw.choice(NUMBERS)])
     return lines_of(lines)
 
 
 def move_line(draw, text, _):
+    """A line stands at another place, the first one at times."""
     lines = text.split(b"\n")
-    line = lines.pop(draw.randrange(len(lines)))
-    lines.insert(draw.randint(0, len(lines)), line)
+    first = 0 if draw.random() < 0.1 or len(lines) < 3 else 1
+    line = lines.pop(draw.randrange(first, len(lines)))
+    lines.insert(draw.randint(first, len(lines)), line)
     return b"\n".join(lines)
 
 
 def double_line(draw, text, others):
+    """A line of this text or of another one stands at a place too."""
     lines, from_other = text.split(b"\n"), draw.choice(others).split(b"\n")
-    lines.insert(draw.randint(0, len(lines)), draw.choice(lines + from_other))
+    lines.insert(draw.randint(1, len(lines)), draw.choice(lines[1:] + from_other[1:] or lines))
     return b"\n".join(lines)
 
 
 def move_field(draw, text, _):
-    """A field of one line stands in another one too."""
+    """A field of one line stands in another one too, at times in front of it."""
     lines = fields_of(text)
     field = draw.choice(draw.choice(lines))
     line = draw.choice(lines)
-    line.insert(draw.randint(0, len(line)), field)
+    line.insert(draw.randint(draw.random() < 0.9, len(line)), field)
     return lines_of(lines)
 
 
-LINE_WAYS = WAYS + 2 * [put_decimal, put_decimal, move_line, double_line, double_line, move_field, move_field]
+FIELD_WAYS = [put_decimal, put_decimal, move_line, double_line, double_line, move_field, move_field]
+LINE_WAYS = WAYS + 2 * FIELD_WAYS
