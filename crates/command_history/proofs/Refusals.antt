@@ -1,5 +1,5 @@
 -- What is accepted after a history, by the facts of it, and what is so of the commands that were.
-use Rattle.std.proofs.Common.{◌≡◌, ℕ, ◌-◌, ◌^◌, Bool, true, false, not, ◌&&◌, ◌||◌, List, [], ◌∷◌, ◌++◌, length, Option, None, Some, is_some, nat_lt, position, refl, sym, ap, ◌∙◌}
+use Rattle.std.proofs.Common.{◌≡◌, ℕ, suc, ◌-◌, ◌^◌, Bool, cond, true, false, not, ◌&&◌, ◌||◌, List, [], ◌∷◌, ◌++◌, length, Option, None, Some, is_some, nat_lt, position, refl, sym, ap, ◌∙◌}
 use Rattle.std.specs.Prelude.{option_map, if◌then◌else◌}
 use Rattle.std.specs.List.{list_all, list_any}
 use Rattle.std.proofs.lemmas.Bool.{and_from, and_parts}
@@ -9,7 +9,7 @@ use Rattle.std.proofs.lemmas.List.Folds.{list_all-append, list_any-append}
 use Rattle.client_registry.proofs.FactsLaws.{accepted-add, accepted-delete, is_some-words_with_id}
 use Rattle.client_registry.proofs.LiveLaws.{added_list-push, live-push}
 use Rattle.client_registry.proofs.OverLaws.{over-append}
-use Rattle.client_registry.proofs.Positions.{all_pass}
+use Rattle.client_registry.proofs.Positions.{all_pass, position-cons}
 use Rattle.client_registry.specs.Acceptance.{size_refusal}
 use Rattle.client_registry.specs.Command.{Command, Add, Delete, Search}
 use Rattle.client_registry.specs.Document.{Document}
@@ -41,6 +41,27 @@ module _ (r : Registered) (run : Run) (stands : Represents r run.setup run.later
   push_refusal-delete id =
       ap (λ b. if b then None else Some (UnknownDocument id)) (sym (is_some-words_with_id (live run.setup.documents run.later) id))
       ∙ ap (λ f. if is_some (f.live id) then None else Some (UnknownDocument id)) (sym stands)
+
+-- behind a setup alone an addition is refused for a live document only, since each word has all of its counter left
+pub first-add : (run : Run) (d : Document) → run.later ≡ [] → is_live run.setup.documents d.id ≡ false → push_refusal run (Add d) ≡ None
+first-add run d none free =
+    ap (λ later. push_refusal (record { setup = run.setup; later = later }) (Add d)) none
+    ∙ ap (λ b. if b then Some (AlreadyLive d.id) else option_map (λ p. CounterFull p) (position full d.words)) free
+    ∙ ap (option_map (λ p. CounterFull p)) (none_full d.words)
+  where
+    full : List ℕ → Bool
+    full word = not (is_listed run.setup [] word d.id || nat_lt (counter run.setup [] word) (2 ^ 32 - 1))
+
+    left : (b : Bool) → not (b || true) ≡ false
+    left true = refl
+    left false = refl
+
+    none_full : (words : List (List ℕ)) → position full words ≡ None
+    none_full [] = refl
+    none_full (word ∷ words) =
+        position-cons full word words
+        ∙ ap (λ b. cond b (Some 0) (option_map (λ n. suc n) (position full words))) (left (is_listed run.setup [] word d.id))
+        ∙ ap (option_map (λ n. suc n)) (none_full words)
 
 -- what nothing refuses is accepted
 pub no_refusal : (run : Run) (c : Command) → push_refusal run c ≡ None → is_accepted run.setup run.later c ≡ true

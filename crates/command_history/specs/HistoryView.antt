@@ -1,6 +1,6 @@
 -- What the fields of a history stand for.
-use Rattle.std.specs.Prelude.{map}
-use Rattle.client_registry.specs.Registered.{Represents}
+use Rattle.std.specs.Prelude.{◌≡◌, [], map, Option, None, Some}
+use Rattle.client_registry.specs.Registered.{Registered, Represents}
 use Rattle.client_registry.specs.Run.{Run}
 use Rattle.client_registry.specs.Setup.{setup_with}
 use Rattle.command_history.specs.Commands.{command_of}
@@ -11,7 +11,12 @@ use Rattle.command_history.specs.declared.history.History.TheInside.{Inside}
 abbrev pub run_of : Inside → Run
 run_of h = record { setup = setup_with h.docs.documents h.b h.big h.pad; later = map command_of h.commands.items }
 
--- the commands are accepted, and the registry tells what is live, listed and counted after them
+-- a registry tells what is live, listed and counted after the commands, or there is none before the first
+abbrev pub TellsAfter : Option Registered → Run → Type 0
+TellsAfter None run = run.later ≡ []
+TellsAfter (Some registry) run = Represents registry run.setup run.later
+
+-- the commands are accepted, and what is live, listed and counted after them is told
 pub record IsRegistered (h : Inside) : Type 0 where
   pub accepted : AreAccepted (run_of h)
-  pub registry : Represents h.registry (run_of h).setup (run_of h).later
+  pub registry : TellsAfter h.registry (run_of h)

@@ -1,4 +1,13 @@
-ghost use Rattle.std.specs.Prelude.{◌≡◌, ◌+◌, ◌++◌, ◌∷◌, [], IfOk, IfSome, IsOkUnless, None, OnErr, OnOk, length, map};
+ghost use Rattle.std.specs.Prelude.{◌≡◌, ◌+◌, ◌++◌, ◌∷◌, [], IfOk, IfSome, IsOkUnless, List, None, OnErr, OnOk, Some, if◌then◌else◌, length, map, true};
+ghost use Rattle.client_registry.specs.Command.{Command as Meant, Add};
+ghost use Rattle.client_registry.specs.DocumentRule.{IsDocument};
+ghost use Rattle.client_registry.specs.IdNumber.{id_number};
+ghost use Rattle.client_registry.specs.Registered.{Represents, facts};
+ghost use Rattle.client_registry.specs.Run.{Run};
+ghost use Rattle.client_registry.specs.Setup.{Setup};
+ghost use Rattle.client_registry.specs.Sized.{IsSizedCommand};
+ghost use Rattle.command_history.specs.Commands.{command_of};
+ghost use Rattle.command_history.specs.Refusal.{is_accepted_by, push_refusal};
 
 use crate::command::Command;
 use crate::copies::copy_docs;
@@ -16,8 +25,8 @@ pub struct History {
     b: u16,
     big: u16,
     pad: u16,
-    /// What is live, listed and counted after the commands.
-    registry: Registry,
+    /// What is live, listed and counted after the commands; none before the first, where the documents alone tell it.
+    registry: Option<Registry>,
     commands: Vec<Command>,
 }
 
@@ -34,14 +43,9 @@ impl Model for History {
 }
 
 impl History {
-    ghost use Rattle.client_registry.specs.Command.{Add, Delete};
-    ghost use Rattle.client_registry.specs.IdNumber.{id_number};
-    ghost use Rattle.client_registry.specs.Registered.{Represents, known_words};
+    ghost use Rattle.client_registry.specs.Registered.{known_words};
     ghost use Rattle.client_registry.specs.Setup.{setup_with, setup_words};
-    ghost use Rattle.client_registry.specs.DocumentRule.{IsDocument};
-    ghost use Rattle.client_registry.specs.Sized.{IsSizedCommand};
-    ghost use Rattle.command_history.specs.Commands.{command_of};
-    ghost use Rattle.command_history.specs.Refusal.{AreAccepted, push_refusal};
+    ghost use Rattle.command_history.specs.Refusal.{AreAccepted};
 
     /// The history of a setup of these documents alone, with `b` numbers in a cell and `big` in a block, filled with dummies up
     /// to multiples of `pad`. Its tables hash under these keys. Whether there is an index of these parameters,
@@ -56,14 +60,15 @@ impl History {
     ) -> Result<History, AllocError>
         ensures { IfOk result (λ h. h ≡ record { setup = setup_with docs.documents b big pad; later = [] }) }
     {
-        let registry = Registry::from_docs(copy_docs(alloc, &docs, keys)?);
+        // Its contract says that the documents keep their limits.
+        let _limits = docs.words();
         Ok(History {
             docs,
             keys,
             b,
             big,
             pad,
-            registry,
+            registry: None,
             commands: Vec::new(alloc),
         })
     }
@@ -83,11 +88,16 @@ impl History {
         if let Some(fault) = self.refusal(&command) {
             return Err(fault);
         }
-        // All memory is taken first, so that nothing fails once something has changed.
-        self.commands.reserve(1)?;
-        register(&mut self.registry, &command)?;
-        self.commands.push_reserved(command);
-        Ok(())
+        match &mut self.registry {
+            Some(registry) => Ok(take(registry, &mut self.commands, command)?),
+            None => {
+                let alloc = *self.commands.allocator();
+                let mut registry = self.begun_registry(alloc)?;
+                take(&mut registry, &mut self.commands, command)?;
+                self.registry = Some(registry);
+                Ok(())
+            }
+        }
     }
 
     /// Why a command isn't accepted after the others; none says that only memory may be wanting.
@@ -95,37 +105,10 @@ impl History {
         ensures refusal { result ≡ push_refusal self.now (command_of command.now) }
         ensures valid { IsSizedCommand (command_of command.now) }
     {
-        match command {
-            Command::Add(doc) => self.addition_refusal(doc),
-            Command::Delete(id) => self.deletion_refusal(*id),
-            Command::Search(_) => None,
+        match &self.registry {
+            Some(registry) => refusal_by(registry, command),
+            None => first_refusal(&self.docs, command),
         }
-    }
-
-    /// Why a document isn't added.
-    fn addition_refusal(&self, doc: &Doc) -> Option<HistoryFault>
-        ensures refusal { result ≡ push_refusal self.now (Add doc.now) }
-        ensures valid { IsDocument doc.now }
-    {
-        // Its contract says that the document keeps its limits.
-        let _words = doc.words();
-        if self.registry.is_live(doc.id()) {
-            return Some(HistoryFault::AlreadyLive(doc.id().get()));
-        }
-        match self.registry.full_counter(doc) {
-            Some(position) => Some(HistoryFault::CounterFull(position)),
-            None => None,
-        }
-    }
-
-    /// Why the document of an identifier isn't deleted.
-    fn deletion_refusal(&self, id: DocId) -> Option<HistoryFault>
-        ensures { result ≡ push_refusal self.now (Delete (id_number id)) }
-    {
-        if self.registry.is_live(id) {
-            return None;
-        }
-        Some(HistoryFault::UnknownDocument(id.get()))
     }
 
     /// How many commands, the setup included.
@@ -184,4 +167,80 @@ impl History {
     {
         Ok(Registry::from_docs(copy_docs(alloc, &self.docs, self.keys)?))
     }
+}
+
+/// Takes a command behind the others, and tells a registry of those that it is accepted. All memory is taken first, so that nothing fails
+/// once something has changed.
+fn take(
+    registry: &mut Registry,
+    commands: &mut Vec<Command>,
+    command: Command,
+) -> Result<(), AllocError>
+    requires accepted { is_accepted_by (facts registry.old) (command_of command) ≡ true }
+    ensures registered { OnOk result ((s : Setup) (past : List Meant) → Represents registry.old s past → Represents registry.new s (past ++ command_of command ∷ [])) }
+    ensures taken { OnOk result (commands.new.items ≡ commands.old.items ++ command ∷ []) }
+    ensures same { OnErr result (facts registry.new ≡ facts registry.old) }
+    ensures kept { OnErr result (commands.new.items ≡ commands.old.items) }
+{
+    commands.reserve(1)?;
+    register(registry, &command)?;
+    commands.push_reserved(command);
+    Ok(())
+}
+
+/// Why a command isn't accepted after those that a registry was told.
+fn refusal_by(registry: &Registry, command: &Command) -> Option<HistoryFault>
+    ensures refusal { (run : Run) → Represents registry.now run.setup run.later → result ≡ push_refusal run (command_of command.now) }
+    ensures valid { IsSizedCommand (command_of command.now) }
+{
+    match command {
+        Command::Add(doc) => addition_refusal(registry, doc),
+        Command::Delete(id) => deletion_refusal(registry.is_live(*id), *id),
+        Command::Search(_) => None,
+    }
+}
+
+/// Why a document isn't added then.
+fn addition_refusal(registry: &Registry, doc: &Doc) -> Option<HistoryFault>
+    ensures refusal { (run : Run) → Represents registry.now run.setup run.later → result ≡ push_refusal run (Add doc.now) }
+    ensures valid { IsDocument doc.now }
+{
+    // Its contract says that the document keeps its limits.
+    let _words = doc.words();
+    if registry.is_live(doc.id()) {
+        return Some(HistoryFault::AlreadyLive(doc.id().get()));
+    }
+    match registry.full_counter(doc) {
+        Some(position) => Some(HistoryFault::CounterFull(position)),
+        None => None,
+    }
+}
+
+/// Why a command isn't accepted as the first after a setup of these documents, where each word has all of its counter left.
+fn first_refusal(docs: &Docs, command: &Command) -> Option<HistoryFault>
+    ensures refusal { (run : Run) → run.setup.documents ≡ docs.now.documents → run.later ≡ [] → result ≡ push_refusal run (command_of command.now) }
+    ensures valid { IsSizedCommand (command_of command.now) }
+{
+    match command {
+        Command::Add(doc) => {
+            // Its contract says that the document keeps its limits.
+            let _words = doc.words();
+            if docs.is_live(doc.id()) {
+                return Some(HistoryFault::AlreadyLive(doc.id().get()));
+            }
+            None
+        }
+        Command::Delete(id) => deletion_refusal(docs.is_live(*id), *id),
+        Command::Search(_) => None,
+    }
+}
+
+/// Why the document of an identifier isn't deleted, by whether there is a live one.
+fn deletion_refusal(is_live: bool, id: DocId) -> Option<HistoryFault>
+    ensures { result ≡ (if is_live then None else Some (HistoryFault.UnknownDocument (id_number id))) }
+{
+    if is_live {
+        return None;
+    }
+    Some(HistoryFault::UnknownDocument(id.get()))
 }
