@@ -86,11 +86,24 @@ def commands_in(payload):
     return mark, commands
 
 
+def setup_of(commands):
+    """The setup of these lines."""
+    *documents, (_, sizes, _) = commands
+    return leak_model.Setup(tuple((numbers[0], tuple(words)) for _, numbers, words in documents), *sizes)
+
+
+def command_in(payload):
+    """The setup or the update that a record says."""
+    _, commands = commands_in(payload)
+    kind, numbers, words = commands[-1]
+    if kind == "add":
+        return leak_model.Add(numbers[0], tuple(words))
+    return leak_model.Delete(numbers[0]) if kind == "del" else setup_of(commands)
+
+
 def frames_of_setup(commands):
     """How many frames a setup has that was accepted: its begin and its end, and the parts between."""
-    *documents, (_, sizes, _) = commands
-    setup = leak_model.Setup(tuple((numbers[0], tuple(words)) for _, numbers, words in documents), *sizes)
-    words, blocks = leak_model.padded_counts(setup)
+    words, blocks = leak_model.padded_counts(setup_of(commands))
     return 2 + -(-words // leak_model.DICT_ENTRIES) + -(-blocks // leak_model.ARRAY_BLOCKS)
 
 

@@ -1,0 +1,366 @@
+"""A plain model of runs on a disk, one after the other: what the program sse_transcript prints of an input of turns, by docs/DISKS.md and
+docs/FORMATS.md. What passes and what stands in the files is that of tests/leak_model.py, tests/record_model.py and
+tests/journal_model.py; here is what fails, what is left then, and what is gone on with.
+
+It is for the real keyed function, for journals that a client or a server of it wrote, whole or not, and for servers that took what the
+client sent. It makes the calls of a disk in the order in which the journal makes them, so that the call of a number is the same one."""
+from dataclasses import dataclass, field
+
+import journal_model
+import leak_model
+import record_model
+import script_model
+from leak_model import be, framed
+
+PARTING = b"----\n"
+
+
+class Failed(Exception):
+    """A call of a disk or of a link fails."""
+
+
+class Stopped(Exception):
+    """A run ends before the end of its script: with this status, and with a last line that says this."""
+
+
+class Disk:
+    """A file in memory. What was called since the last sync is kept for its crash images; a write or a cut that fails leaves the file as it
+    reads. `call` is the number of the call that fails, from 1; 0 for none."""
+
+    def __init__(self, content=b"", call=0):
+        self.base, self.file, self.changes = content, content, []
+        self.left = call
+
+    def counts(self):
+        """Counts a call, and tells whether it fails."""
+        self.left -= 1
+        return self.left == 0
+
+    def made(self):
+        if self.counts():
+            raise Failed
+
+    def len(self):
+        self.made()
+        return len(self.file)
+
+    def read(self, at, size):
+        self.made()
+        return self.file[at:at + size]
+
+    def change(self, change, *given):
+        self.changes.append((change, given))
+        self.made()
+        self.file = change(self.file, 1, *given)
+
+    def write(self, at, text):
+        self.change(written, at, text)
+
+    def cut(self, size):
+        self.change(shortened, size)
+
+    def sync(self):
+        self.made()
+        self.base, self.changes = self.file, []
+
+    def image(self, number):
+        """The file that a crash leaves, by a number: a digit to the base 4 for each change, the lowest first."""
+        image = self.base
+        for change, given in self.changes:
+            image = change(image, number % 4, *given)
+            number //= 4
+        return image
+
+
+def others(text):
+    return bytes(255 - byte for byte in text)
+
+
+def written(file, way, at, text):
+    """A write: nothing of it, all, its first half, or other bytes."""
+    text = (b"", text, text[:len(text) // 2], others(text))[way]
+    return file[:at] + text + file[at + len(text):]
+
+
+def shortened(file, way, size):
+    """A cut: nothing of it, all, the second half of it, or other bytes in place of what is cut."""
+    tail = file[size:]
+    return file[:size] + (tail, b"", tail[:len(tail) // 2], others(tail))[way]
+
+
+def start(disk):
+    """Starts a journal: the places and lengths of its records, and where they end."""
+    disk.sync()
+    size = disk.len()
+    if size < len(journal_model.EMPTY):
+        for at, text in (0, journal_model.MAGIC), (len(journal_model.MAGIC), b"\0"):
+            disk.write(at, text)
+            disk.sync()
+        return [], len(journal_model.MAGIC)
+    records, end = journal_model.start(disk.read, size)
+    if end is None:
+        raise Stopped(10, "no journal")
+    if size > end + 1:
+        disk.cut(end + 1)
+        disk.sync()
+    if disk.file[end] != 0:
+        disk.write(end, b"\0")
+        disk.sync()
+    return records, end
+
+
+def payload_at(disk, at, size):
+    """A record of a journal, of which the head is read first."""
+    disk.read(at - 5, 5)
+    return disk.read(at, size)
+
+
+def append(disk, end, payload):
+    """Appends a record behind those that end here; where they end now."""
+    disk.write(end + 1, be(4, len(payload)) + payload + b"\0")
+    disk.sync()
+    disk.write(end, b"\1")
+    disk.sync()
+    return end + 5 + len(payload)
+
+
+# The server and its link.
+
+
+class Server:
+    """A server on a disk, of which a call behind its start fails: how many update frames it took, and whether its journal is broken."""
+
+    def __init__(self, content=b"", call=0):
+        self.disk = Disk(content)
+        records, self.end = start(self.disk)
+        self.taken, self.is_broken = len(records), False
+        self.disk.left = call
+
+    def replies(self, frame, pages):
+        """The replies to a frame that the client sends to this server: `pages` where it is a search."""
+        if frame == framed(1):
+            return [framed(0x81, be(4, self.taken))]
+        if pages is not None:
+            return pages
+        try:
+            if self.is_broken:
+                raise Failed
+            self.end = append(self.disk, self.end, frame[4:])
+        except Failed:
+            self.is_broken = True
+            return [framed(0x88)]
+        self.taken += 1
+        return [framed(0x82, be(4, self.taken - 1))]
+
+
+@dataclass
+class Link:
+    """A link to a server. `cuts` are its sends and receives that fail, with whether their work is done."""
+    server: Server
+    cuts: dict = field(default_factory=dict)
+    calls: int = 0
+    passed: list = field(default_factory=list)
+
+    def cut(self):
+        """Counts a call; None, or whether the work of this one, which is cut, is done."""
+        self.calls += 1
+        return self.cuts.get(self.calls - 1)
+
+    def exchange(self, frame, pages=None):
+        """Sends a frame and receives its replies, up to a cut or the report of a fault of the server's disk."""
+        cut, replies = self.cut(), []
+        if cut is not False:
+            self.passed.append((leak_model.SENT, frame))
+            replies = self.server.replies(frame, pages)
+        if cut is not None:
+            raise Failed
+        for reply in replies:
+            if self.cut() is not None:
+                raise Failed
+            self.passed.append((leak_model.RECEIVED, reply))
+            if reply == framed(0x88):
+                raise Failed
+        return replies
+
+
+# The client.
+
+
+def exchanges(key, setup, later):
+    """Of each command its frames, each with the pages of a search."""
+    commands = []
+    for way, text in leak_model.simulated(leak_model.leak(setup, later), leak_model.draws(key, setup, later)):
+        if way == leak_model.SENT and text[4] in range(3, 6):
+            commands[-1].append((text, None))
+        elif way == leak_model.SENT:
+            commands.append([(text, [] if text[4] == 8 else None)])
+        elif commands[-1][-1][1] is not None:
+            commands[-1][-1][1].append(text)
+    return commands[1:]
+
+
+def fails_with(status, text, call, *given):
+    """What a call gives; where it fails the run stops."""
+    try:
+        return call(*given)
+    except Failed:
+        raise Stopped(status, text) from None
+
+
+class Run:
+    """A run on a disk and over a link: the client's side, and what it prints."""
+
+    def __init__(self, disk, link):
+        self.disk, self.link = disk, link
+        self.lines, self.status = [], 0
+        self.store, self.documents, self.later = script_model.Store(), [], []
+        self.key = self.setup = self.end = None
+
+    def on_disk(self, call, *given):
+        return fails_with(6, "disk", call, *given)
+
+    def over_link(self, frame, pages=None):
+        return fails_with(5, "link", self.link.exchange, frame, pages)
+
+    def carry_out(self, word, lines):
+        """The whole run."""
+        try:
+            if word not in ("run", "more"):
+                raise Stopped(2, "words")
+            self.run(word, lines)
+        except Stopped as stop:
+            self.status, why = stop.args
+            self.lines.append(f"stopped: {why}")
+
+    def run(self, word, lines):
+        records, self.end = self.on_disk(start, self.disk)
+        if (word == "more") != bool(records):
+            raise Stopped(10, "journal has records" if records else "no journal")
+        commands = self.commands(lines)
+        self.key = next(commands)
+        if word == "more":
+            self.go_on(records)
+        elif (number := self.greet()) != 0:
+            raise Stopped(9, f"server is at {number}, wanted 0 to 0")
+        self.carry_out_all(list(commands))
+
+    def commands(self, lines):
+        """The key, then each command; at last a stop where there is a bad line, or no key."""
+        number = 0
+        for number, line in enumerate(lines, 1):
+            try:
+                command = script_model.command_in(line)
+                if command and (command[0] == "key") != (self.key is None):
+                    raise script_model.BadLine
+            except script_model.BadLine:
+                if self.key is None:
+                    raise Stopped(2, f"line {number}") from None
+                yield Stopped(2, f"line {number}")
+                return
+            if command:
+                yield bytes.fromhex(script_model.KEY.search(line)[0].decode()) if self.key is None else command
+        if self.key is None:
+            raise Stopped(2, f"line {number + 1}")
+
+    def greet(self):
+        """The number of the update frame that the server expects next."""
+        return int.from_bytes(self.over_link(framed(1))[0][5:], "big")
+
+    def go_on(self, records):
+        """Rebuilds the history of the records, and sends what the server lacks of its last command."""
+        payloads = []
+        for record in records:
+            payloads.append(self.on_disk(payload_at, self.disk, *record))
+            if not payloads[0].startswith(record_model.SETUP + record_model.mark_of(self.key)):
+                raise Stopped(11, "key")
+        self.setup, *self.later = map(record_model.command_in, payloads)
+        for document in self.setup.documents:
+            self.store.add(*document)
+        self.store.set_up(self.setup.b, self.setup.B, self.setup.Q)
+        for command in self.later:
+            if isinstance(command, leak_model.Add):
+                self.store.add(command.id, command.words)
+            else:
+                self.store.delete(command.id)
+        commands = exchanges(self.key, self.setup, self.later)
+        high = sum(map(len, commands))
+        low, number = high - len(commands[-1]), self.greet()
+        if not low <= number <= high:
+            raise Stopped(9, f"server is at {number}, wanted {low} to {high}")
+        left = commands[-1][number - low:]
+        for frame, _ in left:
+            self.over_link(frame)
+        self.lines.append(f"resumed {len(left)} frames")
+
+    def carry_out_all(self, commands):
+        """What each command brings and prints, then these over disk and link, one after the other."""
+        told, known = [], len(self.later)
+        for command in commands:
+            if isinstance(command, Stopped):
+                told.append((None, command))
+                continue
+            try:
+                shown, what = self.store.carry_out(*command), leak_model.brought(self.documents, *command)
+            except script_model.Refused as why:
+                told.append((None, f"refused: {why}"))
+                continue
+            if isinstance(what, leak_model.Setup):
+                self.setup, known = what, -1
+            elif shown is not None:
+                self.later.append(what)
+            if shown is not None:
+                told.append((what, shown))
+        frames = iter(exchanges(self.key, self.setup, self.later)[known + 1:] if self.setup else [])
+        for what, shown in told:
+            if isinstance(shown, Stopped):
+                raise shown
+            if what is None:
+                self.status = 1
+            else:
+                self.send(what, next(frames))
+            self.lines.append(shown)
+
+    def send(self, what, frames):
+        """Keeps the record of an update, then sends the frames."""
+        if not isinstance(what, leak_model.Search):
+            is_setup = isinstance(what, leak_model.Setup)
+            payload = record_model.setup_record(self.key, what) if is_setup else record_model.update_record(what)
+            self.end = self.on_disk(append, self.disk, self.end, payload)
+        for frame, pages in frames:
+            self.over_link(frame, pages)
+
+
+# Turns.
+
+
+def another(name, before):
+    """The content of the other disk that a field names."""
+    if name == "kept":
+        return before.file
+    return bytes.fromhex(name[1:]) if name.startswith("x") else before.image(int(name))
+
+
+def answers(text):
+    """What is printed of each turn: the lines of what passes, the lines of the run, its status, the client's file and the server's."""
+    client, link = Disk(), Link(Server())
+    for part in text.removesuffix(PARTING).split(PARTING):
+        line, *lines = script_model.lines_of(part)
+        _, word, name, call, *server = line.decode().split(" ")
+        if name != "same":
+            client = Disk(another(name, client))
+        client.left = int(call)
+        if server:
+            name, call, *cuts = server
+            link = Link(Server(another(name, link.server.disk), int(call)), {int(cut[:-1]): cut[-1] == "+" for cut in reversed(cuts)})
+        run, before = Run(client, link), len(link.passed)
+        run.carry_out(word, lines)
+        passed = [f"{way} {text.hex()}" for way, text in link.passed[before:]]
+        yield passed, run.lines, run.status, client.file, link.server.disk.file
+
+
+def answer(text):
+    """All that is printed."""
+    told = []
+    for passed, lines, status, client, server in answers(text):
+        told += [*passed, *lines, f"status {status}", f"client {client.hex()}", f"server {server.hex()}"]
+    return "".join(line + "\n" for line in told).encode()
