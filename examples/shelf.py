@@ -264,7 +264,8 @@ SIGNALS = Signals()
 
 def program(name):
     """Where a program is: `make` puts it into bin/, and SSE_LOCAL and the like name another place."""
-    return os.environ.get(name.upper()) or os.path.join(HERE, os.pardir, "bin", name)
+    place = os.environ.get(name.upper()) or os.path.join(HERE, os.pardir, "bin", name)
+    return os.path.abspath(place) if os.sep in place else place
 
 
 def begin(name, *words, **options):

@@ -15,7 +15,8 @@ class Client:
     def __init__(self, folder, mode):
         self.folder = folder
         self.printed = []
-        self.process = shelf.begin("sse_net", folder.settings["server"], folder.of(JOURNAL), mode, pass_fds=[folder.lock])
+        # in its folder, since its words have to be text, which the folder's name needn't be
+        self.process = shelf.begin("sse_net", folder.settings["server"], JOURNAL, mode, cwd=folder.path, pass_fds=[folder.lock])
 
     def __enter__(self):
         try:

@@ -65,35 +65,51 @@ class Plan:
 
     def read(self, paths):
         before = {key for path in paths for key in self.texts.below(path)}
-        files = (file for path in paths if os.path.lexists(path) for file in sources.files_at(path, self.folder.path, self.reading))
-        looked_at, seen = set(), set()
-        for file in files:
+        looked_at, seen, went = set(), set(), {}
+        for file in self.files_at(paths, self.reading):
             if file not in looked_at:
                 looked_at.add(file)
                 self.progress.show("{:,} files looked at, {:,} texts to be added", len(looked_at), len(self.unmatched))
                 key = sources.key_of(file)
                 # two files whose names differ in flags alone aren't the same
                 key = file if key in seen else key
-                seen.add(key)
-                self.take(key, file)
-        for key in before - seen:
-            source = self.texts.sources[key]
-            if self.reading.covers(source.path):
+                if self.take(key, file):
+                    seen.add(key)
+                else:
+                    went[key] = file
+        # a mail whose flags change, or that moves from new to cur, may be listed in neither place or be gone when it is read
+        if (before | set(went)) - seen:
+            for file in self.files_at(paths, sources.Reading()):
+                key = sources.key_of(file)
+                if key not in seen and self.take(key, file):
+                    seen.add(key)
+        for key in (before | set(went)) - seen:
+            source = self.texts.sources.get(key)
+            if key in went:
+                self.reading.unread("files that went away before they were read: index again", went[key])
+            if source and (key in went or self.reading.covers(source.path)):
                 self.counts[BEFORE] += len(source.texts)
-            else:
+            elif source:
                 self.part_with(self.texts.sources.pop(key))
 
+    def files_at(self, paths, reading):
+        """The files at all of these paths that are there."""
+        return (file for path in paths if os.path.lexists(path) for file in sources.files_at(path, self.folder.path, reading))
+
     def take(self, key, path):
-        """A file that is there: as before, or read."""
+        """A file that is there: as before, or read. Answers whether it was there still."""
         known = self.texts.sources.get(key)
         if known and known.state and known.state == self.state_of(path):
             known.path = path
             self.counts[BEFORE] += len(known.texts)
-            return
-        read = sources.texts_of(path, self.reading)
+            return True
+        try:
+            read = sources.texts_of(path, self.reading)
+        except FileNotFoundError:
+            return False
         if read is None:
             self.counts[BEFORE] += len(known.texts) if known else 0
-            return
+            return True
         kind, state, found = read
         source = Source(path, kind, state, [])
         held = collections.defaultdict(list)
@@ -109,6 +125,7 @@ class Plan:
             self.texts.sources.pop(key, None)
         else:
             self.texts.sources[key] = source
+        return True
 
     def state_of(self, path):
         try:

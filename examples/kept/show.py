@@ -37,8 +37,10 @@ def named(texts, name):
 
 
 def print_text(source, text):
-    reading = sources.Reading()
-    read = sources.texts_of(source.path, reading)
+    try:
+        read = sources.texts_of(source.path, sources.Reading())
+    except FileNotFoundError:
+        read = None
     found = read[2] if read else []
     same = [pieces for label, pieces in found if sources.checksum(sources.words_in(label, pieces, sources.Reading())) == text.held]
     if not same and len(found) != 1:

@@ -94,7 +94,7 @@ def kind_of(path, file, reading):
 
 def texts_of(path, reading):
     """The kind of a file, its state, and a list of its texts, each a label and what it holds as (name of a field or "", text);
-    None where it isn't read, which is said."""
+    None where it isn't read, which is said. Raises FileNotFoundError where there is none any more."""
     try:
         if not stat.S_ISREG(os.stat(path).st_mode):
             reading.leave_out("files that are no regular ones", path)
@@ -105,6 +105,8 @@ def texts_of(path, reading):
             except Changed:
                 pass
         reading.unread("files that change while they are read: index again when they are at rest", path)
+    except FileNotFoundError:
+        raise
     except OSError as error:
         reading.unread(f"files that can't be read ({error.strerror})", path)
     return None
