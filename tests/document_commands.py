@@ -83,8 +83,11 @@ def commands_of(document, text):
     pieces = re.compile(r"^```(\w*)\n(.*?)^```$|((?:^    [^\n]*\n)+)|`([^`]+)`", re.DOTALL | re.MULTILINE)
     for language, block, indented, span in pieces.findall(text):
         span = " ".join(span.split())
-        if block or indented:
-            found += commands_of_block(document, language, block or re.sub(r"^    ", "", indented, flags=re.MULTILINE))
+        indented = re.sub(r"^    ", "", indented, flags=re.MULTILINE)
+        if "`" in indented:  # a list's further lines, and no block
+            found += commands_of(document, indented)
+        elif block or indented:
+            found += commands_of_block(document, language, block or indented)
         elif span and is_command(span):
             found.append(Command(document, span))
     return found
