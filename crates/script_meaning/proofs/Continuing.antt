@@ -2,7 +2,7 @@
 -- that, no collision and no reply stops it where the history up to its stop has no collision; and where nothing stopped it from
 -- outside either, it did what its lines mean.
 use Rattle.std.proofs.Common.{◌≡◌, ℕ, Bool, ◌^◌, ◌<◌, ◌≤◌, inl, inr, List, [], ◌∷◌, ◌++◌, length, map, take, Some, None, refl, sym, ap, ◌∙◌, subst, arith, length-append}
-use Rattle.std.specs.Prelude.{filter, flat_map, Option, option_map}
+use Rattle.std.specs.Prelude.{filter, flat_map, Option}
 use Rattle.std.specs.Io.KnownBytes.{append_known}
 use Rattle.std.specs.List.{AllByRecursion}
 use Rattle.std.proofs.lemmas.List.{append_cancel_left, map-append}
@@ -31,7 +31,8 @@ use Rattle.sse_model.specs.Epochs.{keys_under}
 use Rattle.sse_model.specs.Histories.{table_of, frames_sent, frames_of_next, HasNoCollision}
 use Rattle.sse_outside.proofs.Known.{append_known-twice}
 use Rattle.sse_script.specs.Texts.{text_of}
-use Rattle.script_meaning.specs.Carries.{Outside, text_with, with_answers}
+use Rattle.sse_outside.specs.Kept.{with_records}
+use Rattle.script_meaning.specs.Carries.{Keeps, Outside, text_with, with_answers}
 use Rattle.script_meaning.specs.Continues.{at_run, GoesOn, frames_since, Continued}
 use Rattle.script_meaning.specs.Exchange.{Adds}
 use Rattle.script_meaning.specs.Goes.{Passes, HasPassed, Goes}
@@ -46,7 +47,7 @@ use Rattle.script_meaning.proofs.Following.{finds, finds-follow, first-follow, f
 use Rattle.script_meaning.proofs.Going.{Adds-joined, Prints-none}
 use Rattle.script_meaning.proofs.Headline.{AreAnswered, session_outside, session_whole, same_events, with_answers-finds, few, IsFree-first}
 use Rattle.script_meaning.proofs.Kept.{IsWithinItem, IsKeptAt, kept_follow}
-use Rattle.script_meaning.proofs.Recorded.{records-longer, kept_since}
+use Rattle.script_meaning.proofs.Recorded.{KeepsFirst-all, records-longer, kept_since}
 use Rattle.script_meaning.proofs.RunGoes.{turned_status, went}
 
 -- what holds of each of two lists holds of each of the second
@@ -150,7 +151,7 @@ module _ (f : KeyedFn) (laws : IsKeyedFn f) (key : List ℕ) (run : Run) (before
         append-none (x ∷ xs) = ap (λ more. x ∷ more) (append-none xs)
 
     -- at its end the records after the run were kept
-    kept_on : status_of end.stop ≤ 2 → (more : List Command) → end.history ≡ longer more (Some run) → Adds now.kept end.outside.kept (map update_record (filter is_update more))
+    kept_on : status_of end.stop ≤ 2 → (more : List Command) → end.history ≡ longer more (Some run) → Keeps now.kept end.outside.kept (map update_record (filter is_update more))
     kept_on low_status more history = elim goes_on [
       | inl away ↦ absurd (omega (arith, low_status, ap status_of away.stops, turned_status low high away.away.events away.cause away.away.turned))
       | inr opened ↦
@@ -159,7 +160,8 @@ module _ (f : KeyedFn) (laws : IsKeyedFn f) (key : List ℕ) (run : Run) (before
           let same : w.records ≡ map update_record (filter is_update more) =
           append_cancel_left (records_in f key (Some run)) w.records (map update_record (filter is_update more))
           (sym w.are ∙ ap (records_in f key) held ∙ records-longer f key (Some run) more refl) in
-          w.kept ∙ (λ i. option_map (λ told. told ++ same i) (opened.1.unkept i))
+          KeepsFirst-all w.all w.records (status_of end.stop) opened.0.kept end.outside.kept (λ e. absurd (omega (arith, low_status, e))) (λ e. absurd (omega (arith, low_status, e))) w.kept
+          ∙ (λ i. with_records (same i) (opened.1.unkept i))
     ]
 
     module _ (state : ServerState) (honest : IsOverHonest f before now.told end.outside.told state) where

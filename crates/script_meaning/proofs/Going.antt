@@ -17,7 +17,8 @@ use Rattle.sse_script.specs.Shown.{Cause, BadWords, BadLine, SourceFault, LinkFa
 use Rattle.sse_script.specs.Shown.{Shown, SetUp, Added, Deleted, Found, Resumed, Refused, Stopped}
 use Rattle.sse_script.specs.Stops.{cause_status}
 use Rattle.sse_script.specs.Texts.{text_of}
-use Rattle.script_meaning.specs.Carries.{with_answers, text_with}
+use Rattle.sse_outside.specs.Kept.{Kept, with_records}
+use Rattle.script_meaning.specs.Carries.{Keeps, with_answers, text_with}
 use Rattle.script_meaning.specs.Exchange.{Told, Adds, AreExchanged, ShowsInReplies, as_event, bare}
 use Rattle.script_meaning.specs.Goes.{IsLeft, Passes, Prints}
 use Rattle.script_meaning.specs.Greeting.{ShowsInAnswer}
@@ -31,9 +32,18 @@ pub Adds-nothing : {A : Type 0} (told : Option (List A)) → Adds told told []
 Adds-nothing None = refl
 Adds-nothing (Some all) = ap (λ xs. Some xs) (sym (append-nil all))
 
+pub Keeps-nothing : (kept : Kept) → Keeps kept kept []
+Keeps-nothing kept = ap (λ records. record { records = records; refused = kept.refused }) (Adds-nothing kept.records)
+
 pub Adds-joined : {A : Type 0} (old between new : Option (List A)) (xs ys : List A) → Adds old between xs → Adds between new ys → Adds old new (xs ++ ys)
 Adds-joined None between new xs ys first second = second ∙ ap (option_map (λ told. told ++ ys)) first
 Adds-joined (Some told) between new xs ys first second = second ∙ ap (option_map (λ told. told ++ ys)) first ∙ ap (λ es. Some es) (append_assoc told xs ys)
+
+pub Keeps-joined : (old between new : Kept) (xs ys : List (List ℕ)) → Keeps old between xs → Keeps between new ys → Keeps old new (xs ++ ys)
+Keeps-joined old between new xs ys first second =
+    second
+    ∙ ap (with_records ys) first
+    ∙ ap (λ records. record { records = records; refused = old.refused }) (Adds-joined old.records (option_map (λ all. all ++ xs) old.records) (option_map (λ all. all ++ ys) (option_map (λ all. all ++ xs) old.records)) xs ys refl refl)
 
 pub AreExchanged-none : AreExchanged [] [] []
 AreExchanged-none = record { ids = All-nil (All IsIdentifier); count = refl; each = refl }

@@ -30,6 +30,7 @@ use Rattle.sse_script.specs.Shown.{Cause}
 use Rattle.sse_script.specs.Shown.{Shown, SetUp, Added, Deleted, Found, Resumed, Refused, Stopped}
 use Rattle.sse_script.specs.Stops.{cause_status}
 use Rattle.sse_script.specs.Texts.{text_of}
+use Rattle.sse_outside.specs.Kept.{with_records}
 use Rattle.script_meaning.specs.Carries.{Outside, with_answers, text_with}
 use Rattle.script_meaning.specs.Exchange.{Told, Adds, AreExchanged, IsCut, as_event, bare}
 use Rattle.script_meaning.specs.Goes.{Passes, IsOpened, HasPassed, GoesFirst}
@@ -44,7 +45,7 @@ use Rattle.script_meaning.specs.Stops.{status_of, stop_text}
 use Rattle.script_meaning.proofs.Following.{finds, follow-key, finds-meant}
 use Rattle.script_meaning.proofs.Going.{Adds-nothing, Adds-joined}
 use Rattle.script_meaning.proofs.Honest.{IsServed-bare, behind, cut_outside, behind_greeted, turned_outside}
-use Rattle.script_meaning.proofs.Recorded.{recorded}
+use Rattle.script_meaning.proofs.Recorded.{KeepsFirst-all, recorded}
 use Rattle.script_meaning.proofs.RunGoes.{goes, turned_status}
 use Rattle.script_meaning.proofs.Simulated.{session_with-simulated}
 use Rattle.script_meaning.proofs.Within.{meaning_is_kept}
@@ -299,6 +300,6 @@ module _ (f : KeyedFn) (laws : IsKeyedFn f) (bytes : List ℕ) (now : Outside) (
           adds = subst (λ told. Adds now.told told all.events) (sym ends.told) all.adds;
           session = all.session;
           simulated = record { passed = session_of f m; made = session_with-simulated f m.key m.history kept; same = all.session };
-          kept = ends.kept ∙ records.kept ∙ (λ i. option_map (λ told. told ++ records_with f (well.1 i) (history i)) now.kept);
+          kept = ends.kept ∙ KeepsFirst-all _ _ (status_of end.stop) now.kept end.outside.kept (λ e. absurd (omega (arith, low, e))) (λ e. absurd (omega (arith, low, e))) records.kept ∙ (λ i. with_records (records_with f (well.1 i) (history i)) now.kept);
           stored = all.stored;
         }

@@ -1,6 +1,6 @@
 -- The records that are kept of a run and the frames that it sends are of one history: by induction over the lines that are left.
 use Rattle.std.proofs.Common.{◌≡◌, ◌≢◌, ◌⊎◌, ℕ, suc, ◌+◌, ◌≤◌, inl, inr, true, false, Bool, ◌||◌, List, [], ◌∷◌, ◌++◌, length, map, take, drop, Some, None, refl, sym, ap, ◌∙◌, subst, arith, append_assoc, length-append}
-use Rattle.std.specs.Prelude.{filter, Option, option_map}
+use Rattle.std.specs.Prelude.{filter, Option}
 use Rattle.std.proofs.Math.Seq.{take-add, take-append-add, take-length}
 use Rattle.std.proofs.lemmas.List.{append-nil, map-append, take-map}
 use Rattle.std.proofs.lemmas.List.Elements.{filter-append}
@@ -16,17 +16,18 @@ use Rattle.sse_frames.specs.Exchange.{sent_among}
 use Rattle.sse_frames.specs.Frames.{FrameText, Hello, frame_bytes}
 use Rattle.sse_model.specs.Epochs.{keys_under}
 use Rattle.sse_model.specs.Histories.{frames_sent}
+use Rattle.sse_outside.specs.Kept.{Kept, with_records, with_refused}
 use Rattle.sse_script.specs.Shown.{Cause}
-use Rattle.script_meaning.specs.Carries.{Outside, keys_at, frames_by, records_by, Carries, FindsClash, LacksMemory, IsUnkept, IsCutShort, IsUnprinted}
+use Rattle.script_meaning.specs.Carries.{Keeps, Outside, keys_at, frames_by, records_by, Carries, FindsClash, LacksMemory, IsUnkept, IsCutShort, IsUnprinted}
 use Rattle.script_meaning.specs.Exchange.{Adds, AreExchanged, AreCut, sent_in}
 use Rattle.script_meaning.specs.Lines.{Line, Empty, Key, Command as CommandLine, Request}
 use Rattle.script_meaning.specs.Outcome.{Place, Outcome, opened, outcome, after, is_refusal}
-use Rattle.script_meaning.specs.Recorded.{records_in, IsRecorded}
+use Rattle.script_meaning.specs.Recorded.{records_in, IsRecorded, KeepsFirst}
 use Rattle.script_meaning.specs.Runs.{Ended, ended, StopsReading, Stops, Runs, Opens, IsTurnedAway, IsGreeted}
 use Rattle.script_meaning.specs.Session.{session_with}
 use Rattle.script_meaning.specs.Stops.{Stop, status_of}
 use Rattle.script_meaning.proofs.Following.{first-next, frames-next, after-key}
-use Rattle.script_meaning.proofs.Going.{Adds-nothing, Adds-joined}
+use Rattle.script_meaning.proofs.Going.{Adds-nothing, Adds-joined, Keeps-nothing, Keeps-joined}
 use Rattle.script_meaning.proofs.Outcomes.{by_cases}
 use Rattle.script_meaning.proofs.RunGoes.{clash_status}
 use Rattle.script_meaning.proofs.Sent.{sent_in-append, sent_in-bare, sent_in-exchange, sent_in-cut, sent_in-turned, frames_with_hello}
@@ -71,6 +72,22 @@ module _ (f : KeyedFn) (place : Place) (line : Request) where
       before None none records = refl
       before (Some run) none records = absurd (cc)
 
+-- Records that are taken behind others.
+
+KeepsFirst-behind : (before all taken : List (List ℕ)) (status : ℕ) (old between new : Kept) → Keeps old between before → KeepsFirst all taken status between new → KeepsFirst (before ++ all) (before ++ taken) status old new
+KeepsFirst-behind before all taken status old between new first (inl kept) = inl (Keeps-joined old between new before taken first kept)
+KeepsFirst-behind before all taken status old between new first (inr r) = inr (record {
+  refused = r.refused;
+  kept = r.kept ∙ ap (with_refused r.refused) (Keeps-joined old between (with_records taken between) before taken first refl);
+  last = ap (λ records. before ++ records) r.last ∙ sym (append_assoc before taken r.refused);
+  status_is = r.status_is;
+})
+
+-- where the disk didn't fail and memory wasn't wanting, none was refused
+pub KeepsFirst-all : (all taken : List (List ℕ)) (status : ℕ) (old new : Kept) → status ≢ 6 → status ≢ 7 → KeepsFirst all taken status old new → Keeps old new taken
+KeepsFirst-all all taken status old new disk memory (inl kept) = kept
+KeepsFirst-all all taken status old new disk memory (inr r) = absurd (elim r.status_is [ inl is ↦ disk is | inr is ↦ memory is ])
+
 -- What was sent of frames that were exchanged, or cut.
 
 sent_in-exchanged : (answers : List (List ℕ)) (frames : List FrameText) (events : List Event) → AreExchanged answers frames events → sent_in events ≡ map frame_bytes frames
@@ -95,7 +112,9 @@ pub record KeptSince (f : KeyedFn) (key : List ℕ) (h : History) (now : Outside
   pub first : IsFirstOf held end.history
   pub records : List (List ℕ)
   pub are : records_in f key held ≡ records_in f key h ++ records
-  pub kept : Adds now.kept end.outside.kept records
+  pub all : List (List ℕ)
+  pub all_are : records_in f key end.history ≡ records_in f key h ++ all
+  pub kept : KeepsFirst all records (status_of end.stop) now.kept end.outside.kept
   pub most : length (records_in f key end.history) ≤ length (records_in f key held) + 1
   pub more : List FrameText
   pub frames : frames_sent f (keys_under key held) held ≡ frames_sent f (keys_under key h) h ++ more
@@ -116,7 +135,9 @@ module _ (f : KeyedFn) where
     first = IsFirstOf-same h;
     records = [];
     are = sym (append-nil (records_in f key h));
-    kept = Adds-nothing now.kept;
+    all = [];
+    all_are = sym (append-nil (records_in f key h));
+    kept = inl (Keeps-nothing now.kept);
     most = omega arith;
     more = [];
     frames = sym (append-nil (frames_sent f (keys_under key h) h));
@@ -138,8 +159,8 @@ module _ (f : KeyedFn) where
     -- A run that stops in a line.
 
     module _ (s : Stops f place came now end) where
-      -- nothing was sent of it, and its records aren't kept
-      without : end.outside.told ≡ now.told → end.outside.kept ≡ now.kept → (status_of end.stop ≡ 6) ⊎ (status_of end.stop ≡ 7) ⊎ (status_of end.stop ≡ 8) → KeptSince f place.key place.history now end
+      -- nothing was sent of it, and its records weren't taken
+      without : end.outside.told ≡ now.told → KeepsFirst (records_by f place came) [] (status_of end.stop) now.kept end.outside.kept → (status_of end.stop ≡ 6) ⊎ (status_of end.stop ≡ 7) ⊎ (status_of end.stop ≡ 8) → KeptSince f place.key place.history now end
       without told kept status = record {
         same_key = s.key;
         held = place.history;
@@ -147,7 +168,9 @@ module _ (f : KeyedFn) where
         first = subst (IsFirstOf place.history) (sym s.history) (first-next place line);
         records = [];
         are = sym (append-nil (records_in f place.key place.history));
-        kept = kept ∙ Adds-nothing now.kept;
+        all = records_by f place came;
+        all_are = ap (records_in f place.key) s.history ∙ records-next f place line;
+        kept = kept;
         most = omega (
           arith,
           few-records f place line,
@@ -163,9 +186,9 @@ module _ (f : KeyedFn) where
         whole = λ disk memory clash. absurd (elim status [ inl e ↦ disk e | inr (inl e) ↦ memory e | inr (inr e) ↦ clash e ]);
       }
 
-      -- its records are kept, and of its frames a front was sent
+      -- its records were taken, and of its frames a front was sent
       within : (events : List Event) → Adds now.told end.outside.told events → (k : ℕ) × (sent_in events ≡ map frame_bytes (take k (frames_by f place came)))
-          → Adds now.kept end.outside.kept (records_by f place came) → KeptSince f place.key place.history now end
+          → Keeps now.kept end.outside.kept (records_by f place came) → KeptSince f place.key place.history now end
       within events adds sent kept = record {
         same_key = s.key;
         held = end.history;
@@ -173,7 +196,9 @@ module _ (f : KeyedFn) where
         first = IsFirstOf-same end.history;
         records = records_by f place came;
         are = ap (records_in f place.key) s.history ∙ records-next f place line;
-        kept = kept;
+        all = records_by f place came;
+        all_are = ap (records_in f place.key) s.history ∙ records-next f place line;
+        kept = inl kept;
         most = omega arith;
         more = frames_by f place came;
         frames = ap (frames_sent f (keys_at place)) s.history ∙ frames-next place line f;
@@ -184,17 +209,26 @@ module _ (f : KeyedFn) where
         whole = λ disk memory clash. refl;
       }
 
+      -- nothing was handed over
+      unkept : end.outside.kept ≡ now.kept → KeepsFirst (records_by f place came) [] (status_of end.stop) now.kept end.outside.kept
+      unkept same = inl (same ∙ Keeps-nothing now.kept)
+
       since-clash : FindsClash f place came now end.outside end.stop → KeptSince f place.key place.history now end
-      since-clash c = without (ap (λ (o : Outside). o.told) c.nothing) (ap (λ (o : Outside). o.kept) c.nothing) (inr (inr (ap status_of c.stops ∙ clash_status _ c.cause c.found)))
+      since-clash c = without (ap (λ (o : Outside). o.told) c.nothing) (unkept (ap (λ (o : Outside). o.kept) c.nothing)) (inr (inr (ap status_of c.stops ∙ clash_status _ c.cause c.found)))
 
       since-memory : LacksMemory now end.outside end.stop → KeptSince f place.key place.history now end
-      since-memory c = without (ap (λ (o : Outside). o.told) c.nothing) (ap (λ (o : Outside). o.kept) c.nothing) (inr (inl (ap status_of c.stops)))
+      since-memory c = without (ap (λ (o : Outside). o.told) c.nothing) (unkept (ap (λ (o : Outside). o.kept) c.nothing)) (inr (inl (ap status_of c.stops)))
 
       since-unkept : IsUnkept f place came now end.outside end.stop → KeptSince f place.key place.history now end
-      since-unkept u = elim u.kept [
-        | inl same ↦ without u.unsent same (elim u.stops [ inl disk ↦ inl (ap status_of disk) | inr memory ↦ inr (inl (ap status_of memory)) ])
-        | inr kept ↦ within [] (u.unsent ∙ Adds-nothing now.told) (0, refl) kept
-      ]
+      since-unkept u = without u.unsent (elim u.kept [
+        | inl same ↦ unkept same
+        | inr refused ↦ inr (record {
+          refused = records_by f place came;
+          kept = refused ∙ ap (with_refused (records_by f place came)) (Keeps-nothing now.kept);
+          last = refl;
+          status_is = elim u.stops [ inl disk ↦ inl (ap status_of disk) | inr memory ↦ inr (ap status_of memory) ];
+        })
+      ]) (elim u.stops [ inl disk ↦ inl (ap status_of disk) | inr memory ↦ inr (inl (ap status_of memory)) ])
 
       since-cut : IsCutShort f place came now end.outside end.stop → KeptSince f place.key place.history now end
       since-cut c = within c.events c.adds (sent_in-cut_short (frames_by f place came) c.events c.cause c.cut) c.kept
@@ -229,7 +263,12 @@ module _ (f : KeyedFn) where
               w.are
               ∙ ap (λ records. records ++ w.records) (records-next f place line)
               ∙ append_assoc (records_in f place.key place.history) (records_by f place came) w.records;
-          kept = Adds-joined now.kept next.kept end.outside.kept (records_by f place came) w.records c.kept w.kept;
+          all = records_by f place came ++ w.all;
+          all_are =
+              w.all_are
+              ∙ ap (λ records. records ++ w.all) (records-next f place line)
+              ∙ append_assoc (records_in f place.key place.history) (records_by f place came) w.all;
+          kept = KeepsFirst-behind (records_by f place came) w.all w.records (status_of end.stop) now.kept next.kept end.outside.kept c.kept w.kept;
           most = w.most;
           more = frames_by f place came ++ w.more;
           frames =
@@ -271,7 +310,7 @@ module _ (f : KeyedFn) where
     held = empty;
     first = tt;
     most = omega arith;
-    kept = Adds-nothing now.kept;
+    kept = inl (Keeps-nothing now.kept);
     events = [];
     adds = Adds-nothing now.told;
     count = 0;
@@ -300,7 +339,7 @@ module _ (f : KeyedFn) where
         held = empty;
         first = tt;
         most = omega arith;
-        kept = away.unkept ∙ Adds-nothing now.kept;
+        kept = inl (away.unkept ∙ Keeps-nothing now.kept);
         events = away.away.events;
         adds = away.away.adds;
         count = turned.0;
@@ -317,7 +356,8 @@ module _ (f : KeyedFn) where
         held = w.held;
         first = w.first;
         most = w.most;
-        kept = w.kept ∙ (λ i. option_map (λ told. told ++ sym w.are i) (greeted.unkept i));
+        kept = subst (λ all. KeepsFirst all (records_in f key w.held) (status_of end.stop) now.kept end.outside.kept) (sym w.all_are)
+            (subst (λ taken. KeepsFirst w.all taken (status_of end.stop) now.kept end.outside.kept) (sym w.are) (subst (λ kept. KeepsFirst w.all w.records (status_of end.stop) kept end.outside.kept) greeted.unkept w.kept));
         events = greeted.greets.events ++ w.events;
         adds = Adds-joined now.told next.told end.outside.told greeted.greets.events w.events greeted.greets.adds w.adds;
         count = suc w.count;

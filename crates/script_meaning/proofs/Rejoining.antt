@@ -2,7 +2,7 @@
 -- stops it where the history up to its stop has no collision; and where nothing stopped it from outside either, it sent what the
 -- server lacked and did what its lines mean.
 use Rattle.std.proofs.Common.{◌≡◌, ◌⊎◌, ℕ, zero, suc, false, ◌^◌, ◌<◌, ◌≤◌, inl, inr, List, [], ◌∷◌, ◌++◌, length, map, take, drop, Some, refl, sym, ap, ◌∙◌, subst, arith, append_assoc, length-append}
-use Rattle.std.specs.Prelude.{filter, flat_map, Option, option_map}
+use Rattle.std.specs.Prelude.{filter, flat_map, Option}
 use Rattle.std.specs.Io.KnownBytes.{append_known}
 use Rattle.std.specs.List.{AllByRecursion}
 use Rattle.std.proofs.lemmas.List.{append-nil, append_cancel_left, drop-append-le, take-append-drop, take-append-le}
@@ -36,7 +36,8 @@ use Rattle.sse_outside.proofs.Known.{append_known-twice}
 use Rattle.sse_script.specs.Shown.{NoMemory, Resumed}
 use Rattle.sse_script.specs.Stops.{cause_status}
 use Rattle.sse_script.specs.Texts.{text_of}
-use Rattle.script_meaning.specs.Carries.{Outside, text_with, with_answers}
+use Rattle.sse_outside.specs.Kept.{with_records}
+use Rattle.script_meaning.specs.Carries.{Keeps, Outside, text_with, with_answers}
 use Rattle.script_meaning.specs.Continues.{at_run, frames_since}
 use Rattle.script_meaning.specs.Exchange.{Adds, as_event}
 use Rattle.script_meaning.specs.Goes.{Passes, IsOpened, HasPassed}
@@ -53,7 +54,7 @@ use Rattle.script_meaning.proofs.Following.{finds, finds-follow, first-follow, f
 use Rattle.script_meaning.proofs.Going.{Adds-joined, Adds-nothing, AreExchanged-none, Passes-behind, Passes-none}
 use Rattle.script_meaning.proofs.Headline.{AreAnswered, history_is_answered, session_outside, session_whole, opened_over, same_events, with_answers-finds, few, IsFree-first}
 use Rattle.script_meaning.proofs.Kept.{IsWithinItem, IsKeptAt, kept_follow}
-use Rattle.script_meaning.proofs.Recorded.{records-longer, kept_since}
+use Rattle.script_meaning.proofs.Recorded.{KeepsFirst-all, records-longer, kept_since}
 use Rattle.script_meaning.proofs.RunGoes.{Passes-cut, clash_status, cut_status, turned_status, Went, went}
 
 -- After some frames of which none is a search.
@@ -252,7 +253,7 @@ module _ (f : KeyedFn) (laws : IsKeyedFn f) (key : List ℕ) (run : Run) (update
         went_on = record { first = w.since; same_key = w.same_key; history = w.history; answers = w.answers; passes = inr (inr went_opened) }
 
         -- the records after the run were kept
-        kept_on : status_of end.stop ≤ 2 → Adds now.kept end.outside.kept (recorded commands)
+        kept_on : status_of end.stop ≤ 2 → Keeps now.kept end.outside.kept (recorded commands)
         kept_on low_status =
             let k = kept_since f (at_run key [] run) number lines false later end runs in
             let held : k.held ≡ longer commands (Some run) =
@@ -260,7 +261,8 @@ module _ (f : KeyedFn) (laws : IsKeyedFn f) (key : List ℕ) (run : Run) (update
             let same : k.records ≡ recorded commands =
             append_cancel_left (records_in f key (Some run)) k.records (recorded commands)
             (sym k.are ∙ ap (records_in f key) held ∙ records-longer f key (Some run) commands refl) in
-            k.kept ∙ (λ i. option_map (λ told. told ++ same i) ((caught.unkept ∙ g.unkept) i))
+            KeepsFirst-all k.all k.records (status_of end.stop) later.kept end.outside.kept (λ e. absurd (omega (arith, low_status, e))) (λ e. absurd (omega (arith, low_status, e))) k.kept
+            ∙ (λ i. with_records (same i) ((caught.unkept ∙ g.unkept) i))
 
     pub goes_rejoining : GoesRejoining
     goes_rejoining = elim goes [

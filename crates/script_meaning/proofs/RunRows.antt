@@ -36,7 +36,7 @@ use Rattle.sse_script.specs.Shown.{Found}
 use Rattle.line_documents.specs.LineDocument.{document}
 use Rattle.script_meaning.proofs.Headline.{headline}
 use Rattle.script_meaning.proofs.Within.{meaning_is_kept}
-use Rattle.script_meaning.proofs.Going.{Adds-nothing, AreExchanged-none, append_known-nothing}
+use Rattle.script_meaning.proofs.Going.{Adds-nothing, Keeps-nothing, AreExchanged-none, append_known-nothing}
 use Rattle.client_records.specs.Records.{setup_record}
 use Rattle.keyed_fn.specs.KeyFormulas.{mark_of}
 use Rattle.script_meaning.specs.Carries.{Outside, Carries, frames_by}
@@ -123,7 +123,7 @@ abbrev found_text : List ℕ
 found_text = codes "found 1: 1\n"
 
 abbrev pub seen : List Event → List (List ℕ) → List ℕ → Outside
-seen events records text = record { told = Some events; kept = Some records; written = Some text }
+seen events records text = record { told = Some events; kept = record { records = Some records; refused = [] }; written = Some text }
 
 abbrev pub set_up_records : List (List ℕ)
 set_up_records = setup_record (mark_of toy key) setup ∷ []
@@ -132,7 +132,7 @@ set_up_records = setup_record (mark_of toy key) setup ∷ []
 
 pub collects_row : (o : Outside) → Carries toy (opened key) (Collects (document 1 (a ∷ []))) o o
 collects_row o = record {
-  kept = Adds-nothing o.kept;
+  kept = Keeps-nothing o.kept;
   answers = [];
   sent = record { events = []; adds = Adds-nothing o.told; exchanged = AreExchanged-none; no_clash = refl };
   printed = sym (append_known-nothing o.written);
@@ -303,11 +303,14 @@ in_search events cut = inr (inr (
   )),
 ))
 
--- the disk refuses the setup's record, which is there or isn't: nothing is sent of the setup
-refused_record : (records : List (List ℕ)) → (records ≡ []) ⊎ (records ≡ set_up_records)
-    → Opens toy 1 (script_lines script) (seen [] [] []) (ended (seen greeting records []) (Some key) (Some (record { setup = setup; later = [] })) (At DiskFault))
+-- the setup's record is refused, or there is no memory to hand it over: nothing is sent of the setup
+abbrev without_record : (refused : List (List ℕ)) → Outside
+without_record refused = record { told = Some greeting; kept = record { records = Some []; refused = refused }; written = Some [] }
+
+refused_record : (refused : List (List ℕ)) → (refused ≡ []) ⊎ (refused ≡ set_up_records)
+    → Opens toy 1 (script_lines script) (seen [] [] []) (ended (without_record refused) (Some key) (Some (record { setup = setup; later = [] })) (At DiskFault))
 unfolding hex_on_literals utf8_valid_len is_utf8 chars encode
-refused_record records kept = inr (inr (
+refused_record refused kept = inr (inr (
   seen greeting [] [],
   greeted_row,
   inr (inr (
@@ -319,7 +322,7 @@ refused_record records kept = inr (inr (
         some = λ e. absurd (cc);
         no_clash = refl;
         unsent = refl;
-        kept = elim kept [ inl none ↦ inl (ap (λ r. Some r) none) | inr all ↦ inr (ap (λ r. Some r) all) ];
+        kept = elim kept [ inl none ↦ inl (ap (λ r. record { records = Some []; refused = r }) none) | inr all ↦ inr (ap (λ r. record { records = Some []; refused = r }) all) ];
         unprinted = refl;
       })));
       key = refl;

@@ -15,16 +15,17 @@ use Rattle.sse_model.specs.Histories.{frames_of_first, frames_of_next, collision
 use Rattle.sse_script.specs.Shown.{Cause, DiskFault, LabelClash, PlaceClash, NumberClash, NoMemory}
 use Rattle.sse_script.specs.Shown.{Shown, Found}
 use Rattle.sse_outside.specs.Fronts.{TookFront}
+use Rattle.sse_outside.specs.Kept.{Kept, with_records, with_refused}
 use Rattle.sse_script.specs.Texts.{text_of}
 use Rattle.script_meaning.specs.Exchange.{Told, Adds, AreExchanged, AreCut}
 use Rattle.script_meaning.specs.Outcome.{Place, Outcome, Collects, Refuses, SetsUp, Does, shown_by}
 use Rattle.script_meaning.specs.Stops.{Stop, SinkFault, At}
 
--- the records that a client keeps, where they are told
-abbrev pub Kept : Type 0
-Kept = Option (List (List ℕ))
+-- these records were taken behind those that were kept before
+abbrev pub Keeps : (old new : Kept) → (more : List (List ℕ)) → Type 0
+Keeps old new more = new ≡ with_records more old
 
--- what is seen of a run at one moment: what the link told, the records that the client keeps, and what the sink took
+-- what is seen of a run at one moment: what the link told, the records that are kept of it, and what the sink took
 pub record Outside : Type 0 where
   pub told : Told
   pub kept : Kept
@@ -85,7 +86,7 @@ pub record IsSent (f : KeyedFn) (place : Place) (result : Outcome) (old new : To
 -- printed
 pub record Carries (f : KeyedFn) (place : Place) (result : Outcome) (now next : Outside) : Type 0 where
   pub answers : List (List ℕ)
-  pub kept : Adds now.kept next.kept (records_by f place result)
+  pub kept : Keeps now.kept next.kept (records_by f place result)
   pub sent : IsSent f place result now.told next.told answers
   pub printed : next.written ≡ append_known now.written (text_with answers (shown_by result))
 
@@ -101,13 +102,14 @@ pub record LacksMemory (now end : Outside) (stop : Stop) : Type 0 where
   pub stops : stop ≡ At NoMemory
   pub nothing : end ≡ now
 
--- it stops a run as its records are refused: they are kept or not, nothing was sent of it, and nothing is printed
+-- it stops a run before its records are taken: they are refused, or there was no memory to hand them over; nothing was sent of it, and
+-- nothing is printed
 pub record IsUnkept (f : KeyedFn) (place : Place) (result : Outcome) (now end : Outside) (stop : Stop) : Type 0 where
   pub stops : (stop ≡ At DiskFault) ⊎ (stop ≡ At NoMemory)
   pub some : records_by f place result ≢ []
   pub no_clash : clash_in_hand f place result ≡ None
   pub unsent : end.told ≡ now.told
-  pub kept : (end.kept ≡ now.kept) ⊎ Adds now.kept end.kept (records_by f place result)
+  pub kept : (end.kept ≡ now.kept) ⊎ (end.kept ≡ with_refused (records_by f place result) now.kept)
   pub unprinted : end.written ≡ now.written
 
 -- it stops a run within its frames, with its records kept: a front of the frames was exchanged, of the next one at most a part,
@@ -115,7 +117,7 @@ pub record IsUnkept (f : KeyedFn) (place : Place) (result : Outcome) (now end : 
 pub record IsCutShort (f : KeyedFn) (place : Place) (result : Outcome) (now end : Outside) (stop : Stop) : Type 0 where
   pub cause : Cause
   pub stops : stop ≡ At cause
-  pub kept : Adds now.kept end.kept (records_by f place result)
+  pub kept : Keeps now.kept end.kept (records_by f place result)
   pub events : List Event
   pub adds : Adds now.told end.told events
   pub cut : AreCut (frames_by f place result) events cause
@@ -126,7 +128,7 @@ pub record IsCutShort (f : KeyedFn) (place : Place) (result : Outcome) (now end 
 -- printed
 pub record IsUnprinted (f : KeyedFn) (place : Place) (result : Outcome) (now end : Outside) (stop : Stop) : Type 0 where
   pub stops : (stop ≡ SinkFault) ⊎ (stop ≡ At NoMemory)
-  pub kept : Adds now.kept end.kept (records_by f place result)
+  pub kept : Keeps now.kept end.kept (records_by f place result)
   pub answers : List (List ℕ)
   pub sent : IsSent f place result now.told end.told answers
   pub printed : TookFront now.written end.written (text_with answers (shown_by result))

@@ -17,7 +17,7 @@ use Rattle.link_events.specs.Events.{Event}
 use Rattle.sse_model.specs.Epochs.{keys_under}
 use Rattle.sse_model.specs.Histories.{frames_of_next}
 use Rattle.sse_script.specs.Texts.{text_of}
-use Rattle.script_meaning.specs.Carries.{Outside}
+use Rattle.script_meaning.specs.Carries.{Keeps, Outside}
 use Rattle.script_meaning.specs.Exchange.{Adds, as_event, bare}
 use Rattle.script_meaning.specs.Lines.{Line}
 use Rattle.script_meaning.specs.Meaning.{Meaning}
@@ -49,6 +49,6 @@ pub record Continued (f : KeyedFn) (before : ServerState) (key : List ℕ) (run 
   pub history : m.history ≡ longer more (Some run)
   pub events : List Event
   pub adds : Adds now.told last.told events
-  pub kept : Adds now.kept last.kept (map update_record (filter is_update more))
+  pub kept : Keeps now.kept last.kept (map update_record (filter is_update more))
   pub passed : map bare events ≡ map as_event (greeting before.next ++ exchange (shown_behind run more) (frames_since f key run more))
   pub stored : behind ≡ (steps f before (frames_since f key run more)).0

@@ -29,7 +29,7 @@ sent_in (Received bytes ∷ events) = sent_in events
 abbrev pub Told : Type 0
 Told = Option (List Event)
 
--- these were added to what was told, where it is told: events that passed, or records that are kept
+-- these were added to what was told, where it is told
 abbrev pub Adds : {A : Type 0} → Option (List A) → Option (List A) → List A → Type 0
 Adds old new more = new ≡ option_map (λ told. told ++ more) old
 

@@ -10,7 +10,7 @@ use Rattle.sse_frames.specs.Frames.{frame_bytes}
 use Rattle.link_events.specs.Events.{Event}
 use Rattle.link_events.specs.Served.{IsHonest}
 use Rattle.sse_script.specs.Texts.{text_of}
-use Rattle.script_meaning.specs.Carries.{Outside}
+use Rattle.script_meaning.specs.Carries.{Keeps, Outside}
 use Rattle.script_meaning.specs.Exchange.{Told, Adds, as_event, bare, sent_in}
 use Rattle.script_meaning.specs.Meaning.{Meaning}
 use Rattle.script_meaning.specs.Recorded.{records_with}
@@ -61,5 +61,5 @@ pub record Headline (f : KeyedFn) (before : ServerState) (m : Meaning) (now end 
   pub adds : Adds now.told end.told events
   pub session : map bare events ≡ map as_event (session_of f m)
   pub simulated : IsSimulated f m.key m.history events
-  pub kept : Adds now.kept end.kept (records_with f m.key m.history)
+  pub kept : Keeps now.kept end.kept (records_with f m.key m.history)
   pub stored : behind ≡ (steps f before (frames_of f m)).0

@@ -21,7 +21,7 @@ use Rattle.sse_model.specs.Histories.{frames_sent}
 use Rattle.sse_script.specs.Shown.{Cause, NoMemory, Resumed}
 use Rattle.sse_script.specs.Texts.{text_of}
 use Rattle.sse_outside.specs.Fronts.{TookFront}
-use Rattle.script_meaning.specs.Carries.{Outside, collision_cause}
+use Rattle.script_meaning.specs.Carries.{Keeps, Outside, collision_cause}
 use Rattle.script_meaning.specs.Continues.{at_run}
 use Rattle.script_meaning.specs.Exchange.{Told, Adds, AreCut, AreExchanged, as_event, bare}
 use Rattle.script_meaning.specs.Lines.{Line}
@@ -116,5 +116,5 @@ pub record Rejoined (f : KeyedFn) (start : ServerState) (key : List ℕ) (run : 
   pub events : List Event
   pub adds : Adds now.told last.told events
   pub passed : map bare events ≡ map as_event (greeting next ++ exchange (shown_behind run more) (drop next (frames_under f key m.history)))
-  pub kept : Adds now.kept last.kept (recorded more)
+  pub kept : Keeps now.kept last.kept (recorded more)
   pub stored : behind ≡ (steps f start (frames_under f key m.history)).0

@@ -32,9 +32,10 @@ use Rattle.line_documents.specs.LineFaults.{SaysRefusal}
 use Rattle.line_documents.specs.declared.line_fault.LineFault.{LineFault}
 use Rattle.line_documents.specs.declared.line_fault.LineFault.TheVariants as faults
 use Rattle.line_documents.proofs.Passed.{neither, word_passed}
-use Rattle.script_meaning.proofs.Going.{Adds-nothing, AreExchanged-none}
-use Rattle.script_meaning.specs.Carries.{Kept, keys_at, frames_by, records_by, collision_cause, clash_in_hand, IsSent, StopsIn}
-use Rattle.script_meaning.specs.Exchange.{Told, Adds, AreExchanged, AreCut}
+use Rattle.script_meaning.proofs.Going.{Adds-nothing, AreExchanged-none, Keeps-nothing}
+use Rattle.script_meaning.specs.Carries.{Keeps, keys_at, frames_by, records_by, collision_cause, clash_in_hand, IsSent, StopsIn}
+use Rattle.sse_outside.specs.Kept.{Kept, with_refused}
+use Rattle.script_meaning.specs.Exchange.{Told, AreExchanged, AreCut}
 use Rattle.script_meaning.specs.Lines.{Line, Command, Request, Doc, SetupLine, Find}
 use Rattle.script_meaning.specs.Outcome.{Place, Outcome, Collects, Refuses, SetsUp, Does, unless, before_setup, after_setup, outcome, after}
 use Rattle.script_meaning.specs.Refused.{index_refusal, size_refused}
@@ -81,10 +82,10 @@ module _ (f : KeyedFn) (now : Seen) (next : Stage) (came : LineResult) (place : 
   }
 
   pub goes-refused : (refusal : Refusal) → line_result_view came ≡ says.Refused refusal ∷ [] → refuses came ≡ true → IsAt f next place → GoesOn f now now next came place (Refuses refusal)
-  goes-refused refusal view refused at = record { kept = Adds-nothing now.kept; answers = []; sent = quiet_sent (Refuses refusal) refl refl; shown = view; refuses = refused; stands = at }
+  goes-refused refusal view refused at = record { kept = Keeps-nothing now.kept; answers = []; sent = quiet_sent (Refuses refusal) refl refl; shown = view; refuses = refused; stands = at }
 
   pub goes-collected : (d : Document) → line_result_view came ≡ [] → refuses came ≡ false → IsAt f next (after (Collects d) place) → GoesOn f now now next came place (Collects d)
-  goes-collected d view refused at = record { kept = Adds-nothing now.kept; answers = []; sent = quiet_sent (Collects d) refl refl; shown = view; refuses = refused; stands = at }
+  goes-collected d view refused at = record { kept = Keeps-nothing now.kept; answers = []; sent = quiet_sent (Collects d) refl refl; shown = view; refuses = refused; stands = at }
 
 -- A document.
 
@@ -147,7 +148,7 @@ module _ (f : KeyedFn) (place : Place) (word : List ℕ) where
     takes-find next came key ids same good s view fine at =
         subst (GoesOn f (seen old kept) (seen new kept) next came place) (sym (comes-find None up good))
         (record {
-          kept = Adds-nothing kept;
+          kept = Keeps-nothing kept;
           answers = s.answer ∷ [];
           sent = record {
             events = s.exchanged.events;
@@ -167,7 +168,7 @@ module _ (f : KeyedFn) (place : Place) (word : List ℕ) where
         (inr (inr (inr (inl (record {
           cause = c;
           stops = refl;
-          kept = Adds-nothing kept;
+          kept = Keeps-nothing kept;
           events = cut.events;
           adds = cut.adds;
           cut = subst (λ fs. AreCut fs cut.events c) (token_at key same up) cut.cut;
@@ -230,7 +231,7 @@ stops-kept T f place result old new written frames payload same spelled no_clash
   some = λ none. some (spelled ∙ none);
   no_clash = no_clash;
   unsent = sends.0;
-  kept = elim sends.1 [ inl without ↦ inl without | inr with_it ↦ inr (subst (Adds old.kept new.kept) spelled with_it) ];
+  kept = elim sends.1 [ inl without ↦ inl without | inr refused ↦ inr (subst (λ payloads. new.kept ≡ with_refused payloads old.kept) spelled refused) ];
   unprinted = refl;
 })))
   where
@@ -243,7 +244,7 @@ stops-kept T f place result old new written frames payload same spelled no_clash
 stops-kept T f place result old new written frames payload same spelled no_clash (commands.Exchange stop) sends = inr (inr (inr (inl (record {
   cause = command_cause (commands.Exchange stop);
   stops = refl;
-  kept = subst (Adds old.kept new.kept) spelled sends.0;
+  kept = subst (Keeps old.kept new.kept) spelled sends.0;
   events = sends.1.events;
   adds = sends.1.adds;
   cut = subst (λ fs. AreCut fs sends.1.events (command_cause (commands.Exchange stop))) same sends.1.cut;
@@ -282,12 +283,12 @@ module _ (f : KeyedFn) (key : List ℕ) (docs : List Document) (b big pad : ℕ)
       no_clash-setup : clash_in_hand f place (SetsUp s) ≡ None
       no_clash-setup = clash_at ∙ no_clash-planned f key s accepted
 
-      takes-setup : (next : Stage) (came : LineResult) (words blocks : ℕ) → words ≡ length (words_of docs) → blocks ≡ blocks_of s → Adds old.kept new.kept (setup_record (mark_of f key) s ∷ []) → HasExchanged old.told new.told [] (frames_of_setup (key_table f key s) at_first s)
+      takes-setup : (next : Stage) (came : LineResult) (words blocks : ℕ) → words ≡ length (words_of docs) → blocks ≡ blocks_of s → Keeps old.kept new.kept (setup_record (mark_of f key) s ∷ []) → HasExchanged old.told new.told [] (frames_of_setup (key_table f key s) at_first s)
           → line_result_view came ≡ says.SetUp words blocks ∷ [] → refuses came ≡ false → IsReady f key (record { setup = s; later = [] }) next → key_of next ≡ key → hash_keys_of next ≡ hash_keys_under f place.key → GoesOn f old new next came place (outcome place (SetupLine b big pad))
       takes-setup next came words blocks counted counted_blocks kept x view fine ready keyed hashed =
           subst (GoesOn f old new next came place) (sym (comes-set_up (size_accepted f key s accepted)))
           (record {
-            kept = subst (Adds old.kept new.kept) records_at kept;
+            kept = subst (Keeps old.kept new.kept) records_at kept;
             answers = [];
             sent = record {
               events = x.events;
@@ -340,7 +341,7 @@ module _ (f : KeyedFn) (key : List ℕ) (old new : Seen) (stage : Stage) (docs :
   sent_frames = frames_of_setup (key_table f key (setup_with docs b big pad)) at_first (setup_with docs b big pad)
 
   -- a setup whose sending ended is done
-  pub takes_if_sent : (words blocks : ℕ) → words ≡ length (words_of docs) → blocks ≡ blocks_of (setup_with docs b big pad) → (next : Stage) (came : LineResult) → Adds old.kept new.kept (setup_record (mark_of f key) (setup_with docs b big pad) ∷ []) → HasExchanged old.told new.told [] sent_frames
+  pub takes_if_sent : (words blocks : ℕ) → words ≡ length (words_of docs) → blocks ≡ blocks_of (setup_with docs b big pad) → (next : Stage) (came : LineResult) → Keeps old.kept new.kept (setup_record (mark_of f key) (setup_with docs b big pad) ∷ []) → HasExchanged old.told new.told [] sent_frames
       → line_result_view came ≡ says.SetUp words blocks ∷ [] → refuses came ≡ false → IsReady f key (record { setup = setup_with docs b big pad; later = [] }) next → key_of next ≡ key → hash_keys_of next ≡ hash_keys
       → Takes f stage (SetupLine b big pad) old new next came
   takes_if_sent words blocks counted counted_blocks next came kept x view fine ready keyed hashes = λ place a.

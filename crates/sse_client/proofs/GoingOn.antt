@@ -26,7 +26,8 @@ use Rattle.sse_outside.specs.declared.device_fault.DeviceFault.{DeviceFault}
 use Rattle.sse_outside.specs.declared.device_fault.DeviceFault.TheVariants as devices
 use Rattle.sse_outside.specs.Fronts.{TookFront}
 use Rattle.sse_script.specs.Texts.{text_of}
-use Rattle.script_meaning.specs.Carries.{Kept, Outside, collision_cause}
+use Rattle.sse_outside.specs.Kept.{Kept}
+use Rattle.script_meaning.specs.Carries.{Outside, collision_cause}
 use Rattle.script_meaning.specs.Continues.{at_run}
 use Rattle.script_meaning.specs.Runs.{moment}
 use Rattle.script_meaning.specs.Stops as ends

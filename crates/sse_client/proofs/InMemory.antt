@@ -4,7 +4,7 @@ use Rattle.std.specs.Prelude.{IfSome}
 use Rattle.keyed_fn.specs.KeyedFn.{KeyedFn}
 use Rattle.server_core.specs.State.{ServerState, at_first}
 use Rattle.sse_agreement.specs.Taking.{Expects}
-use Rattle.script_meaning.specs.Carries.{Kept}
+use Rattle.sse_outside.specs.Kept.{Kept}
 use Rattle.script_meaning.specs.Headline.{IsOverHonest, IsUndisturbed, Headline}
 use Rattle.script_meaning.specs.Meaning.{meaning}
 use Rattle.script_meaning.specs.Session.{IsFree}
@@ -15,7 +15,7 @@ use Rattle.link_events.specs.Served.{IsServed, idle}
 use Rattle.sse_link.specs.Told.{Told, told_first, served}
 use Rattle.sse_client.specs.Stands.{seen, outside_of, HasHonestStatus, HasHeadline}
 use Rattle.sse_client.specs.LastLine.{HasLastLine, HasShortLine, IsWholeOrRose}
-use Rattle.sse_client.specs.OverServer.{HasRunOverServer, PrintsAsRun, PrintsLastLine, PrintsShortLine, PrintsAsMeant}
+use Rattle.sse_client.specs.OverServer.{unkept, HasRunOverServer, PrintsAsRun, PrintsLastLine, PrintsShortLine, PrintsAsMeant}
 use Rattle.sse_client.proofs.WholeRun.{IfSome-then}
 
 abbrev remote : Told → Option Remote
@@ -59,44 +59,44 @@ module _ (f : KeyedFn) (old new : Told) (fresh : old ≡ told_first at_first) (k
 -- A link that is made and dropped: what is printed.
 
 module _ (f : KeyedFn) (old new : Told) (first : ServerState) (fresh : old ≡ told_first first) (honest : links.IsHonest f at_first new.events new.state) (remaining before after : Option (List ℕ)) (status : ℕ) where
-  pub in_memory-runs : IfSome remaining (λ bytes. HasRunOverServer f bytes (outside_of (seen (Some old.events) None) before) (outside_of (seen (Some new.events) None) after) status)
+  pub in_memory-runs : IfSome remaining (λ bytes. HasRunOverServer f bytes (outside_of (seen (Some old.events) unkept) before) (outside_of (seen (Some new.events) unkept) after) status)
       → IfSome remaining (λ bytes. PrintsAsRun f bytes before after status)
-  in_memory-runs = IfSome-then remaining (λ bytes. HasRunOverServer f bytes (outside_of (seen (Some old.events) None) before) (outside_of (seen (Some new.events) None) after) status) (λ bytes. PrintsAsRun f bytes before after status)
+  in_memory-runs = IfSome-then remaining (λ bytes. HasRunOverServer f bytes (outside_of (seen (Some old.events) unkept) before) (outside_of (seen (Some new.events) unkept) after) status) (λ bytes. PrintsAsRun f bytes before after status)
       (λ bytes run. record {
         told = Some new.events;
         state = new.state;
         over = over_honest f [] new.events new.state refl honest;
-        runs = subst (λ (t : Told). HasRunOverServer f bytes (outside_of (seen (Some t.events) None) before) (outside_of (seen (Some new.events) None) after) status) fresh run;
+        runs = subst (λ (t : Told). HasRunOverServer f bytes (outside_of (seen (Some t.events) unkept) before) (outside_of (seen (Some new.events) unkept) after) status) fresh run;
       })
 
-  pub in_memory-headline : IfSome remaining (λ bytes. IsFree f (meaning bytes).key (meaning bytes).history → Headline f at_first (meaning bytes) (outside_of (seen (Some old.events) None) before) (outside_of (seen (Some new.events) None) after) status new.state)
+  pub in_memory-headline : IfSome remaining (λ bytes. IsFree f (meaning bytes).key (meaning bytes).history → Headline f at_first (meaning bytes) (outside_of (seen (Some old.events) unkept) before) (outside_of (seen (Some new.events) unkept) after) status new.state)
       → IfSome remaining (λ bytes. PrintsAsMeant f bytes before after status)
   in_memory-headline =
-      IfSome-then remaining (λ bytes. IsFree f (meaning bytes).key (meaning bytes).history → Headline f at_first (meaning bytes) (outside_of (seen (Some old.events) None) before) (outside_of (seen (Some new.events) None) after) status new.state)
+      IfSome-then remaining (λ bytes. IsFree f (meaning bytes).key (meaning bytes).history → Headline f at_first (meaning bytes) (outside_of (seen (Some old.events) unkept) before) (outside_of (seen (Some new.events) unkept) after) status new.state)
       (λ bytes. PrintsAsMeant f bytes before after status)
       (λ bytes headline free. record { status_is = (headline free).status_is; q = (headline free).q; printed = (headline free).printed })
 
   pub in_memory-last_line : (faults faults_now shortages shortages_now : ℕ)
-      → IsWholeOrRose (IfSome remaining (λ bytes. HasLastLine f bytes (outside_of (seen (Some old.events) None) before) (outside_of (seen (Some new.events) None) after) status))
-      (IfSome remaining (λ bytes. HasShortLine f bytes (outside_of (seen (Some old.events) None) before) (outside_of (seen (Some new.events) None) after) status)) status faults faults_now shortages shortages_now
+      → IsWholeOrRose (IfSome remaining (λ bytes. HasLastLine f bytes (outside_of (seen (Some old.events) unkept) before) (outside_of (seen (Some new.events) unkept) after) status))
+      (IfSome remaining (λ bytes. HasShortLine f bytes (outside_of (seen (Some old.events) unkept) before) (outside_of (seen (Some new.events) unkept) after) status)) status faults faults_now shortages shortages_now
       → IsWholeOrRose (IfSome remaining (λ bytes. PrintsLastLine f bytes before after status)) (IfSome remaining (λ bytes. PrintsShortLine f bytes before after status)) status faults faults_now shortages shortages_now
   in_memory-last_line faults faults_now shortages shortages_now (inl whole) = inl (
-    IfSome-then remaining (λ bytes. HasLastLine f bytes (outside_of (seen (Some old.events) None) before) (outside_of (seen (Some new.events) None) after) status) (λ bytes. PrintsLastLine f bytes before after status)
+    IfSome-then remaining (λ bytes. HasLastLine f bytes (outside_of (seen (Some old.events) unkept) before) (outside_of (seen (Some new.events) unkept) after) status) (λ bytes. PrintsLastLine f bytes before after status)
         (λ bytes has. record {
           told = Some new.events;
           state = new.state;
           over = over_honest f [] new.events new.state refl honest;
-          ends = subst (λ (t : Told). HasLastLine f bytes (outside_of (seen (Some t.events) None) before) (outside_of (seen (Some new.events) None) after) status) fresh has;
+          ends = subst (λ (t : Told). HasLastLine f bytes (outside_of (seen (Some t.events) unkept) before) (outside_of (seen (Some new.events) unkept) after) status) fresh has;
         }) whole.0,
     whole.1,
   )
   in_memory-last_line faults faults_now shortages shortages_now (inr short) = inr (
-    IfSome-then remaining (λ bytes. HasShortLine f bytes (outside_of (seen (Some old.events) None) before) (outside_of (seen (Some new.events) None) after) status) (λ bytes. PrintsShortLine f bytes before after status)
+    IfSome-then remaining (λ bytes. HasShortLine f bytes (outside_of (seen (Some old.events) unkept) before) (outside_of (seen (Some new.events) unkept) after) status) (λ bytes. PrintsShortLine f bytes before after status)
         (λ bytes has. record {
           told = Some new.events;
           state = new.state;
           over = over_honest f [] new.events new.state refl honest;
-          ends = subst (λ (t : Told). HasShortLine f bytes (outside_of (seen (Some t.events) None) before) (outside_of (seen (Some new.events) None) after) status) fresh has;
+          ends = subst (λ (t : Told). HasShortLine f bytes (outside_of (seen (Some t.events) unkept) before) (outside_of (seen (Some new.events) unkept) after) status) fresh has;
         }) short.0,
     short.1,
   )

@@ -22,3 +22,5 @@ pub mod GoingOn
 pub mod RunRejoins
 pub mod RunsOnDisk
 pub mod RecordsLast
+pub mod KeptOnDisk
+pub mod RecordedFrames

@@ -1,6 +1,6 @@
 -- What is kept lasts: at a stop that isn't for the record of a command, what keeps the records takes more of them, and each file that a
 -- crash may leave of a journal gives its records.
-use Rattle.std.proofs.Common.{◌≡◌, ◌≢◌, ℕ, List, Option, None, Some, Result, Ok, Err, IsErrAnd, refl, sym, ap, subst, ◌∙◌}
+use Rattle.std.proofs.Common.{◌≡◌, ◌≢◌, ℕ, List, Option, None, Some, Result, Ok, Err, IsErrAnd, refl, sym, subst}
 use Rattle.run_texts.specs.Stops.{stop_status}
 use Rattle.run_texts.specs.declared.command_stop.CommandStop.{CommandStop}
 use Rattle.run_texts.specs.declared.command_stop.CommandStop.TheVariants as commands
@@ -9,7 +9,7 @@ use Rattle.run_texts.specs.declared.stop_cause.StopCause.TheVariants as stops
 use Rattle.sse_journal.proofs.FileRecords.{journal_records}
 use Rattle.sse_journal.proofs.Once.{file_gives}
 use Rattle.sse_journal.specs.FileRecords.{TakesRecords, records_in_file}
-use Rattle.sse_journal.specs.Files.{Gives, file}
+use Rattle.sse_journal.specs.Files.{Gives}
 use Rattle.sse_journal.specs.declared.journal.Journal.{Journal}
 use Rattle.sse_outside.specs.declared.device_fault.DeviceFault.TheVariants as devices
 use Rattle.sse_client.proofs.TranscriptsJoined.{IfErr-from, may_stop-ok}

@@ -17,6 +17,7 @@ use Rattle.client_registry.proofs.FromEnd.{from_end}
 use Rattle.client_registry.proofs.OverLaws.{length-over}
 use Rattle.client_registry.specs.Command.{Command, Add, Delete, Search, is_update}
 use Rattle.client_registry.specs.Histories.{IsKept, empty}
+use Rattle.sse_outside.specs.Kept.{Kept}
 use Rattle.client_registry.specs.Over.{over}
 use Rattle.client_registry.specs.Run.{Run, at_first}
 use Rattle.client_registry.specs.Sized.{update_frames}
@@ -285,8 +286,8 @@ WhyUnrestored mark payloads cause =
     ⊎ (cause ≡ says.DiskFault)
     ⊎ (cause ≡ says.NoMemory)
 
-module _ (f : KeyedFn) (key : List ℕ) (kept : Option (List (List ℕ))) (payloads : List (List ℕ)) (told : kept ≡ Some payloads) where
-  of_told : (P : List (List ℕ) → Type 0) → IfSome kept P → P payloads
+module _ (f : KeyedFn) (key : List ℕ) (kept : Kept) (payloads : List (List ℕ)) (told : kept.records ≡ Some payloads) where
+  of_told : (P : List (List ℕ) → Type 0) → IfSome kept.records P → P payloads
   of_told P holds = subst (λ k. IfSome k P) told holds
 
   why_unrestored : (cause : Cause) → IsUnrestored f key kept cause → WhyUnrestored (mark_of f key) payloads cause
@@ -432,8 +433,8 @@ module _ (f : KeyedFn) (laws : IsKeyedFn f) (bytes : List ℕ) (now last : Outsi
 
 -- what a run left that nothing disturbed, over records of which there were none, is what one supposes that goes on under its key
 pub can_go_on : (f : KeyedFn) (laws : IsKeyedFn f) (start between state : ServerState) (script bytes key : List ℕ) (run : Run) (now last now' last' : Outside) (status number : ℕ) (lines : List (Option Line))
-    → Headline f start (meaning script) now last status between → (meaning script).key ≡ Some key → (meaning script).history ≡ Some run → now.kept ≡ Some [] → Expects 0 start
-    → IsFree f (Some key) (Some run) → now'.kept ≡ last.kept → key_line 1 (script_lines bytes) ≡ Keyed key number lines → IsOverHonest f between now'.told last'.told state → CanGoOn f bytes now' last'
+    → Headline f start (meaning script) now last status between → (meaning script).key ≡ Some key → (meaning script).history ≡ Some run → now.kept.records ≡ Some [] → Expects 0 start
+    → IsFree f (Some key) (Some run) → now'.kept.records ≡ last.kept.records → key_line 1 (script_lines bytes) ≡ Keyed key number lines → IsOverHonest f between now'.told last'.told state → CanGoOn f bytes now' last'
 can_go_on f laws start between state script bytes key run now last now' last' status number lines headline key_is run_is none expects free same found honest =
     let kept : IsKept (Some run) = subst IsKept run_is (meaning_is_kept script).0 in
     let alone : update_frames (updates_of run) ≡ update_frames run = count_alone f key run in
@@ -443,7 +444,7 @@ can_go_on f laws start between state script bytes key run now last now' last' st
       lines = lines;
       found = found;
       payloads = records_in f key (Some run);
-      kept = same ∙ headline.kept ∙ (λ i. option_map (λ told. told ++ records_with f (key_is i) (run_is i)) (none i));
+      kept = same ∙ ap (λ (k : Kept). k.records) headline.kept ∙ (λ i. option_map (λ told. told ++ records_with f (key_is i) (run_is i)) (none i));
       run = updates_of run;
       opens = opened_by f key run laws kept;
       next = update_frames run;

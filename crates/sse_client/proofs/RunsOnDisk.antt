@@ -39,7 +39,7 @@ use Rattle.script_meaning.specs.Stops.{status_of}
 use Rattle.sse_client.specs.GoingOn.{AtKeyLine, EndsLine, GoesOnFrom, GoesOnOver, GoesOnTo, HasEndedAfter, IsUnrestored, Restores}
 use Rattle.sse_client.specs.KeyLines.{FindsKey, Keyed, Missing, key_line}
 use Rattle.sse_client.specs.LastLine.{HasLastLine, HasShortLine, IsWholeOrRose}
-use Rattle.sse_client.specs.OnDisk.{HasBegun, HasGoneOn, IsNotBegun, IsNotReopened, IsUnopened, held_stop, kept_on}
+use Rattle.sse_client.specs.OnDisk.{HasBegun, HasGoneOn, IsNotBegun, IsNotReopened, IsUnopened, held_stop, kept_on, records_on}
 use Rattle.sse_client.specs.Stands.{HasRun}
 use Rattle.sse_client.specs.declared.on_disk.HeldUp.TheVariants as held
 
@@ -50,13 +50,13 @@ module _ (f : KeyedFn) (key : List ℕ) (j : Journal) (content : Option (List �
   told payloads = IsJournalOf payloads j content images
 
   -- the records of the disk's file are those that the journal is of
-  over_records : (P : List (List ℕ) → Type 0) → ((payloads : List (List ℕ)) → told payloads → P payloads) → IfSome (kept_on content) P
+  over_records : (P : List (List ℕ) → Type 0) → ((payloads : List (List ℕ)) → told payloads → P payloads) → IfSome (records_on content) P
   over_records P all = by content refl holds
     where
-      by : (c : Option (List ℕ)) → content ≡ c → IfSome c (λ file. IsOfRecords j content images) → IfSome (kept_on c) P
+      by : (c : Option (List ℕ)) → content ≡ c → IfSome c (λ file. IsOfRecords j content images) → IfSome (records_on c) P
       by None e none = tt
       by (Some file) e of =
-          let same : records_in_file file ≡ of.0 = (let is : Some (records_in_file file) ≡ Some of.0 = sym (ap kept_on e) ∙ journal_records of.0 j content images of.1 in cc) in
+          let same : records_in_file file ≡ of.0 = (let is : Some (records_in_file file) ≡ Some of.0 = sym (ap records_on e) ∙ journal_records of.0 j content images of.1 in cc) in
           subst P (sym same) (all of.0 of.1)
 
   -- a client that was restored of them
@@ -152,7 +152,7 @@ not_reopened journals.Disk content journal records bad wrong = for_all content (
 not_reopened journals.Memory content journal records bad wrong = for_all content (λ file. Unit {0}) (λ file. tt)
 
 pub unopened : (Why : JournalStop → List ℕ → Type 0) (stop : JournalStop) (told : Told) (content content' written written' : Option (List ℕ)) (status f0 f2 s0 s2 : ℕ) → IfSome content (Why stop)
-    → (stop ≢ journals.Disk → stop ≢ journals.Memory → kept_on content' ≡ kept_on content) → TookOrRose written written' (journal_line stop) f0 f2 s0 s2 → status ≡ journal_status stop
+    → (stop ≢ journals.Disk → stop ≢ journals.Memory → records_on content' ≡ records_on content) → TookOrRose written written' (journal_line stop) f0 f2 s0 s2 → status ≡ journal_status stop
     → IsUnopened Why told told content content' written written' status f0 f2 s0 s2
 unopened Why stop told content content' written written' status f0 f2 s0 s2 why unkept line is = record {
   stop = stop;

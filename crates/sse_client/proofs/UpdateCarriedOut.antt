@@ -28,8 +28,7 @@ use Rattle.line_documents.specs.Refused.{document_refusal}
 use Rattle.line_documents.specs.LineFaults.{SaysRefusal}
 use Rattle.line_documents.specs.declared.line_fault.LineFault.{LineFault}
 use Rattle.line_documents.specs.declared.line_fault.LineFault.TheVariants as lines
-use Rattle.script_meaning.specs.Carries.{keys_at, with_answers, StopsIn}
-use Rattle.script_meaning.specs.Exchange.{Adds}
+use Rattle.script_meaning.specs.Carries.{Keeps, keys_at, with_answers, StopsIn}
 use Rattle.script_meaning.specs.Outcome.{Place, Outcome, Does, unless}
 use Rattle.script_meaning.specs.Refused.{add_refusal, delete_refusal}
 use Rattle.script_meaning.specs.Stops.{At}
@@ -148,13 +147,13 @@ module _ (f : KeyedFn) (place : Place) (refusal : Option Refusal) (c : Command) 
     payload = update_record (command_of_update planned.update)
 
     -- an update whose record was kept and whose frame was exchanged is done
-    pub goes-updated : (ready : Client Ready) (came : LineResult) → Adds old.kept new.kept (payload ∷ []) → HasExchanged old.told new.told [] (frames_of_next f (keys_at place) place.history (c ∷ []))
+    pub goes-updated : (ready : Client Ready) (came : LineResult) → Keeps old.kept new.kept (payload ∷ []) → HasExchanged old.told new.told [] (frames_of_next f (keys_at place) place.history (c ∷ []))
         → line_result_view came ≡ with_answers [] (shown ∷ []) → refuses came ≡ false → ready.key ≡ client.key → ready.state.registry.keys ≡ client.state.registry.keys → StandsFor f (keys_at place) at_first (with_command at.stands.0 c) ready.state
         → GoesOn f old new (Searching ready) came place (unless refusal updating)
     goes-updated ready came kept x view fine keyed hashes stands =
         subst (GoesOn f old new (Searching ready) came place) (sym (accepted-is none))
         (record {
-          kept = subst (Adds old.kept new.kept) (records_of_update planned.update c plan.command) kept;
+          kept = subst (Keeps old.kept new.kept) (records_of_update planned.update c plan.command) kept;
           answers = [];
           sent = record { events = x.events; adds = x.adds; exchanged = x.exchanged; no_clash = plan.no_clash };
           shown = view;

@@ -9,6 +9,7 @@ use Rattle.server_core.specs.State.{ServerState}
 use Rattle.sse_agreement.specs.Taking.{Expects}
 use Rattle.script_meaning.proofs.Headline.{honest_status, headline}
 use Rattle.script_meaning.proofs.Recorded.{recorded}
+use Rattle.script_meaning.specs.Recorded.{KeepsFirst, records_with}
 use Rattle.script_meaning.specs.Lines.{script_lines}
 use Rattle.script_meaning.proofs.Simulated.{sends_simulated}
 use Rattle.script_meaning.proofs.RunGoes.{goes}
@@ -125,7 +126,8 @@ run-recorded f bytes now last status run =
         held = r.held;
         first = r.first;
         most = r.most;
-        kept = run.ends.kept ∙ r.kept;
+        kept = subst (λ kept. KeepsFirst (records_with f run.end.key run.end.history) (records_with f run.end.key r.held) status now.kept kept) (sym run.ends.kept)
+            (subst (λ s. KeepsFirst (records_with f run.end.key run.end.history) (records_with f run.end.key r.held) s now.kept run.end.outside.kept) (sym run.status_is) r.kept);
         events = r.events;
         adds = run.ends.told ∙ r.adds;
         count = r.count;

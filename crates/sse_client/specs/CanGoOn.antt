@@ -28,7 +28,7 @@ pub record CanGoOn (f : KeyedFn) (bytes : List ℕ) (now last : Outside) : Type 
   pub lines : List (Option Line)
   pub found : key_line 1 (script_lines bytes) ≡ Keyed key number lines
   pub payloads : List (List ℕ)
-  pub kept : now.kept ≡ Some payloads
+  pub kept : now.kept.records ≡ Some payloads
   pub run : Run
   pub opens : Opens (mark_of f key) payloads run
   pub next : ℕ
@@ -59,7 +59,7 @@ HasHeadlineAfter f bytes now last status =
 -- record of a number is the first that can't stand where it does; and where the first one is that of a setup under another key
 pub record StopsUnsent (f : KeyedFn) (bytes : List ℕ) (now : Outside) (end : Ended) (status : ℕ) : Type 0 where
   pub no_key : (number : ℕ) → key_line 1 (script_lines bytes) ≡ Missing number → status ≢ 3 → status ≢ 7 → end.stop ≡ At (BadLine number)
-  pub bad_record : (key : List ℕ) (number : ℕ) (lines : List (Option Line)) (payloads : List (List ℕ)) (n : ℕ) → key_line 1 (script_lines bytes) ≡ Keyed key number lines → now.kept ≡ Some payloads
+  pub bad_record : (key : List ℕ) (number : ℕ) (lines : List (Option Line)) (payloads : List (List ℕ)) (n : ℕ) → key_line 1 (script_lines bytes) ≡ Keyed key number lines → now.kept.records ≡ Some payloads
       → IsBadUnder (mark_of f key) payloads n → status ≢ 3 → status ≢ 6 → status ≢ 7 → end.stop ≡ At (BadRecord n)
-  pub wrong_key : (key : List ℕ) (number : ℕ) (lines : List (Option Line)) (payloads : List (List ℕ)) → key_line 1 (script_lines bytes) ≡ Keyed key number lines → now.kept ≡ Some payloads
+  pub wrong_key : (key : List ℕ) (number : ℕ) (lines : List (Option Line)) (payloads : List (List ℕ)) → key_line 1 (script_lines bytes) ≡ Keyed key number lines → now.kept.records ≡ Some payloads
       → OpensElsewhere (mark_of f key) (take 1 payloads) → status ≢ 3 → status ≢ 6 → status ≢ 7 → end.stop ≡ At WrongKey

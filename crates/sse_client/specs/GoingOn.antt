@@ -16,7 +16,8 @@ use Rattle.sse_model.specs.Epochs.{keys_under}
 use Rattle.sse_outside.specs.Fronts.{TookFront}
 use Rattle.sse_script.specs.Shown.{Cause, BadLine, BadRecord, DiskFault, NoJournal, NoMemory, WrongKey, Resumed}
 use Rattle.sse_script.specs.Texts.{text_of}
-use Rattle.script_meaning.specs.Carries.{Kept, Outside, collision_cause}
+use Rattle.sse_outside.specs.Kept.{Kept}
+use Rattle.script_meaning.specs.Carries.{Outside, collision_cause}
 use Rattle.script_meaning.specs.Continues.{at_run}
 use Rattle.script_meaning.specs.Exchange.{Told}
 use Rattle.script_meaning.specs.Greeting.{Greets, TurnsAway}
@@ -31,14 +32,14 @@ use Rattle.sse_client.specs.KeyLines.{KeyLine, Keyed, Missing, key_line}
 
 -- they open to this history under this key, where they are told
 abbrev pub Restores : KeyedFn → (key : List ℕ) → Kept → Run → Type 0
-Restores f key kept run = IsKept (Some run) × IfSome kept (λ payloads. records.Opens (mark_of f key) payloads run)
+Restores f key kept run = IsKept (Some run) × IfSome kept.records (λ payloads. records.Opens (mark_of f key) payloads run)
 
 -- the records of a journal make no history under this key: one isn't a record that can stand behind those before it, which are this
 -- key's; or the first is that of a setup under another key. Or they couldn't be read
 abbrev pub IsUnrestored : KeyedFn → (key : List ℕ) → Kept → Cause → Type 0
-IsUnrestored f key kept (BadRecord n) = IfSome kept (λ payloads. ((before : History) × records.OpensTo (mark_of f key) (take n payloads) before) × OpensNowhere (take (n + 1) payloads))
-IsUnrestored f key kept WrongKey = IfSome kept (λ payloads. OpensElsewhere (mark_of f key) (take 1 payloads))
-IsUnrestored f key kept NoJournal = IfSome kept (λ payloads. ⊥)
+IsUnrestored f key kept (BadRecord n) = IfSome kept.records (λ payloads. ((before : History) × records.OpensTo (mark_of f key) (take n payloads) before) × OpensNowhere (take (n + 1) payloads))
+IsUnrestored f key kept WrongKey = IfSome kept.records (λ payloads. OpensElsewhere (mark_of f key) (take 1 payloads))
+IsUnrestored f key kept NoJournal = IfSome kept.records (λ payloads. ⊥)
 IsUnrestored f key kept DiskFault = Unit {0}
 IsUnrestored f key kept NoMemory = Unit {0}
 IsUnrestored _ _ _ _ = ⊥

@@ -1,20 +1,23 @@
 -- What a run does that keeps its records in a journal on a disk.
-use Rattle.std.specs.Prelude.{◌≡◌, ◌≢◌, ℕ, List, Option, IfSome, option_map}
+use Rattle.std.specs.Prelude.{◌≡◌, ◌≢◌, ◌⊎◌, ℕ, List, [], ◌++◌, Option, IfSome, option_map}
 use Rattle.client_journal.specs.Openings.{GivesSome, HasNoRecord, IsNoJournal}
 use Rattle.keyed_fn.specs.KeyedFn.{KeyedFn}
 use Rattle.run_texts.specs.Causes.{InputCause}
 use Rattle.run_texts.specs.Stops.{input_cause, journal_cause, journal_status}
 use Rattle.run_texts.specs.declared.journal_stop.JournalStop.{JournalStop}
 use Rattle.run_texts.specs.declared.journal_stop.JournalStop.TheVariants as journals
-use Rattle.script_meaning.specs.Carries.{Kept, Outside}
+use Rattle.script_meaning.specs.Carries.{Outside}
 use Rattle.script_meaning.specs.Exchange.{Told}
 use Rattle.script_meaning.specs.Lines.{script_lines}
 use Rattle.script_meaning.specs.Runs.{Ended}
 use Rattle.script_meaning.specs.Stops as ends
 use Rattle.script_meaning.specs.Stops.{status_of}
 use Rattle.sse_journal.specs.FileRecords.{records_in_file}
-use Rattle.sse_journal.specs.Files.{Gives}
+use Rattle.sse_journal.specs.Files.{Gives, GivesAs}
+use Rattle.sse_journal.specs.AnyMoment.{HasSynced, LeavesOnly}
 use Rattle.sse_outside.specs.Causes.{Rose}
+use Rattle.sse_outside.specs.Kept.{Kept}
+use Rattle.sse_recorder.specs.KeepsOn.{GivesFront, LeavesKept}
 use Rattle.sse_client.specs.CanGoOn.{StopsUnsent, IsHonestAfter, HasHeadlineAfter}
 use Rattle.sse_client.specs.GoingOn.{EndsLine, GoesOnOver}
 use Rattle.sse_client.specs.LastLine.{HasLastLine, HasShortLine, IsWholeOrRose}
@@ -23,12 +26,42 @@ use Rattle.sse_client.specs.declared.on_disk.HeldUp.{HeldUp}
 use Rattle.sse_client.specs.declared.on_disk.HeldUp.TheVariants as held
 
 -- the records of the file that a disk holds, where it is told
+abbrev pub records_on : (content : Option (List ℕ)) → Option (List (List ℕ))
+records_on content = option_map records_in_file content
+
+-- what is kept there when a run begins
 abbrev pub kept_on : (content : Option (List ℕ)) → Kept
-kept_on content = option_map records_in_file content
+kept_on content = record { records = records_on content; refused = [] }
 
 -- what is seen of a run over a link, a disk and a sink
 abbrev pub seen_with : Told → (content written : Option (List ℕ)) → Outside
 seen_with told content written = outside_of (seen told (kept_on content)) written
+
+-- what a run keeps has P: records were taken behind those of before; a crash meanwhile leaves what this says of the records that were taken
+-- and of one that was refused behind them; and a crash at its end leaves all that were taken, with the one that was refused or without it
+pub record KeepsWhat (before : Option (List (List ℕ))) (Meanwhile : List (List ℕ) → Type 0) (left : List ℕ → Type 0) (P : Kept → Type 0) : Type 0 where
+  pub kept : Kept
+  pub has : P kept
+  pub more : List (List ℕ)
+  pub grows : kept.records ≡ option_map (λ all. all ++ more) before
+  pub meanwhile : Meanwhile (more ++ kept.refused)
+  pub leaves : LeavesKept kept left
+
+-- a run over a disk keeps what has P: from the first sync that succeeded on, a crash at any moment leaves a file that gives the records
+-- of the file as it was, and then the first of those that the run was to keep, in order
+abbrev pub KeepsOnDisk : {D : Type 0} (content : D → Option (List ℕ)) (images : D → List ℕ → Type 0) (moment : D → ℕ) (left_since : D → ℕ → List ℕ → Type 0) (old new : D) (P : Kept → Type 0) → Type 0
+KeepsOnDisk content images moment left_since old new P =
+    KeepsWhat (records_on (content old)) (λ more. HasSynced content images moment left_since old new (λ file. GivesFront (records_in_file file) more)) (images new) P
+
+-- the same from where its journal is started
+abbrev pub KeepsOnStarted : {D : Type 0} (content : D → Option (List ℕ)) (images : D → List ℕ → Type 0) (moment : D → ℕ) (left_since : D → ℕ → List ℕ → Type 0) (old new : D) (P : Kept → Type 0) → Type 0
+KeepsOnStarted content images moment left_since old new P =
+    KeepsWhat (records_on (content old)) (λ more. IfSome (content old) (λ file. LeavesOnly moment left_since old new (GivesFront (records_in_file file) more))) (images new) P
+
+-- a run that isn't begun keeps nothing: from the first sync that succeeded on, a crash leaves a file that gives what the file gave; and
+-- where that sync was refused, one that it might have left before
+abbrev pub LeavesAsBefore : {D : Type 0} (content : D → Option (List ℕ)) (images : D → List ℕ → Type 0) (moment : D → ℕ) (left_since : D → ℕ → List ℕ → Type 0) (old new : D) → Type 0
+LeavesAsBefore content images moment left_since old new = HasSynced content images moment left_since old new GivesAs ⊎ LeavesOnly moment left_since old new (images old)
 
 -- every file that a crash may leave at this moment gives the records of the file as it reads
 abbrev pub Lasts : (content : Option (List ℕ)) (images : List ℕ → Type 0) → Type 0
@@ -75,7 +108,7 @@ pub record IsUnopened (Why : JournalStop → List ℕ → Type 0) (told told' : 
   pub stop : JournalStop
   pub why : IfSome content (Why stop)
   pub unsent : told' ≡ told
-  pub unkept : stop ≢ journals.Disk → stop ≢ journals.Memory → kept_on content' ≡ kept_on content
+  pub unkept : stop ≢ journals.Disk → stop ≢ journals.Memory → records_on content' ≡ records_on content
   pub line : EndsLine (ends.At (journal_cause stop)) written written' status faults faults_now shortages shortages_now
   pub status_is : status ≡ journal_status stop
 

@@ -3,6 +3,7 @@ use Rattle.std.specs.Prelude.{◌≡◌, ◌≤◌, ℕ, List, [], ◌++◌, fla
 use Rattle.std.specs.Io.KnownBytes.{append_known}
 use Rattle.keyed_fn.specs.KeyedFn.{KeyedFn}
 use Rattle.server_core.specs.State.{ServerState, at_first}
+use Rattle.sse_outside.specs.Kept.{Kept}
 use Rattle.script_meaning.specs.Carries.{Outside}
 use Rattle.script_meaning.specs.Exchange.{Told}
 use Rattle.script_meaning.specs.Headline.{IsOverHonest}
@@ -18,26 +19,30 @@ pub record HasRunOverServer (f : KeyedFn) (bytes : List ℕ) (now last : Outside
   pub run : HasRun f bytes now last status
   pub stopped : IsFree f run.end.key run.end.history → status ≤ 7
 
+-- a run that keeps no records
+abbrev pub unkept : Kept
+unkept = record { records = None; refused = [] }
+
 -- the lines and the status of such a run: they are those of one over some honest link, of which no record is told
 pub record PrintsAsRun (f : KeyedFn) (bytes : List ℕ) (old new : Option (List ℕ)) (status : ℕ) : Type 0 where
   pub told : Told
   pub state : ServerState
   pub over : IsOverHonest f at_first (Some []) told state
-  pub runs : HasRunOverServer f bytes (outside_of (seen (Some []) None) old) (outside_of (seen told None) new) status
+  pub runs : HasRunOverServer f bytes (outside_of (seen (Some []) unkept) old) (outside_of (seen told unkept) new) status
 
 -- such lines, the last of them whole
 pub record PrintsLastLine (f : KeyedFn) (bytes : List ℕ) (old new : Option (List ℕ)) (status : ℕ) : Type 0 where
   pub told : Told
   pub state : ServerState
   pub over : IsOverHonest f at_first (Some []) told state
-  pub ends : HasLastLine f bytes (outside_of (seen (Some []) None) old) (outside_of (seen told None) new) status
+  pub ends : HasLastLine f bytes (outside_of (seen (Some []) unkept) old) (outside_of (seen told unkept) new) status
 
 -- or a proper front of the last
 pub record PrintsShortLine (f : KeyedFn) (bytes : List ℕ) (old new : Option (List ℕ)) (status : ℕ) : Type 0 where
   pub told : Told
   pub state : ServerState
   pub over : IsOverHonest f at_first (Some []) told state
-  pub ends : HasShortLine f bytes (outside_of (seen (Some []) None) old) (outside_of (seen told None) new) status
+  pub ends : HasShortLine f bytes (outside_of (seen (Some []) unkept) old) (outside_of (seen told unkept) new) status
 
 -- a script of this meaning has this status and printed its lines, and a front of the line that says why it stopped
 pub record PrintsMeaning (m : Meaning) (old new : Option (List ℕ)) (status : ℕ) : Type 0 where

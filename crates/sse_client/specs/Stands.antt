@@ -14,8 +14,9 @@ use Rattle.script_meaning.specs.Meaning.{meaning}
 use Rattle.script_meaning.specs.Session.{IsFree}
 use Rattle.sse_script.specs.Shown.{Cause, BadWords, NoMemory}
 use Rattle.sse_model.specs.Epochs.{keys_under}
-use Rattle.script_meaning.specs.Carries.{Outside, Kept, keys_at, records_by, with_answers, IsSent, Carries, StopsIn}
-use Rattle.script_meaning.specs.Exchange.{Told, Adds}
+use Rattle.script_meaning.specs.Carries.{Keeps, Outside, keys_at, records_by, with_answers, IsSent, Carries, StopsIn}
+use Rattle.sse_outside.specs.Kept.{Kept}
+use Rattle.script_meaning.specs.Exchange.{Told}
 use Rattle.script_meaning.specs.Lines.{Request, script_lines}
 use Rattle.script_meaning.specs.Outcome.{Place, Outcome, outcome, after, shown_by, is_refusal}
 use Rattle.line_documents.specs.Refused.{bad_word}
@@ -73,7 +74,7 @@ seen told kept = record { told = told; kept = kept }
 -- a session goes on at this stage, with this outcome of a command: it kept the records of what the command comes to at this
 -- place, exchanged all frames of that, and shows it with the answers that came to its searches
 pub record GoesOn (f : KeyedFn) (old new : Seen) (next : Stage) (came : LineResult) (place : Place) (result : Outcome) : Type 0 where
-  pub kept : Adds old.kept new.kept (records_by f place result)
+  pub kept : Keeps old.kept new.kept (records_by f place result)
   pub answers : List (List ℕ)
   pub sent : IsSent f place result old.told new.told answers
   pub shown : line_result_view came ≡ with_answers (map in_order answers) (shown_by result)
@@ -147,8 +148,8 @@ pub record HasSimulatedRun (f : KeyedFn) (bytes : List ℕ) (now last : Outside)
   pub run : HasRun f bytes now last status
   pub sends : SendsSimulated f run.end.key run.end.history now.told last.told
 
--- a whole run of whose history the records were kept, but for the command in hand at most, and of which no frame was sent whose
--- command's record wasn't kept before
+-- a whole run of whose history the records were taken, but for that of the command in hand at most, and of which no frame was sent
+-- whose command's record wasn't taken before
 pub record HasRecordedRun (f : KeyedFn) (bytes : List ℕ) (now last : Outside) (status : ℕ) : Type 0 where
   pub run : HasRun f bytes now last status
   pub recorded : IsRecorded f run.end.key run.end.history status now last

@@ -10,13 +10,14 @@ ghost use Rattle.keyed_fn.specs.KeyedFn.{KeyedFn, keyed_fn};
 ghost use Rattle.run_texts.specs.Causes.{CommandCause, KeepCommandCause, KeepsRecorder, KeepsSink, KeepsSource, LinkCause, RecorderCause, SourceCause};
 ghost use Rattle.run_texts.specs.Stops.{command_cause};
 ghost use Rattle.sse_client.specs.Calls.{shows, KeepsLink};
-ghost use Rattle.sse_client.specs.GoingOn.{HasEndedAfter, HasResent, ResumesTo, StopsResending};
+ghost use Rattle.sse_client.specs.GoingOn.{HasEndedAfter, HasResent, Restores, ResumesTo, StopsResending};
 ghost use Rattle.sse_client.specs.Keeping.{StaysWhole, WholeAtStop};
 ghost use Rattle.sse_client.specs.Resuming.{stop_of_resume};
 ghost use Rattle.sse_client.specs.Stages.{hash_keys_under};
 ghost use Rattle.sse_client.specs.Stands.{seen, outside_of};
 ghost use Rattle.sse_client.specs.Turns.{ending};
 ghost use Rattle.sse_outside.specs.Causes.{Rose};
+ghost use Rattle.sse_recorder.specs.KeepsOn.{KeepsOn};
 ghost use Rattle.sse_script.specs.TextLines.{bytes_to_come, lines_left};
 
 use crate::exchange::hello;
@@ -83,13 +84,16 @@ fn lacking(client: &Client<Last>, next: u32) -> Result<u32, CommandStop>
 
 /// Opens a session with a server that may lack frames of the history's last command, sends these, and answers the client of the
 /// whole history with how many they were.
-fn resend<K: Keyed, L: Link>(
+fn resend<K: Keyed, L: Link, R: Recorder>(
     alloc: Global,
     keyed: &K,
     client: Client<Last>,
     link: &mut L,
+    recorder: &R,
     buffer: &mut ReplyBuffer,
 ) -> Result<(Client<Ready>, u32), CommandStop>
+    requires restores { (run : Run) × Restores (keyed_fn K.prf K.pad) client.key (R.kept recorder.now) run × Remembers run client.state }
+    requires whole { R.whole recorder.now }
     ensures resent { (run : Run) → Remembers run client.state → IfOk result (λ done. HasResent (keyed_fn K.prf K.pad) client.key run (L.transcript link.old) (L.transcript link.new) done.1) }
     ensures stands { (run : Run) → Remembers run client.state → IfOk result (λ done. StandsFor (keyed_fn K.prf K.pad) (λ epoch. client.key) at_first run done.0.state) }
     ensures stopped { (run : Run) → Remembers run client.state → IfErr result (λ stop. StopsResending (keyed_fn K.prf K.pad) client.key run (L.transcript link.old) (L.transcript link.new) (command_cause stop)) }
@@ -102,7 +106,7 @@ fn resend<K: Keyed, L: Link>(
     let frames = lacking(&client, next)?;
     match client.resume(alloc, keyed, next) {
         Ok(Resumed::Ready(ready)) => Ok((ready, frames)),
-        Ok(Resumed::Behind(behind)) => Ok((catch_up(behind, link, buffer)?, frames)),
+        Ok(Resumed::Behind(behind)) => Ok((catch_up(behind, link, recorder, buffer)?, frames)),
         Err(fault) => Err(stop_of(fault)),
     }
 }
@@ -118,7 +122,7 @@ fn go_on<K: Keyed, L: Link, R: Recorder, S: Source, W: Sink>(
     input: &mut Input,
     restart: Restart<K>,
 ) -> Result<Refusals, StopCause>
-    requires knows { (run : Run) × Remembers run restart.client.state }
+    requires restores { (run : Run) × Restores (keyed_fn K.prf K.pad) restart.client.key (R.kept recorder.old) run × Remembers run restart.client.state }
     requires prepared { restart.master ≡ restart.client.key }
     requires hashed { hash_keys_of restart.client.state ≡ hash_keys_under (keyed_fn K.prf K.pad) restart.client.key }
     requires whole { R.whole recorder.old }
@@ -130,12 +134,13 @@ fn go_on<K: Keyed, L: Link, R: Recorder, S: Source, W: Sink>(
     ensures source { KeepsSource SourceCause (S.faults source.old) (S.faults source.new) result }
     ensures sink { KeepsSink (W.faults sink.old) (W.faults sink.new) (W.shortages sink.old) (W.shortages sink.new) result }
     ensures link { KeepsLink LinkCause (shows (L.transcript link.old) (L.faults link.old) (L.began link.old)) (shows (L.transcript link.new) (L.faults link.new) (L.began link.new)) result }
+    ensures keeps_on { KeepsOn R.kept R.moment R.left_since recorder.old recorder.new }
     ensures whole_after { StaysWhole WholeAtStop (R.whole recorder.new) result }
     ensures recorder { KeepsRecorder RecorderCause (R.faults recorder.old) (R.faults recorder.new) result }
 {
     let Restart { client, master } = restart;
     let mut buffer = ReplyBuffer::new(alloc)?;
-    let (ready, frames) = resend(alloc, keyed, client, link, &mut buffer)?;
+    let (ready, frames) = resend(alloc, keyed, client, link, &*recorder, &mut buffer)?;
     print(alloc, sink, &Shown::Resumed { frames })?;
     let tools = Tools {
         alloc,
@@ -161,7 +166,7 @@ pub(crate) fn gone_on<K: Keyed, L: Link, R: Recorder, S: Source, W: Sink>(
     input: &mut Input,
     restart: Restart<K>,
 ) -> u8
-    requires knows { (run : Run) × Remembers run restart.client.state }
+    requires restores { (run : Run) × Restores (keyed_fn K.prf K.pad) restart.client.key (R.kept recorder.old) run × Remembers run restart.client.state }
     requires prepared { restart.master ≡ restart.client.key }
     requires hashed { hash_keys_of restart.client.state ≡ hash_keys_under (keyed_fn K.prf K.pad) restart.client.key }
     requires whole { R.whole recorder.old }
@@ -180,6 +185,7 @@ pub(crate) fn gone_on<K: Keyed, L: Link, R: Recorder, S: Source, W: Sink>(
     ensures began { L.began link.new ≡ L.began link.old }
     ensures recorder_failed { result ≡ 6 → Rose (R.faults recorder.old) (R.faults recorder.new) }
     ensures recorder_steady { result ≢ 6 → R.faults recorder.new ≡ R.faults recorder.old }
+    ensures keeps_on { KeepsOn R.kept R.moment R.left_since recorder.old recorder.new }
     ensures lasts { result ≢ 6 → result ≢ 7 → R.whole recorder.new }
     ensures known { result ≤ 9 }
 {

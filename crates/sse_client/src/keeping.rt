@@ -2,6 +2,7 @@ ghost use Rattle.std.specs.Prelude.{◌≡◌, OnOk};
 ghost use Rattle.client_core.specs.Payloads.{setup_payload, update_payload};
 ghost use Rattle.run_texts.specs.Causes.{KeepCause, KeepsRecorder};
 ghost use Rattle.sse_client.specs.Keeping.{HasKept};
+ghost use Rattle.sse_recorder.specs.KeepsOn.{KeepsOn};
 
 use client_core::{Planned, PlannedUpdate};
 use client_registry::Docs;
@@ -19,6 +20,7 @@ pub(crate) fn keep_setup<R: Recorder>(
     requires documents { planned.now.made_of ≡ docs.now }
     requires whole { R.whole recorder.old }
     ensures kept { HasKept (setup_payload planned.now) (R.kept recorder.old) (R.kept recorder.new) result }
+    ensures keeps_on { KeepsOn R.kept R.moment R.left_since recorder.old recorder.new }
     ensures whole_after { OnOk result (R.whole recorder.new) }
     ensures faults { KeepsRecorder KeepCause (R.faults recorder.old) (R.faults recorder.new) result }
 {
@@ -26,7 +28,7 @@ pub(crate) fn keep_setup<R: Recorder>(
     if planned.payload_into(docs, &mut payload).is_err() {
         return Err(DeviceFault::NoMemory);
     }
-    recorder.keep(&payload)
+    recorder.keep(payload)
 }
 
 /// Keeps the record of a planned update.
@@ -37,6 +39,7 @@ pub(crate) fn keep_update<R: Recorder>(
 ) -> Result<(), DeviceFault>
     requires whole { R.whole recorder.old }
     ensures kept { HasKept (update_payload planned.now) (R.kept recorder.old) (R.kept recorder.new) result }
+    ensures keeps_on { KeepsOn R.kept R.moment R.left_since recorder.old recorder.new }
     ensures whole_after { OnOk result (R.whole recorder.new) }
     ensures faults { KeepsRecorder KeepCause (R.faults recorder.old) (R.faults recorder.new) result }
 {
@@ -44,5 +47,5 @@ pub(crate) fn keep_update<R: Recorder>(
     if planned.payload_into(&mut payload).is_err() {
         return Err(DeviceFault::NoMemory);
     }
-    recorder.keep(&payload)
+    recorder.keep(payload)
 }

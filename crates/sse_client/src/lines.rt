@@ -9,6 +9,7 @@ ghost use Rattle.sse_client.specs.Keeping.{StaysWhole, WholeAtStop};
 ghost use Rattle.sse_client.specs.Stages.{key_of};
 ghost use Rattle.sse_client.specs.Stands.{IsAt, seen, outside_of, has_refused, EndsFrom};
 ghost use Rattle.sse_client.specs.Turns.{ending, IfNext, OnEnd, Turns};
+ghost use Rattle.sse_recorder.specs.KeepsOn.{KeepsOn};
 ghost use Rattle.sse_script.specs.TextLines.{bytes_to_come, lines_left};
 
 use crate::reply_buffer::ReplyBuffer;
@@ -74,6 +75,7 @@ pub(crate) fn run_lines<K: Keyed, L: Link, R: Recorder, S: Source, W: Sink>(
     ensures source { KeepsSource SourceCause (S.faults source.old) (S.faults source.new) result }
     ensures sink { KeepsSink (W.faults sink.old) (W.faults sink.new) (W.shortages sink.old) (W.shortages sink.new) result }
     ensures link { KeepsLink LinkCause (shows (L.transcript link.old) (L.faults link.old) (L.began link.old)) (shows (L.transcript link.new) (L.faults link.new) (L.began link.new)) result }
+    ensures keeps_on { KeepsOn R.kept R.moment R.left_since recorder.old recorder.new }
     ensures whole_after { StaysWhole WholeAtStop (R.whole recorder.new) result }
     ensures recorder { KeepsRecorder RecorderCause (R.faults recorder.old) (R.faults recorder.new) result }
 {
@@ -107,6 +109,7 @@ fn take_turn<K: Keyed, L: Link, R: Recorder, S: Source, W: Sink>(
     ensures at_end { IfOk result (λ turn. OnEnd turn (IsAtEnd (S.remaining source.new))) }
     ensures source { KeepsSource SourceCause (S.faults source.old) (S.faults source.new) result }
     ensures sink { KeepsSink (W.faults sink.old) (W.faults sink.new) (W.shortages sink.old) (W.shortages sink.new) result }
+    ensures keeps_on { KeepsOn R.kept R.moment R.left_since recorder.old recorder.new }
     ensures whole_after { StaysWhole WholeAtStop (R.whole recorder.new) result }
     ensures link { KeepsLink LinkCause (shows (L.transcript link.old) (L.faults link.old) (L.began link.old)) (shows (L.transcript link.new) (L.faults link.new) (L.began link.new)) result }
     ensures recorder { KeepsRecorder RecorderCause (R.faults recorder.old) (R.faults recorder.new) result }

@@ -10,8 +10,10 @@ ghost use Rattle.run_texts.specs.Words as asks;
 ghost use Rattle.script_meaning.specs.Exchange.{Told};
 ghost use Rattle.sse_client.specs.GoingOn.{GoesOnTo, Restores};
 ghost use Rattle.sse_client.specs.KeyLines.{FindsKey};
-ghost use Rattle.sse_client.specs.OnDisk.{HasBegun, HasGoneOn, HeldCause, HeldSource, IsNotBegun, IsNotReopened, IsUnopened, Lasts, held_stop, kept_on, seen_with};
+ghost use Rattle.sse_client.specs.OnDisk.{HasBegun, HasGoneOn, HeldCause, HeldSource, IsNotBegun, IsNotReopened, IsUnopened, KeepsOnDisk, KeepsOnStarted, Lasts, LeavesAsBefore, held_stop, kept_on, seen_with};
 ghost use Rattle.sse_client.specs.Stages.{hash_keys_under};
+ghost use Rattle.sse_client.specs.Stands.{outside_of, seen};
+ghost use Rattle.sse_journal.specs.AnyMoment.{LeavesOnly};
 ghost use Rattle.sse_journal.specs.JournalView.{broken_by, records_of};
 ghost use Rattle.sse_outside.specs.Causes.{Rose};
 ghost use Rattle.sse_outside.specs.Fronts.{TookOrRose};
@@ -91,6 +93,7 @@ fn restored<K: Keyed, D: Disk, S: Source>(
     ensures stopped { IfErr result (λ stop. (told : Told) (written : Option (List ℕ)) →
         GoesOnTo (keyed_fn K.prf K.pad) (lines_left [] (S.remaining source.old)) (seen_with told (D.content disk.old) written) (seen_with told (D.content disk.old) written) (held_stop stop)) }
     ensures kept { D.content disk.new ≡ D.content disk.old }
+    ensures quiet { LeavesOnly D.moment D.left_since disk.old disk.new (D.images disk.old) }
     ensures holds { IfSome (D.content disk.new) (λ file. IsOfRecords journal.now (D.content disk.new) (D.images disk.new)) }
     ensures source { KeepsSource HeldSource (S.faults source.old) (S.faults source.new) result }
     ensures disk { KeepsRecorder HeldCause (D.faults disk.old) (D.faults disk.new) result }
@@ -123,21 +126,25 @@ pub fn run_on_disk<K: Keyed, L: Link, D: Disk, S: Source, W: Sink>(
     ensures words_line { asks.disk_mode_of (map (λ word. string_bytes word) words.now) ≡ None →
         TookOrRose (W.written sink.old) (W.written sink.new) (text_of (Stopped BadWords)) (W.faults sink.old) (W.faults sink.new) (W.shortages sink.old) (W.shortages sink.new) }
 
-    // `run`: whole, or not begun for its journal.
-    ensures begun { asks.disk_mode_of (map (λ word. string_bytes word) words.now) ≡ Some asks.RunOn → IfSome (S.remaining source.old) (λ bytes.
-        IsUnopened IsNotBegun (L.transcript link.old) (L.transcript link.new) (D.content disk) (D.content result.1) (W.written sink.old) (W.written sink.new) result.0 (W.faults sink.old) (W.faults sink.new) (W.shortages sink.old) (W.shortages sink.new)
-        ⊎ HasBegun (keyed_fn K.prf K.pad) bytes (seen_with (L.transcript link.old) (D.content disk) (W.written sink.old)) (seen_with (L.transcript link.new) (D.content result.1) (W.written sink.new)) result.0
-        (W.faults sink.old) (W.faults sink.new) (W.shortages sink.old) (W.shortages sink.new)) }
+    // `run`: whole, or not begun for its journal. And what a crash leaves, at its end and at any moment of it.
+    ensures begun { asks.disk_mode_of (map (λ word. string_bytes word) words.now) ≡ Some asks.RunOn →
+        (IsUnopened IsNotBegun (L.transcript link.old) (L.transcript link.new) (D.content disk) (D.content result.1) (W.written sink.old) (W.written sink.new) result.0 (W.faults sink.old) (W.faults sink.new) (W.shortages sink.old) (W.shortages sink.new)
+        × LeavesAsBefore D.content D.images D.moment D.left_since disk result.1)
+        ⊎ KeepsOnDisk D.content D.images D.moment D.left_since disk result.1 (λ kept. IfSome (S.remaining source.old) (λ bytes.
+        HasBegun (keyed_fn K.prf K.pad) bytes (seen_with (L.transcript link.old) (D.content disk) (W.written sink.old)) (outside_of (seen (L.transcript link.new) kept) (W.written sink.new)) result.0
+        (W.faults sink.old) (W.faults sink.new) (W.shortages sink.old) (W.shortages sink.new))) }
     ensures run_refused { asks.disk_mode_of (map (λ word. string_bytes word) words.now) ≡ Some asks.RunOn → IfSome (D.content disk) (λ file. GivesSome file ⊎ IsNoJournal file → result.0 ≢ 6 → result.0 ≢ 7 → result.0 ≡ 10) }
 
     // `more`: whole, or not gone on with for its journal.
-    ensures more { asks.disk_mode_of (map (λ word. string_bytes word) words.now) ≡ Some asks.More → IfSome (S.remaining source.old) (λ bytes.
-        IsUnopened IsNotReopened (L.transcript link.old) (L.transcript link.new) (D.content disk) (D.content result.1) (W.written sink.old) (W.written sink.new) result.0 (W.faults sink.old) (W.faults sink.new) (W.shortages sink.old) (W.shortages sink.new)
-        ⊎ HasGoneOn (keyed_fn K.prf K.pad) bytes (seen_with (L.transcript link.old) (D.content disk) (W.written sink.old)) (seen_with (L.transcript link.new) (D.content result.1) (W.written sink.new)) result.0
-        (W.faults sink.old) (W.faults sink.new) (W.shortages sink.old) (W.shortages sink.new)) }
-    ensures more_accepted { asks.disk_mode_of (map (λ word. string_bytes word) words.now) ≡ Some asks.More → IfSome (D.content disk) (λ file. GivesSome file → result.0 ≢ 6 → result.0 ≢ 7 → IfSome (S.remaining source.old) (λ bytes.
-        HasGoneOn (keyed_fn K.prf K.pad) bytes (seen_with (L.transcript link.old) (D.content disk) (W.written sink.old)) (seen_with (L.transcript link.new) (D.content result.1) (W.written sink.new)) result.0
+    ensures more { asks.disk_mode_of (map (λ word. string_bytes word) words.now) ≡ Some asks.More →
+        (IsUnopened IsNotReopened (L.transcript link.old) (L.transcript link.new) (D.content disk) (D.content result.1) (W.written sink.old) (W.written sink.new) result.0 (W.faults sink.old) (W.faults sink.new) (W.shortages sink.old) (W.shortages sink.new)
+        × LeavesAsBefore D.content D.images D.moment D.left_since disk result.1)
+        ⊎ KeepsOnDisk D.content D.images D.moment D.left_since disk result.1 (λ kept. IfSome (S.remaining source.old) (λ bytes.
+        HasGoneOn (keyed_fn K.prf K.pad) bytes (seen_with (L.transcript link.old) (D.content disk) (W.written sink.old)) (outside_of (seen (L.transcript link.new) kept) (W.written sink.new)) result.0
         (W.faults sink.old) (W.faults sink.new) (W.shortages sink.old) (W.shortages sink.new))) }
+    ensures more_accepted { asks.disk_mode_of (map (λ word. string_bytes word) words.now) ≡ Some asks.More → IfSome (D.content disk) (λ file. GivesSome file → result.0 ≢ 6 → result.0 ≢ 7 → KeepsOnDisk D.content D.images D.moment D.left_since disk result.1 (λ kept. IfSome (S.remaining source.old) (λ bytes.
+        HasGoneOn (keyed_fn K.prf K.pad) bytes (seen_with (L.transcript link.old) (D.content disk) (W.written sink.old)) (outside_of (seen (L.transcript link.new) kept) (W.written sink.new)) result.0
+        (W.faults sink.old) (W.faults sink.new) (W.shortages sink.old) (W.shortages sink.new)))) }
     ensures more_refused { asks.disk_mode_of (map (λ word. string_bytes word) words.now) ≡ Some asks.More → IfSome (D.content disk) (λ file. HasNoRecord file → result.0 ≢ 6 → result.0 ≢ 7 → result.0 ≡ 10) }
 
     // The devices, of both.
@@ -170,10 +177,11 @@ fn begin_run<K: Keyed, L: Link, D: Disk, S: Source, W: Sink>(
     source: &mut S,
     sink: &mut W,
 ) -> (u8, D)
-    ensures begun { IfSome (S.remaining source.old) (λ bytes.
-        IsUnopened IsNotBegun (L.transcript link.old) (L.transcript link.new) (D.content disk) (D.content result.1) (W.written sink.old) (W.written sink.new) result.0 (W.faults sink.old) (W.faults sink.new) (W.shortages sink.old) (W.shortages sink.new)
-        ⊎ HasBegun (keyed_fn K.prf K.pad) bytes (seen_with (L.transcript link.old) (D.content disk) (W.written sink.old)) (seen_with (L.transcript link.new) (D.content result.1) (W.written sink.new)) result.0
-        (W.faults sink.old) (W.faults sink.new) (W.shortages sink.old) (W.shortages sink.new)) }
+    ensures begun { (IsUnopened IsNotBegun (L.transcript link.old) (L.transcript link.new) (D.content disk) (D.content result.1) (W.written sink.old) (W.written sink.new) result.0 (W.faults sink.old) (W.faults sink.new) (W.shortages sink.old) (W.shortages sink.new)
+        × LeavesAsBefore D.content D.images D.moment D.left_since disk result.1)
+        ⊎ KeepsOnDisk D.content D.images D.moment D.left_since disk result.1 (λ kept. IfSome (S.remaining source.old) (λ bytes.
+        HasBegun (keyed_fn K.prf K.pad) bytes (seen_with (L.transcript link.old) (D.content disk) (W.written sink.old)) (outside_of (seen (L.transcript link.new) kept) (W.written sink.new)) result.0
+        (W.faults sink.old) (W.faults sink.new) (W.shortages sink.old) (W.shortages sink.new))) }
     ensures refused { IfSome (D.content disk) (λ file. GivesSome file ⊎ IsNoJournal file → result.0 ≢ 6 → result.0 ≢ 7 → result.0 ≡ 10) }
     ensures at_end { result.0 ≤ 1 → IsAtEnd (S.remaining source.new) }
     ensures source_failed { result.0 ≡ 3 → Rose (S.faults source.old) (S.faults source.new) }
@@ -208,13 +216,14 @@ fn more<K: Keyed, L: Link, D: Disk, S: Source, W: Sink>(
     source: &mut S,
     sink: &mut W,
 ) -> (u8, D)
-    ensures more { IfSome (S.remaining source.old) (λ bytes.
-        IsUnopened IsNotReopened (L.transcript link.old) (L.transcript link.new) (D.content disk) (D.content result.1) (W.written sink.old) (W.written sink.new) result.0 (W.faults sink.old) (W.faults sink.new) (W.shortages sink.old) (W.shortages sink.new)
-        ⊎ HasGoneOn (keyed_fn K.prf K.pad) bytes (seen_with (L.transcript link.old) (D.content disk) (W.written sink.old)) (seen_with (L.transcript link.new) (D.content result.1) (W.written sink.new)) result.0
-        (W.faults sink.old) (W.faults sink.new) (W.shortages sink.old) (W.shortages sink.new)) }
-    ensures accepted { IfSome (D.content disk) (λ file. GivesSome file → result.0 ≢ 6 → result.0 ≢ 7 → IfSome (S.remaining source.old) (λ bytes.
-        HasGoneOn (keyed_fn K.prf K.pad) bytes (seen_with (L.transcript link.old) (D.content disk) (W.written sink.old)) (seen_with (L.transcript link.new) (D.content result.1) (W.written sink.new)) result.0
+    ensures more { (IsUnopened IsNotReopened (L.transcript link.old) (L.transcript link.new) (D.content disk) (D.content result.1) (W.written sink.old) (W.written sink.new) result.0 (W.faults sink.old) (W.faults sink.new) (W.shortages sink.old) (W.shortages sink.new)
+        × LeavesAsBefore D.content D.images D.moment D.left_since disk result.1)
+        ⊎ KeepsOnDisk D.content D.images D.moment D.left_since disk result.1 (λ kept. IfSome (S.remaining source.old) (λ bytes.
+        HasGoneOn (keyed_fn K.prf K.pad) bytes (seen_with (L.transcript link.old) (D.content disk) (W.written sink.old)) (outside_of (seen (L.transcript link.new) kept) (W.written sink.new)) result.0
         (W.faults sink.old) (W.faults sink.new) (W.shortages sink.old) (W.shortages sink.new))) }
+    ensures accepted { IfSome (D.content disk) (λ file. GivesSome file → result.0 ≢ 6 → result.0 ≢ 7 → KeepsOnDisk D.content D.images D.moment D.left_since disk result.1 (λ kept. IfSome (S.remaining source.old) (λ bytes.
+        HasGoneOn (keyed_fn K.prf K.pad) bytes (seen_with (L.transcript link.old) (D.content disk) (W.written sink.old)) (outside_of (seen (L.transcript link.new) kept) (W.written sink.new)) result.0
+        (W.faults sink.old) (W.faults sink.new) (W.shortages sink.old) (W.shortages sink.new)))) }
     ensures refused { IfSome (D.content disk) (λ file. HasNoRecord file → result.0 ≢ 6 → result.0 ≢ 7 → result.0 ≡ 10) }
     ensures at_end { result.0 ≤ 1 → IsAtEnd (S.remaining source.new) }
     ensures source_failed { result.0 ≡ 3 → Rose (S.faults source.old) (S.faults source.new) }
@@ -249,9 +258,9 @@ fn go_on_from<K: Keyed, L: Link, D: Disk, S: Source, W: Sink>(
     requires holds { IfSome (D.content disk) (λ file. IsOfRecords journal (D.content disk) (D.images disk)) }
     requires some { 0 < records_of journal }
     requires unbroken { broken_by journal ≡ None }
-    ensures gone_on { IfSome (S.remaining source.old) (λ bytes.
-        HasGoneOn (keyed_fn K.prf K.pad) bytes (seen_with (L.transcript link.old) (D.content disk) (W.written sink.old)) (seen_with (L.transcript link.new) (D.content result.1) (W.written sink.new)) result.0
-        (W.faults sink.old) (W.faults sink.new) (W.shortages sink.old) (W.shortages sink.new)) }
+    ensures gone_on { KeepsOnStarted D.content D.images D.moment D.left_since disk result.1 (λ kept. IfSome (S.remaining source.old) (λ bytes.
+        HasGoneOn (keyed_fn K.prf K.pad) bytes (seen_with (L.transcript link.old) (D.content disk) (W.written sink.old)) (outside_of (seen (L.transcript link.new) kept) (W.written sink.new)) result.0
+        (W.faults sink.old) (W.faults sink.new) (W.shortages sink.old) (W.shortages sink.new))) }
     ensures at_end { result.0 ≤ 1 → IsAtEnd (S.remaining source.new) }
     ensures source_failed { result.0 ≡ 3 → Rose (S.faults source.old) (S.faults source.new) }
     ensures source_steady { result.0 ≢ 3 → S.faults source.new ≡ S.faults source.old }

@@ -24,6 +24,7 @@ ghost use Rattle.sse_client.specs.Turns.{ending};
 ghost use Rattle.sse_link.specs.Told.{told_first};
 ghost use Rattle.sse_outside.specs.Causes.{Rose};
 ghost use Rattle.sse_outside.specs.Fronts.{TookOrRose};
+ghost use Rattle.sse_recorder.specs.KeepsOn.{KeepsOn};
 ghost use Rattle.sse_script.specs.Shown.{Stopped, BadWords};
 ghost use Rattle.sse_script.specs.TextLines.{bytes_to_come, lines_left};
 ghost use Rattle.sse_script.specs.Texts.{text_of};
@@ -90,6 +91,7 @@ pub fn sse_run<K: Keyed, L: Link, R: Recorder, S: Source, W: Sink>(
     ensures words_recorder { asks.mode_of (map (λ word. string_bytes word) words.now) ≡ None → recorder.new ≡ recorder.old }
     ensures recorder_failed { result ≡ 6 → Rose (R.faults recorder.old) (R.faults recorder.new) }
     ensures recorder_steady { result ≢ 6 → R.faults recorder.new ≡ R.faults recorder.old }
+    ensures keeps_on { KeepsOn R.kept R.moment R.left_since recorder.old recorder.new }
     ensures lasts { result ≢ 6 → result ≢ 7 → R.whole recorder.new }
     ensures known { result ≤ 9 }
 {
@@ -125,6 +127,7 @@ pub(crate) fn whole_run<K: Keyed, L: Link, R: Recorder, S: Source, W: Sink>(
     ensures began { L.began link.new ≡ L.began link.old }
     ensures recorder_failed { result ≡ 6 → Rose (R.faults recorder.old) (R.faults recorder.new) }
     ensures recorder_steady { result ≢ 6 → R.faults recorder.new ≡ R.faults recorder.old }
+    ensures keeps_on { KeepsOn R.kept R.moment R.left_since recorder.old recorder.new }
     ensures lasts { result ≢ 6 → result ≢ 7 → R.whole recorder.new }
     ensures known { result ≤ 9 }
 {
@@ -151,6 +154,7 @@ fn run_script<K: Keyed, L: Link, R: Recorder, S: Source, W: Sink>(
     ensures source { KeepsSource SourceCause (S.faults source.old) (S.faults source.new) result }
     ensures sink { KeepsSink (W.faults sink.old) (W.faults sink.new) (W.shortages sink.old) (W.shortages sink.new) result }
     ensures link { KeepsLink LinkCause (shows (L.transcript link.old) (L.faults link.old) (L.began link.old)) (shows (L.transcript link.new) (L.faults link.new) (L.began link.new)) result }
+    ensures keeps_on { KeepsOn R.kept R.moment R.left_since recorder.old recorder.new }
     ensures whole_after { StaysWhole WholeAtStop (R.whole recorder.new) result }
     ensures recorder { KeepsRecorder RecorderCause (R.faults recorder.old) (R.faults recorder.new) result }
 {
@@ -244,6 +248,7 @@ pub fn run_over_server<K: Keyed, T: Tables, R: Recorder, S: Source, W: Sink>(
     ensures words_recorder { asks.mode_of (map (λ word. string_bytes word) words.now) ≡ None → recorder.new ≡ recorder.old }
     ensures recorder_failed { result ≡ 6 → Rose (R.faults recorder.old) (R.faults recorder.new) }
     ensures recorder_steady { result ≢ 6 → R.faults recorder.new ≡ R.faults recorder.old }
+    ensures keeps_on { KeepsOn R.kept R.moment R.left_since recorder.old recorder.new }
     ensures lasts { result ≢ 6 → result ≢ 7 → R.whole recorder.new }
     ensures known { result ≤ 9 }
 {

@@ -1,9 +1,10 @@
-ghost use Rattle.std.specs.Prelude.{◌≡◌, ℕ, List, map, IfOk};
+ghost use Rattle.std.specs.Prelude.{◌≡◌, ℕ, List, map, IfOk, IfSome};
 ghost use Rattle.std.specs.List.{AllByRecursion};
 ghost use Rattle.client_core.specs.Owes.{AreNumbered};
 ghost use Rattle.client_core.specs.Sending.{first_number, to_send};
 ghost use Rattle.run_texts.specs.Causes.{PeerCause};
 ghost use Rattle.sse_client.specs.Calls.{shows, KeepsLink, Sends};
+ghost use Rattle.sse_client.specs.Keeping.{OwesLast};
 ghost use Rattle.sse_client.specs.Steps.{AreOwed, LeavesClient, StepsOver};
 ghost use Rattle.sse_frames.specs.Frames.{FrameText, IsFrame, frame_bytes};
 
@@ -13,6 +14,7 @@ use crate::reply_buffer::ReplyBuffer;
 use client_core::{Behind, Client, Ready, Taken};
 use run_texts::PeerStop;
 use sse_link::Link;
+use sse_recorder::Recorder;
 
 /// A client whose next frame was acknowledged.
 #[derive(Drop)]
@@ -24,12 +26,18 @@ enum Step {
 }
 
 /// Sends each frame that the server may lack, and takes its acknowledgement before the next.
-pub(crate) fn catch_up<L: Link>(
+///
+/// It is what sends the frames of updates. The recorder is lent so that it stays as it is meanwhile: every crash leaves the
+/// record of the update whose frames are sent.
+pub(crate) fn catch_up<L: Link, R: Recorder>(
     mut client: Client<Behind>,
     link: &mut L,
+    _recorder: &R,
     buffer: &mut ReplyBuffer,
 ) -> Result<Client<Ready>, PeerStop>
     requires frames { AllByRecursion IsFrame (to_send client.state) }
+    requires whole { R.whole _recorder.now }
+    requires recorded { IfSome (R.kept _recorder.now).records (λ records. OwesLast records client.state) }
     ensures key { IfOk result (λ ready. ready.key ≡ client.key) }
     ensures ready { IfOk result (λ ready. ready.state ≡ client.state.ready) }
     ensures sends { (frames : List FrameText) → to_send client.state ≡ map frame_bytes frames → AreNumbered (first_number client.state) frames →

@@ -5,7 +5,7 @@ ghost use Rattle.keyed_fn.specs.KeyedFn.{KeyedFn, keyed_fn};
 ghost use Rattle.run_texts.specs.Causes.{CommandCause, KeepCommandCause, KeepsRecorder};
 ghost use Rattle.client_core.specs.Payloads.{setup_payload};
 ghost use Rattle.sse_client.specs.Keeping.{SendsKept, StaysWhole, WholeAt};
-ghost use Rattle.script_meaning.specs.Carries.{Kept};
+ghost use Rattle.sse_outside.specs.Kept.{Kept};
 ghost use Rattle.run_texts.specs.LineWords.{words_in};
 ghost use Rattle.run_texts.specs.LineResultViews.{line_result_view, refuses};
 ghost use Rattle.run_texts.specs.Stops.{command_cause};
@@ -17,6 +17,7 @@ ghost use Rattle.sse_client.specs.SetupFaults.{setup_answer};
 ghost use Rattle.sse_client.specs.Stages.{key_of, hash_keys_of};
 ghost use Rattle.sse_client.specs.Stands.{IsReady, MayStop, Seen, seen, Takes, StopsWithin};
 ghost use Rattle.sse_frames.specs.Frames.{FrameText, IsFrame, frame_bytes};
+ghost use Rattle.sse_recorder.specs.KeepsOn.{KeepsOn};
 ghost use Rattle.sse_script.specs.Lines as lines;
 ghost use Rattle.sse_script.specs.Shown as says;
 ghost use Rattle.sse_script.specs.Views.{line_view};
@@ -64,6 +65,7 @@ pub(crate) fn take_line<K: Keyed, L: Link, R: Recorder>(
     ensures may_stop { OnErr result (MayStop (keyed_fn K.prf K.pad) stage (line_view line.entry)) }
     ensures same_key { IfOk result (λ done. key_of done.0 ≡ key_of stage) }
     ensures keeps { KeepsLink CommandCause (shows (L.transcript link.old) (L.faults link.old) (L.began link.old)) (shows (L.transcript link.new) (L.faults link.new) (L.began link.new)) result }
+    ensures keeps_on { KeepsOn R.kept R.moment R.left_since recorder.old recorder.new }
     ensures whole_after { StaysWhole WholeAt (R.whole recorder.new) result }
     ensures recorder { KeepsRecorder KeepCommandCause (R.faults recorder.old) (R.faults recorder.new) result }
 {
@@ -148,6 +150,7 @@ fn set_up<K: Keyed, L: Link, R: Recorder>(
     ensures may_stop { OnErr result (MayStop (keyed_fn K.prf K.pad) stage (lines.SetupLine numbers.b numbers.big numbers.pad)) }
     ensures same_key { IfOk result (λ done. key_of done.0 ≡ key_of stage) }
     ensures keeps { KeepsLink CommandCause (shows (L.transcript link.old) (L.faults link.old) (L.began link.old)) (shows (L.transcript link.new) (L.faults link.new) (L.began link.new)) result }
+    ensures keeps_on { KeepsOn R.kept R.moment R.left_since recorder.old recorder.new }
     ensures whole_after { StaysWhole WholeAt (R.whole recorder.new) result }
     ensures recorder { KeepsRecorder KeepCommandCause (R.faults recorder.old) (R.faults recorder.new) result }
 {
@@ -198,12 +201,18 @@ fn send_setup<L: Link, R: Recorder>(
     ensures hash_keys { IfOk result (λ done. hash_keys_of done.0 ≡ docs.keys) }
     ensures key { IfOk result (λ done. key_of done.0 ≡ client.key) }
     ensures keeps { KeepsLink CommandCause (shows (L.transcript link.old) (L.faults link.old) (L.began link.old)) (shows (L.transcript link.new) (L.faults link.new) (L.began link.new)) result }
+    ensures keeps_on { KeepsOn R.kept R.moment R.left_since recorder.old recorder.new }
     ensures whole_after { StaysWhole WholeAt (R.whole recorder.new) result }
     ensures recorder { KeepsRecorder KeepCommandCause (R.faults recorder.old) (R.faults recorder.new) result }
 {
     let (words, blocks) = (planned.own_words(), planned.own_blocks());
     keep_setup(alloc, &planned, &docs, recorder)?;
-    let ready = catch_up(client.commit(alloc, planned, docs), link, buffer)?;
+    let ready = catch_up(
+        client.commit(alloc, planned, docs),
+        link,
+        &*recorder,
+        buffer,
+    )?;
     Ok((Stage::Searching(ready), LineResult::SetUp { words, blocks }))
 }
 
@@ -239,6 +248,7 @@ fn add<K: Keyed, L: Link, R: Recorder>(
     ensures may_stop { OnErr result (MayStop (keyed_fn K.prf K.pad) stage (lines.AddLine id fields.entry)) }
     ensures same_key { IfOk result (λ done. key_of done.0 ≡ key_of stage) }
     ensures keeps { KeepsLink CommandCause (shows (L.transcript link.old) (L.faults link.old) (L.began link.old)) (shows (L.transcript link.new) (L.faults link.new) (L.began link.new)) result }
+    ensures keeps_on { KeepsOn R.kept R.moment R.left_since recorder.old recorder.new }
     ensures whole_after { StaysWhole WholeAt (R.whole recorder.new) result }
     ensures recorder { KeepsRecorder KeepCommandCause (R.faults recorder.old) (R.faults recorder.new) result }
 {
@@ -278,6 +288,7 @@ fn delete<K: Keyed, L: Link, R: Recorder>(
     ensures may_stop { OnErr result (MayStop (keyed_fn K.prf K.pad) stage (lines.Del id)) }
     ensures same_key { IfOk result (λ done. key_of done.0 ≡ key_of stage) }
     ensures keeps { KeepsLink CommandCause (shows (L.transcript link.old) (L.faults link.old) (L.began link.old)) (shows (L.transcript link.new) (L.faults link.new) (L.began link.new)) result }
+    ensures keeps_on { KeepsOn R.kept R.moment R.left_since recorder.old recorder.new }
     ensures whole_after { StaysWhole WholeAt (R.whole recorder.new) result }
     ensures recorder { KeepsRecorder KeepCommandCause (R.faults recorder.old) (R.faults recorder.new) result }
 {

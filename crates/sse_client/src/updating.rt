@@ -18,6 +18,7 @@ ghost use Rattle.sse_client.specs.Stands.{IsAt, GoesOn, seen, outside_of};
 ghost use Rattle.sse_client.specs.UpdatePlans.{IsRefused, IsUpdatePlan};
 ghost use Rattle.sse_client.specs.declared.session.Stage.TheVariants.{Searching};
 ghost use Rattle.sse_frames.specs.Frames.{IsFrame};
+ghost use Rattle.sse_recorder.specs.KeepsOn.{KeepsOn};
 ghost use Rattle.sse_script.specs.Shown.{Shown};
 ghost use Rattle.sse_script.specs.declared.refusal.Refusal.{Refusal as Reason};
 
@@ -98,13 +99,14 @@ pub(crate) fn send_update<L: Link, R: Recorder>(
     ensures as_planned { (stop : WhyUnsent) → planned ≡ Err (UpdateFault.Stopped stop) → result ≡ Err (CommandStop.Planning stop) }
     ensures same_key { IfOk result (λ went. key_of went.0 ≡ client.key) }
     ensures keeps { KeepsLink CommandCause (shows (L.transcript link.old) (L.faults link.old) (L.began link.old)) (shows (L.transcript link.new) (L.faults link.new) (L.began link.new)) result }
+    ensures keeps_on { KeepsOn R.kept R.moment R.left_since recorder.old recorder.new }
     ensures whole_after { StaysWhole WholeAt (R.whole recorder.new) result }
     ensures recorder { KeepsRecorder KeepCommandCause (R.faults recorder.old) (R.faults recorder.new) result }
 {
     match planned {
         Ok(planned) => {
             keep_update(alloc, &planned, recorder)?;
-            let ready = catch_up(client.commit(planned), link, buffer)?;
+            let ready = catch_up(client.commit(planned), link, &*recorder, buffer)?;
             Ok((Stage::Searching(ready), done))
         }
         Err(fault) => match fault {

@@ -1,19 +1,20 @@
 -- The records of a file are those that starting gives of it; over a disk that holds a journal a crash leaves them, and no others.
-use Rattle.std.proofs.Common.{◌≡◌, ◌⊎◌, inl, inr, ℕ, zero, suc, ◌+◌, ◌<◌, ◌≤◌, Bool, true, false, List, [], ◌∷◌, ◌++◌, length, take, drop, Some, None, refl, sym, ap, ◌∙◌, subst, arith, append_assoc, length-append}
+use Rattle.std.proofs.Common.{◌≡◌, inl, inr, ℕ, zero, suc, ◌+◌, ◌<◌, ◌≤◌, Bool, true, false, List, [], ◌∷◌, ◌++◌, length, take, drop, Some, None, refl, sym, ap, ◌∙◌, subst, arith, append_assoc, length-append}
 use Rattle.std.specs.Prelude.{◌==◌, ◌&&◌, nat_lt, All, flat_map, Option, option_map, is_some, IfSome, if◌then◌else◌}
 use Rattle.std.specs.Int.{w32, to_be_bytes, from_be_bytes}
 use Rattle.std.proofs.lemmas.Bool.{lt-ltb, eqb-true}
 use Rattle.std.proofs.lemmas.List.{take_at, drop_at, drop_all}
 use Rattle.std.proofs.lemmas.List.Elements.{All-head, All-tail}
+use Rattle.std.proofs.Math.Seq.{take-append_seam, take-length}
 use Rattle.std.proofs.lemmas.Nat.{from_be_bytes-to_be_bytes_4}
 use Rattle.sse_journal.specs.AnyMoment.{LeavesOnly}
-use Rattle.sse_journal.proofs.Once.{gives_once, file_gives}
-use Rattle.sse_journal.specs.FileRecords.{records_at, records_in_file, LeavesRecords, TakesRecords}
+use Rattle.sse_journal.proofs.Once.{file_gives}
+use Rattle.sse_journal.specs.FileRecords.{records_at, records_counted, records_in_file, TakesRecords}
 use Rattle.sse_journal.specs.Files.{magic, framed, record_bytes, front, file, IsPayload, Gives, GivesWithOrWithout}
 use Rattle.sse_journal.specs.JournalView.{end_of, records_of, broken_by, IsJournalOf}
 use Rattle.sse_journal.specs.declared.journal.Journal.{Journal}
 
-inside : (a b : List ℕ) → Some a ≡ Some b → a ≡ b
+inside : {A : Type 0} (a b : A) → Some a ≡ Some b → a ≡ b
 inside a b e = cc
 
 -- where the commit byte isn't set there is no record more
@@ -96,25 +97,34 @@ pub journal_records : (payloads : List (List ℕ)) (j : Journal) (content : Opti
 journal_records payloads j content images is =
     ap (option_map records_in_file) is.settled.reads ∙ ap (λ r. Some r) (gives_records payloads (file payloads) (file_gives payloads is.payloads_are))
 
-pub takes_leaves_kept : (j : Journal) (content : Option (List ℕ)) (images : List ℕ → Type 0) → IfSome content images → TakesRecords j content images → LeavesRecords content images (option_map records_in_file content)
-takes_leaves_kept j None images now takes = refl
-takes_leaves_kept j (Some held) images now takes =
-    let payloads = takes.holds.0 in
-    let is = takes.holds.1 in
-    let same : held ≡ file payloads = inside held (file payloads) is.settled.reads in
-    (held, now, (payloads, subst (Gives payloads) (sym same) (file_gives payloads is.payloads_are), journal_records payloads j (Some held) images is))
+-- a journal that takes records counts all of its file
+module _ (j : Journal) (images : List ℕ → Type 0) where
+  pub counted_all : (content : Option (List ℕ)) → TakesRecords j content images → records_counted j content ≡ option_map records_in_file content
+  counted_all None takes = refl
+  counted_all (Some held) takes =
+      let payloads = takes.holds.0 in
+      let is = takes.holds.1 in
+      let records : records_in_file held ≡ payloads = inside (records_in_file held) payloads (journal_records payloads j (Some held) images is) in
+      ap (λ r. Some r) (ap (take (records_of j)) records ∙ ap (λ n. take n payloads) is.records_are ∙ take-length payloads ∙ sym records)
 
-pub takes_leaves_only : (j : Journal) (content : Option (List ℕ)) (images : List ℕ → Type 0) → TakesRecords j content images → (records : Option (List (List ℕ))) → LeavesRecords content images records → records ≡ option_map records_in_file content
-takes_leaves_only j None images takes records leaves = leaves
-takes_leaves_only j (Some held) images takes records leaves =
-    let payloads = takes.holds.0 in
-    let is = takes.holds.1 in
-    let image = leaves.0 in
-    let given = leaves.2 in
-    let same : image ≡ file payloads = is.settled.durable image leaves.1 in
-    given.2
-    ∙ ap (λ r. Some r) (gives_once given.0 payloads (file payloads) (subst (Gives given.0) same given.1) (file_gives payloads is.payloads_are))
-    ∙ sym (journal_records payloads j (Some held) images is)
+  -- what holds of the records that it is the journal of holds of those that it counts
+  pub counted_of : (content : Option (List ℕ)) (P : List (List ℕ) → Type 0) → TakesRecords j content images → ((payloads : List (List ℕ)) → IsJournalOf payloads j content images → P payloads) → IfSome (records_counted j content) P
+  counted_of None P takes each = tt
+  counted_of (Some held) P takes each =
+      let payloads = takes.holds.0 in
+      let is = takes.holds.1 in
+      let counted : take (records_of j) (records_in_file held) ≡ payloads =
+      inside (take (records_of j) (records_in_file held)) payloads (counted_all (Some held) takes ∙ journal_records payloads j (Some held) images is) in
+      subst P (sym counted) (each payloads is)
+
+-- the file of a journal's records gives them, and its disk leaves no other
+pub settled_gives : (payloads : List (List ℕ)) (j : Journal) (content : Option (List ℕ)) (images : List ℕ → Type 0) → IsJournalOf payloads j content images → (image : List ℕ) → images image → Gives payloads image
+settled_gives payloads j content images is image left = subst (Gives payloads) (sym (is.settled.durable image left)) (file_gives payloads is.payloads_are)
+
+-- a crash leaves the records that it counts
+pub takes_at_rest : (j : Journal) (content : Option (List ℕ)) (images left : List ℕ → Type 0) → TakesRecords j content images → ((image : List ℕ) → left image → images image)
+    → IfSome (records_counted j content) (λ records. (image : List ℕ) → left image → Gives records image)
+takes_at_rest j content images left takes only = counted_of j images content _ takes (λ payloads is image now. settled_gives payloads j content images is image (only image now))
 
 -- a journal with another buffer takes what it took
 pub takes_same : (j after : Journal) (content : Option (List ℕ)) (images : List ℕ → Type 0) → end_of after ≡ end_of j → records_of after ≡ records_of j → broken_by after ≡ broken_by j
@@ -153,36 +163,21 @@ module _ (j : Journal) (payload : List ℕ) (old_images new_images : List ℕ �
             ∙ ap (option_map (λ all. all ++ payload ∷ [])) (sym (journal_records payloads j (Some held) old_images is)),
       )
 
-  -- after a refusal a crash leaves the records of before, with the new one or without
-  pub takes_refused : (old new : Option (List ℕ)) → TakesRecords j old old_images → is_some new ≡ is_some old
+  -- after a refusal it counts the records of before
+  pub takes_refused : (old new : Option (List ℕ)) (after : Journal) → TakesRecords j old old_images → is_some new ≡ is_some old → records_of after ≡ records_of j → IfSome new new_images
       → ((payloads : List (List ℕ)) → IsJournalOf payloads j old old_images → (image : List ℕ) → new_images image → GivesWithOrWithout payloads payload image)
-      → (records : Option (List (List ℕ))) → LeavesRecords new new_images records
-      → (records ≡ option_map records_in_file old) ⊎ (records ≡ option_map (λ all. all ++ payload ∷ []) (option_map records_in_file old))
-  takes_refused None None takes told gives records leaves = inl leaves
-  takes_refused None (Some held) takes told gives records leaves = absurd (cc)
-  takes_refused (Some held) None takes told gives records leaves = absurd (cc)
-  takes_refused (Some held) (Some written) takes told gives records leaves =
+      → records_counted after new ≡ records_counted j old
+  takes_refused None None after takes told count now gives = refl
+  takes_refused None (Some held) after takes told count now gives = absurd (cc)
+  takes_refused (Some held) None after takes told count now gives = absurd (cc)
+  takes_refused (Some held) (Some written) after takes told count now gives =
       let payloads = takes.holds.0 in
       let is = takes.holds.1 in
-      let had = journal_records payloads j (Some held) old_images is in
-      let image = leaves.0 in
-      let given = leaves.2 in
-      elim (gives payloads is image leaves.1) [
-        | inl same ↦ inl (given.2 ∙ ap (λ r. Some r) (gives_once given.0 payloads image given.1 same) ∙ sym had)
-        | inr with_it ↦ inr (given.2 ∙ ap (λ r. Some r) (gives_once given.0 (payloads ++ payload ∷ []) image given.1 with_it) ∙ ap (option_map (λ all. all ++ payload ∷ [])) (sym had))
-      ]
-
-  -- and what it reads as is one of those
-  pub takes_reads : (old new : Option (List ℕ)) → TakesRecords j old old_images → is_some new ≡ is_some old → IfSome new new_images
-      → ((payloads : List (List ℕ)) → IsJournalOf payloads j old old_images → (image : List ℕ) → new_images image → GivesWithOrWithout payloads payload image)
-      → LeavesRecords new new_images (option_map records_in_file new)
-  takes_reads old None takes told now gives = refl
-  takes_reads None (Some held) takes told now gives = absurd (cc)
-  takes_reads (Some held) (Some written) takes told now gives =
-      let payloads = takes.holds.0 in
-      elim (gives payloads takes.holds.1 written now) [
-        | inl same ↦ (written, now, (payloads, same, ap (λ r. Some r) (gives_records payloads written same)))
-        | inr with_it ↦ (written, now, (payloads ++ payload ∷ [], with_it, ap (λ r. Some r) (gives_records (payloads ++ payload ∷ []) written with_it)))
+      let had : records_counted j (Some held) ≡ Some payloads = counted_all j old_images (Some held) takes ∙ journal_records payloads j (Some held) old_images is in
+      let size : records_of after ≡ length payloads = count ∙ is.records_are in
+      elim (gives payloads is written now) [
+        | inl same ↦ ap (λ r. Some r) (ap (take (records_of after)) (gives_records payloads written same) ∙ ap (λ n. take n payloads) size ∙ take-length payloads) ∙ sym had
+        | inr with_it ↦ ap (λ r. Some r) (ap (take (records_of after)) (gives_records (payloads ++ payload ∷ []) written with_it) ∙ ap (λ n. take n (payloads ++ payload ∷ [])) size ∙ take-append_seam payloads (payload ∷ [])) ∙ sym had
       ]
 
 -- what a crash leaves now, it left since the moment at which a call began

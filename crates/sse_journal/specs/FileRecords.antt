@@ -1,8 +1,7 @@
--- Which records a journal's file has, and which a disk under a journal may leave.
-use Rattle.std.specs.Prelude.{◌≡◌, ℕ, zero, suc, ◌+◌, ◌==◌, ◌&&◌, nat_lt, List, [], ◌∷◌, length, take, drop, Option, Some, None, IfSome, if◌then◌else◌}
+-- Which records a journal's file has, and which of them a journal counts.
+use Rattle.std.specs.Prelude.{◌≡◌, ℕ, zero, suc, ◌+◌, ◌==◌, ◌&&◌, nat_lt, List, [], ◌∷◌, length, take, drop, Option, None, option_map, IfSome, if◌then◌else◌}
 use Rattle.std.specs.Int.{w32, from_be_bytes}
-use Rattle.sse_journal.specs.Files.{Gives}
-use Rattle.sse_journal.specs.JournalView.{broken_by, IsJournalOf}
+use Rattle.sse_journal.specs.JournalView.{broken_by, records_of, IsJournalOf}
 use Rattle.sse_journal.specs.declared.journal.Journal.{Journal}
 
 -- the records at the front of these bytes, at most n: each behind a commit byte of 1 and its length, and before one byte more
@@ -17,10 +16,9 @@ records_at (suc n) (commit ∷ rest) =
 abbrev pub records_in_file : List ℕ → List (List ℕ)
 records_in_file bytes = records_at (length bytes) (drop 8 bytes)
 
--- one of the files that a crash may leave gives these records; nothing is told of a file that can't be read
-abbrev pub LeavesRecords : (content : Option (List ℕ)) (images : List ℕ → Type 0) → Option (List (List ℕ)) → Type 0
-LeavesRecords None images records = records ≡ None
-LeavesRecords (Some bytes) images records = (image : List ℕ) × images image × ((payloads : List (List ℕ)) × Gives payloads image × (records ≡ Some payloads))
+-- the records of a file that a journal counts, where the file is told: those that it has taken
+abbrev pub records_counted : Journal → (content : Option (List ℕ)) → Option (List (List ℕ))
+records_counted j content = option_map (λ file. take (records_of j) (records_in_file file)) content
 
 -- a journal that isn't broken, of the records that its disk holds
 pub record TakesRecords (j : Journal) (content : Option (List ℕ)) (images : List ℕ → Type 0) : Type 0 where

@@ -1,6 +1,7 @@
 pub mod Causes
 pub mod Changes
 pub mod Images
+pub mod Kept
 pub mod MemSink
 pub mod MemSource
 pub mod StdSink

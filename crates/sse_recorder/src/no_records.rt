@@ -8,21 +8,22 @@ use sse_outside::DeviceFault;
 pub struct NoRecords;
 
 impl Recorder for NoRecords {
-    ghost use Rattle.std.specs.Prelude.{None, refl};
+    ghost use Rattle.std.specs.Prelude.{[], None, refl};
+    ghost use Rattle.sse_outside.specs.Kept.{Kept};
 
-    ghost kept = { λ _. None };
+    ghost kept = { λ _. record { records = None; refused = [] } };
 
-    ghost leaves = { λ _ records. records ≡ None };
+    ghost moment = { λ _. 0 };
+
+    ghost left_since = { λ _ _ _. Unit {0} };
 
     ghost whole = { λ _. Unit {0} };
 
     ghost faults = { λ _. 0 };
 
-    ghost leaves_kept = { λ recorder whole. refl };
+    ghost at_rest = { λ recorder whole. record { none = refl; leaves = tt } };
 
-    ghost leaves_only = { λ recorder records whole leaves. leaves };
-
-    fn keep(&mut self, payload: &[u8]) -> Result<(), DeviceFault> {
+    fn keep(&mut self, payload: Vec<u8>) -> Result<(), DeviceFault> {
         Ok(())
     }
 }

@@ -18,11 +18,12 @@ use Rattle.sse_client.specs.Turns.{ending}
 use Rattle.sse_client.specs.declared.session.Stage.TheVariants.{Searching}
 use Rattle.sse_client.specs.Keeping.{WholeAtStop}
 use Rattle.sse_client.proofs.RecordsLast.{StaysWhole-err, whole_at, whole_at_stop}
+use Rattle.sse_recorder.proofs.Growing.{keeps-same}
 use Rattle.sse_client.proofs.going_on.go_on.Goals as goal
 
 pub run_lines-requires : goal.run_lines-requires
 run_lines-requires g c = record {
-  prepared = c.requires.prepared ∙ sym (c.in_ok-ready.ensures.key c.requires.knows.0 c.requires.knows.1);
+  prepared = c.requires.prepared ∙ sym (c.in_ok-ready.ensures.key c.requires.restores.0 c.requires.restores.2);
   whole = c.requires.whole;
   few = c.requires.few;
 }
@@ -134,3 +135,12 @@ returns-in_err-print-clause-whole_after g c =
     let stop = stop_of_sink c.in_err-print.field-0.0 in
     let whole = g.R.Recorder.whole c.args.recorder.now in
     StaysWhole-err WholeAtStop whole c.from_residual-in_err-print.result stop c.from_residual-in_err-print.ensures.1 (whole_at_stop whole c.requires.whole stop)
+
+pub returns-in_err-buffer-clause-keeps_on : goal.returns-in_err-buffer-clause-keeps_on
+returns-in_err-buffer-clause-keeps_on g c = keeps-same g.R.Recorder.kept g.R.Recorder.moment g.R.Recorder.left_since c.args.recorder.now (g.met.R.Recorder.at_rest c.args.recorder.now c.requires.whole)
+
+pub returns-in_err-ready-clause-keeps_on : goal.returns-in_err-ready-clause-keeps_on
+returns-in_err-ready-clause-keeps_on g c = keeps-same g.R.Recorder.kept g.R.Recorder.moment g.R.Recorder.left_since c.args.recorder.now (g.met.R.Recorder.at_rest c.args.recorder.now c.requires.whole)
+
+pub returns-in_err-print-clause-keeps_on : goal.returns-in_err-print-clause-keeps_on
+returns-in_err-print-clause-keeps_on g c = keeps-same g.R.Recorder.kept g.R.Recorder.moment g.R.Recorder.left_since c.args.recorder.now (g.met.R.Recorder.at_rest c.args.recorder.now c.requires.whole)

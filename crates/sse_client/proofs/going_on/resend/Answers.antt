@@ -1,4 +1,4 @@
-use Rattle.std.proofs.Common.{ℕ, Ok, sym, subst, ◌∙◌}
+use Rattle.std.proofs.Common.{inr, ℕ, Ok, sym, subst, ◌∙◌}
 use Rattle.client_core.specs.Resumes.{Resumes}
 use Rattle.client_core.specs.StandsFor.{StandsFor}
 use Rattle.client_registry.specs.Run.{at_first}
@@ -10,6 +10,10 @@ use Rattle.sse_client.proofs.GoingOn.{owed-lacking, resending-cut, resending-lac
 use Rattle.sse_client.proofs.TranscriptsJoined.{IfErr-from, KeepsLink-err}
 use Rattle.sse_client.specs.Calls.{shows}
 use Rattle.sse_client.specs.GoingOn.{StopsResending, frames_lacking}
+use Rattle.client_records.specs.Openings.{Opens}
+use Rattle.keyed_fn.specs.KeyFormulas.{mark_of}
+use Rattle.sse_client.proofs.WholeRun.{IfSome-then}
+use Rattle.sse_client.specs.Keeping.{OwesLast}
 use Rattle.sse_client.proofs.going_on.resend.Goals as goal
 
 pub returns-in_err-frames-clause-stopped : goal.returns-in_err-frames-clause-stopped
@@ -106,3 +110,13 @@ returns-in_err-frames-clause-unkept g c =
 
 pub returns-in-Err-clause-unkept : goal.returns-in-Err-clause-unkept
 returns-in-Err-clause-unkept g c = λ count. subst (KeepCommandCause count count) (sym c.stop_of.ensures) (resume_unkept count c.in-Err.fault)
+
+pub catch_up-requires-clause-recorded : goal.catch_up-requires-clause-recorded
+catch_up-requires-clause-recorded g c =
+    let f = keyed_fn g.K.Keyed.prf g.K.Keyed.pad in
+    let key = c.args.client.key in
+    let next = c.in_ok-next.next in
+    let run = c.requires.restores.0 in
+    let r = subst (λ x. Resumes f key run next (Ok x)) c.in-Ok-Behind.field-0-is (c.in-Ok-Behind.ensures.resumes run c.requires.restores.2) in
+    IfSome-then (g.R.Recorder.kept c.args.recorder.now).records (λ payloads. Opens (mark_of f key) payloads run) (λ records. OwesLast records c.in-Ok-Behind.behind.state)
+    (λ records opens. inr (inr (f, key, run, next, opens, owed-lacking f key run next c.in-Ok-Behind.behind r.2))) c.requires.restores.1.1

@@ -12,6 +12,7 @@ use Rattle.sse_client.specs.declared.lines.Turn.{Turn}
 use Rattle.sse_client.proofs.RunGoesOn.{ends-joined, ends-stopped_so, there-joined, there-start}
 use Rattle.sse_client.specs.Keeping.{WholeAtStop}
 use Rattle.sse_client.proofs.RecordsLast.{StaysWhole-err}
+use Rattle.sse_recorder.proofs.Growing.{keeps-same, keeps-then}
 use Rattle.sse_client.proofs.lines.run_lines.Goals as goal
 
 pub lines-init : goal.lines-init
@@ -23,6 +24,7 @@ lines-init g c = record {
   shortages = omega arith;
   began = refl;
   whole = c.requires.whole;
+  keeps_on = keeps-same g.R.Recorder.kept g.R.Recorder.moment g.R.Recorder.left_since c.args.recorder.now (g.met.R.Recorder.at_rest c.args.recorder.now c.requires.whole);
   recorder = refl;
   link = refl;
   there = λ place at. there-start (keyed_fn g.K.Keyed.prf g.K.Keyed.pad) place c.args.session.stage c.args.input.now.number _ (has_refused c.args.session.refusals) _ at;
@@ -44,6 +46,8 @@ lines-preserved g c =
       sink = c.in_ok-next.ensures.sink.steady ∙ c.lines.invariant.sink;
       shortages = omega (arith, c.lines.invariant.shortages, c.in_ok-next.ensures.sink.no_fewer);
       whole = c.in_ok-next.ensures.whole_after.after;
+      keeps_on = keeps-then g.R.Recorder.kept g.R.Recorder.moment g.R.Recorder.left_since c.args.recorder.now c.lines.recorder c.take_turn.new.recorder c.lines.invariant.keeps_on
+          (g.met.R.Recorder.at_rest c.lines.recorder c.lines.invariant.whole).none c.in_ok-next.ensures.keeps_on;
       recorder = c.in_ok-next.ensures.recorder.steady ∙ c.lines.invariant.recorder;
       began = c.in_ok-next.ensures.link.began ∙ c.lines.invariant.began;
       link = c.in_ok-next.ensures.link.steady ∙ c.lines.invariant.link;
@@ -77,3 +81,11 @@ returns-in-End-clause-at_end g c = subst (λ (t : Turn). OnEnd t (IsAtEnd (g.S.S
 pub returns-in_err-next-clause-whole_after : goal.returns-in_err-next-clause-whole_after
 returns-in_err-next-clause-whole_after g c =
     StaysWhole-err WholeAtStop (g.R.Recorder.whole c.take_turn.new.recorder) c.from_residual.result c.in_err-next.field-0.0 c.from_residual.ensures.1 c.in_err-next.ensures.whole_after.stopped
+
+pub returns-in_err-next-clause-keeps_on : goal.returns-in_err-next-clause-keeps_on
+returns-in_err-next-clause-keeps_on g c = keeps-then g.R.Recorder.kept g.R.Recorder.moment g.R.Recorder.left_since c.args.recorder.now c.lines.recorder c.take_turn.new.recorder c.lines.invariant.keeps_on
+    (g.met.R.Recorder.at_rest c.lines.recorder c.lines.invariant.whole).none c.in_err-next.ensures.keeps_on
+
+pub returns-in-End-clause-keeps_on : goal.returns-in-End-clause-keeps_on
+returns-in-End-clause-keeps_on g c = keeps-then g.R.Recorder.kept g.R.Recorder.moment g.R.Recorder.left_since c.args.recorder.now c.lines.recorder c.take_turn.new.recorder c.lines.invariant.keeps_on
+    (g.met.R.Recorder.at_rest c.lines.recorder c.lines.invariant.whole).none c.in_ok-next.ensures.keeps_on

@@ -6,6 +6,7 @@ use Rattle.script_meaning.specs.Runs.{moment}
 use Rattle.sse_client.specs.Stages.{key_of}
 use Rattle.sse_client.specs.Stands.{IsAt, seen, outside_of, has_refused}
 use Rattle.sse_client.specs.Turns.{IsThere}
+use Rattle.sse_recorder.specs.KeepsOn.{KeepsOn}
 use Rattle.sse_client.proofs.lines.run_lines.Given as goal
 
 abbrev pub invariant-lines : goal.invariant-lines
@@ -17,6 +18,7 @@ invariant-lines g l = record {
   shortages : g.W.Sink.shortages l.fn.sink ≤ g.W.Sink.shortages l.sink;
   began : g.L.Link.began l.link ≡ g.L.Link.began l.fn.link;
   whole : g.R.Recorder.whole l.recorder;
+  keeps_on : KeepsOn g.R.Recorder.kept g.R.Recorder.moment g.R.Recorder.left_since l.fn.recorder l.recorder;
   recorder : g.R.Recorder.faults l.recorder ≡ g.R.Recorder.faults l.fn.recorder;
   link : g.L.Link.faults l.link ≡ g.L.Link.faults l.fn.link;
   there : (place : Place) → IsAt (keyed_fn g.K.Keyed.prf g.K.Keyed.pad) l.fn.session.stage place

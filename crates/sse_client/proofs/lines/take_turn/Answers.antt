@@ -14,6 +14,7 @@ use Rattle.sse_client.proofs.TranscriptsJoined.{KeepsLink-err, KeepsRecorder-err
 use Rattle.sse_client.proofs.RunGoesOn.{line_in-read, line_in-none, command_of, ends-bad, ends-input, ends-end, ends-stopped, carries-printed, leads-bad, leads-stopped, stops-unprinted, there-empty, there-next, there-start}
 use Rattle.sse_client.specs.Keeping.{WholeAtStop}
 use Rattle.sse_client.proofs.RecordsLast.{StaysWhole-err, whole_at_stop}
+use Rattle.sse_recorder.proofs.Growing.{keeps-same}
 use Rattle.sse_client.proofs.lines.take_turn.Goals as goal
 
 pub returns-in_err-advance-clause-turns : goal.returns-in_err-advance-clause-turns
@@ -136,3 +137,18 @@ returns-in_err-print-in_default-clause-whole_after g c =
     let stop = stop_of_sink c.in_err-print-in_default.field-0.0 in
     let whole = g.R.Recorder.whole c.take_line.new.recorder in
     StaysWhole-err WholeAtStop whole c.from_residual-in_err-print-in_default.result stop c.from_residual-in_err-print-in_default.ensures.1 (whole_at_stop whole c.in_ok-next-in_default.ensures.whole_after.after stop)
+
+pub returns-in_err-advance-clause-keeps_on : goal.returns-in_err-advance-clause-keeps_on
+returns-in_err-advance-clause-keeps_on g c = keeps-same g.R.Recorder.kept g.R.Recorder.moment g.R.Recorder.left_since c.args.recorder.now (g.met.R.Recorder.at_rest c.args.recorder.now c.requires.whole)
+
+pub returns-then-not-branch-clause-keeps_on : goal.returns-then-not-branch-clause-keeps_on
+returns-then-not-branch-clause-keeps_on g c = keeps-same g.R.Recorder.kept g.R.Recorder.moment g.R.Recorder.left_since c.args.recorder.now (g.met.R.Recorder.at_rest c.args.recorder.now c.requires.whole)
+
+pub returns-in_err-line-clause-keeps_on : goal.returns-in_err-line-clause-keeps_on
+returns-in_err-line-clause-keeps_on g c = keeps-same g.R.Recorder.kept g.R.Recorder.moment g.R.Recorder.left_since c.args.recorder.now (g.met.R.Recorder.at_rest c.args.recorder.now c.requires.whole)
+
+pub returns-in-Empty-clause-keeps_on : goal.returns-in-Empty-clause-keeps_on
+returns-in-Empty-clause-keeps_on g c = keeps-same g.R.Recorder.kept g.R.Recorder.moment g.R.Recorder.left_since c.args.recorder.now (g.met.R.Recorder.at_rest c.args.recorder.now c.requires.whole)
+
+pub returns-in-Key-clause-keeps_on : goal.returns-in-Key-clause-keeps_on
+returns-in-Key-clause-keeps_on g c = keeps-same g.R.Recorder.kept g.R.Recorder.moment g.R.Recorder.left_since c.args.recorder.now (g.met.R.Recorder.at_rest c.args.recorder.now c.requires.whole)

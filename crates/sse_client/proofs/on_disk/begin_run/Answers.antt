@@ -1,12 +1,17 @@
-use Rattle.std.proofs.Common.{◌≡◌, inl, inr, ap, sym, subst, ◌∙◌}
+use Rattle.std.proofs.Common.{◌≡◌, [], ◌∷◌, inl, inr, ap, sym, subst, ◌∙◌, arith}
+use Rattle.std.proofs.lemmas.Bool.{true≢false}
+use Rattle.std.specs.Option.{option_map_or}
+use Rattle.std.specs.Prelude.{IfSome}
 use Rattle.keyed_fn.specs.KeyedFn.{IsKeyedFn, keyed_fn}
-use Rattle.sse_client.proofs.GoingOn.{for_all}
+use Rattle.sse_journal.specs.FileRecords.{records_counted}
+use Rattle.sse_outside.specs.Kept.{Kept}
+use Rattle.sse_recorder.specs.declared.journal_recorder.JournalRecorder.{JournalRecorder}
+use Rattle.sse_client.proofs.KeptOnDisk.{behind_start, gives_own, kept_at_start, kept_on_disk}
+use Rattle.sse_client.proofs.RecordsLast.{takes_lasts}
 use Rattle.sse_client.proofs.RunsOnDisk.{has_begun, not_begun, unopened}
 use Rattle.sse_client.proofs.WholeRun.{IfSome-then}
-use Rattle.std.specs.Prelude.{IfSome}
-use Rattle.sse_client.specs.OnDisk.{HasBegun, IsNotBegun, Lasts, kept_on}
+use Rattle.sse_client.specs.OnDisk.{HasBegun, IsNotBegun, Lasts, kept_on, seen_with}
 use Rattle.sse_client.specs.Stands.{outside_of, seen}
-use Rattle.sse_client.proofs.RecordsLast.{takes_lasts}
 use Rattle.sse_client.proofs.on_disk.begin_run.Goals as goal
 
 pub returns-in-Ok-clause-begun : goal.returns-in-Ok-clause-begun
@@ -29,28 +34,42 @@ returns-in-Ok-clause-begun g c =
     let f2 = g.W.Sink.faults c.whole_run-status.new.sink in
     let s0 = g.W.Sink.shortages c.args.sink.now in
     let s2 = g.W.Sink.shortages c.whole_run-status.new.sink in
-    let old : kept_on (g.D.Disk.content c.new-recorder.result.disk) ≡ kept_on (g.D.Disk.content c.args.disk) = ap (λ d. kept_on (g.D.Disk.content d)) c.new-recorder.ensures.disk ∙ c.in-Ok.ensures.same_records in
-    let new : kept_on (g.D.Disk.content c.whole_run-status.new.recorder.disk) ≡ kept_on (g.D.Disk.content c.into_disk.result) = sym (ap (λ d. kept_on (g.D.Disk.content d)) c.into_disk.ensures) in
-    IfSome-then remaining (λ bytes. HasBegun f bytes (outside_of (seen told (kept_on (g.D.Disk.content c.args.disk))) written) (outside_of (seen told' (kept_on (g.D.Disk.content c.into_disk.result))) written') status f0 f2 s0 s2) _ (λ bytes begun. inr begun)
-    (subst (λ k. IfSome remaining (λ bytes. HasBegun f bytes (outside_of (seen told (kept_on (g.D.Disk.content c.args.disk))) written) (outside_of (seen told' k) written') status f0 f2 s0 s2)) new
-    (subst (λ k. IfSome remaining (λ bytes. HasBegun f bytes (outside_of (seen told k) written) (outside_of (seen told' (kept_on (g.D.Disk.content c.whole_run-status.new.recorder.disk))) written') status f0 f2 s0 s2)) old
-    (has_begun f laws remaining (outside_of (seen told (kept_on (g.D.Disk.content c.new-recorder.result.disk))) written) (outside_of (seen told' (kept_on (g.D.Disk.content c.whole_run-status.new.recorder.disk))) written') status f0 f2 s0 s2
-    c.whole_run-status.ensures.runs c.whole_run-status.ensures.last_line)))
+    let begun = c.begin.new.disk in
+    let recorder = c.new-recorder.result in
+    let kept : JournalRecorder g.row.D.Denot → Kept = λ r. record { records = records_counted r.journal (g.D.Disk.content r.disk); refused = option_map_or (λ payload. payload.items ∷ []) r.refused [] } in
+    let first : kept recorder ≡ kept_on (g.D.Disk.content begun) =
+    ap (λ refused. record { records = records_counted recorder.journal (g.D.Disk.content recorder.disk); refused = option_map_or (λ payload. payload.items ∷ []) refused [] }) c.new-recorder.ensures.none
+    ∙ kept_at_start recorder.journal (g.D.Disk.content recorder.disk) (g.D.Disk.images recorder.disk) c.new-recorder.ensures.whole
+    ∙ ap (λ d. kept_on (g.D.Disk.content d)) c.new-recorder.ensures.disk in
+    let P = λ (k : Kept). IfSome remaining (λ bytes. HasBegun f bytes (outside_of (seen told (kept_on (g.D.Disk.content begun))) written) (outside_of (seen told' k) written') status f0 f2 s0 s2) in
+    let has : P (kept c.whole_run-status.new.recorder) =
+    subst (λ k. IfSome remaining (λ bytes. HasBegun f bytes (outside_of (seen told k) written) (outside_of (seen told' (kept c.whole_run-status.new.recorder)) written') status f0 f2 s0 s2)) first
+    (has_begun f laws remaining (outside_of (seen told (kept recorder)) written) (outside_of (seen told' (kept c.whole_run-status.new.recorder)) written') status f0 f2 s0 s2
+    c.whole_run-status.ensures.runs c.whole_run-status.ensures.last_line) in
+    inr (behind_start g.D.Disk.content g.D.Disk.images g.D.Disk.moment g.D.Disk.left_since c.args.disk begun c.into_disk.result P
+    (λ (k : Kept). IfSome remaining (λ bytes. HasBegun f bytes (seen_with told (g.D.Disk.content c.args.disk) written) (outside_of (seen told' k) written') status f0 f2 s0 s2))
+    (λ k is. subst (λ records. IfSome remaining (λ bytes. HasBegun f bytes (outside_of (seen told (record { records = records; refused = [] })) written) (outside_of (seen told' k) written') status f0 f2 s0 s2)) c.in-Ok.ensures.same_records is)
+    (gives_own (g.D.Disk.content c.args.disk) _ (λ file is. ([], is.gives)) c.in-Ok.ensures.begun) c.in-Ok.ensures.same_records (elim c.in-Ok.ensures.any_moment [ inl synced ↦ synced | inr refused ↦ absurd (true≢false (sym refused.0)) ])
+    (kept_on_disk g.D.Disk.content g.D.Disk.images g.D.Disk.moment g.D.Disk.left_since (λ r. r.disk) kept recorder c.whole_run-status.new.recorder begun c.into_disk.result P
+    c.new-recorder.ensures.disk c.into_disk.ensures first (λ image is. g.met.D.Disk.counts_now c.whole_run-status.new.recorder.disk (g.D.Disk.moment c.whole_run-status.new.recorder.disk) image (omega arith) is)
+    c.whole_run-status.ensures.keeps_on has))
 
 pub returns-in-Err-clause-begun : goal.returns-in-Err-clause-begun
 returns-in-Err-clause-begun g c =
     let stop = c.in-Err.stop in
     let content = g.D.Disk.content c.args.disk in
-    for_all (g.S.Source.remaining c.args.source.now) _ (λ bytes. inl
-    (unopened IsNotBegun stop (g.L.Link.transcript c.args.link.now) content (g.D.Disk.content c.begin.new.disk) (g.W.Sink.written c.args.sink.now) (g.W.Sink.written c.finish_unopened.new.sink) c.finish_unopened.result
-    (g.W.Sink.faults c.args.sink.now) (g.W.Sink.faults c.finish_unopened.new.sink) (g.W.Sink.shortages c.args.sink.now) (g.W.Sink.shortages c.finish_unopened.new.sink)
-    (not_begun stop content (λ e. c.in-Err.ensures.has_records (search e)) (λ e. IfSome-then content _ _ (λ file is. is.0) (c.in-Err.ensures.no_journal (search e))) (λ n e. c.in-Err.ensures.never_bad n (search e)) (λ e. c.in-Err.ensures.never_key (search e)))
-    (λ disk memory. c.in-Err.ensures.same_refused (λ e. disk (cc)) (λ e. memory (cc))) c.finish_unopened.ensures.line c.finish_unopened.ensures.status))
+    inl (
+      unopened IsNotBegun stop (g.L.Link.transcript c.args.link.now) content (g.D.Disk.content c.begin.new.disk) (g.W.Sink.written c.args.sink.now) (g.W.Sink.written c.finish_unopened.new.sink) c.finish_unopened.result
+          (g.W.Sink.faults c.args.sink.now) (g.W.Sink.faults c.finish_unopened.new.sink) (g.W.Sink.shortages c.args.sink.now) (g.W.Sink.shortages c.finish_unopened.new.sink)
+          (not_begun stop content (λ e. c.in-Err.ensures.has_records (search e)) (λ e. IfSome-then content _ _ (λ file is. is.0) (c.in-Err.ensures.no_journal (search e))) (λ n e. c.in-Err.ensures.never_bad n (search e)) (λ e. c.in-Err.ensures.never_key (search e)))
+          (λ disk memory. c.in-Err.ensures.same_refused (λ e. disk (cc)) (λ e. memory (cc))) c.finish_unopened.ensures.line c.finish_unopened.ensures.status,
+      elim c.in-Err.ensures.any_moment [ inl synced ↦ inl synced | inr refused ↦ inr refused.1 ],
+    )
 
 pub returns-in-Ok-clause-lasts : goal.returns-in-Ok-clause-lasts
 returns-in-Ok-clause-lasts g c = λ disk memory other.
     let recorder = c.whole_run-status.new.recorder in
-    subst (λ d. Lasts (g.D.Disk.content d) (g.D.Disk.images d)) (sym c.into_disk.ensures) (takes_lasts recorder.journal (g.D.Disk.content recorder.disk) (g.D.Disk.images recorder.disk) (c.whole_run-status.ensures.lasts disk memory))
+    subst (λ d. Lasts (g.D.Disk.content d) (g.D.Disk.images d)) (sym c.into_disk.ensures) (takes_lasts recorder.journal (g.D.Disk.content recorder.disk) (g.D.Disk.images recorder.disk) (c.whole_run-status.ensures.lasts disk memory).0)
 
 pub returns-in-Err-clause-lasts : goal.returns-in-Err-clause-lasts
 returns-in-Err-clause-lasts g c = λ disk memory other. elim c.finish_unopened.ensures.known [

@@ -1,4 +1,6 @@
-use Rattle.std.proofs.Common.{◌≡◌, ◌+◌, [], refl, ap, sym, subst, ◌∙◌, arith}
+use Rattle.std.proofs.Common.{◌≡◌, ◌+◌, [], ◌∷◌, refl, ap, sym, subst, ◌∙◌, arith}
+use Rattle.std.specs.Option.{option_map_or}
+use Rattle.std.specs.Prelude.{IfSome}
 use Rattle.keyed_fn.specs.KeyedFn.{IsKeyedFn, keyed_fn}
 use Rattle.run_texts.specs.Stops.{input_cause, journal_cause, journal_line, journal_status, last_line, stop_status}
 use Rattle.run_texts.specs.declared.stop_cause.StopCause.TheVariants.{Input as input}
@@ -6,11 +8,16 @@ use Rattle.script_meaning.specs.Stops as ends
 use Rattle.script_meaning.specs.Stops.{status_of, stop_text}
 use Rattle.sse_outside.specs.Fronts.{TookOrRose}
 use Rattle.sse_script.specs.TextLines.{lines_left}
+use Rattle.sse_journal.specs.FileRecords.{records_counted}
+use Rattle.sse_outside.specs.Kept.{Kept}
+use Rattle.sse_recorder.specs.declared.journal_recorder.JournalRecorder.{JournalRecorder}
+use Rattle.sse_client.proofs.KeptOnDisk.{behind_reading, kept_at_start, kept_on_disk, kept_still}
 use Rattle.sse_client.proofs.LastLine.{ends_line}
 use Rattle.sse_client.proofs.RunsOnDisk.{has_gone_on, has_gone_on-held}
-use Rattle.sse_client.specs.GoingOn.{GoesOnTo, HasEndedAfter}
-use Rattle.sse_client.specs.OnDisk.{Lasts, held_stop, kept_on, seen_with}
+use Rattle.sse_client.specs.GoingOn.{GoesOnTo, HasEndedAfter, Restores}
+use Rattle.sse_client.specs.OnDisk.{HasGoneOn, Lasts, held_stop, kept_on, seen_with}
 use Rattle.sse_client.proofs.RecordsLast.{takes_lasts}
+use Rattle.sse_client.specs.Stands.{outside_of, seen}
 use Rattle.sse_client.proofs.on_disk.go_on_from.Goals as goal
 
 pub returns-in-Ok-clause-gone_on : goal.returns-in-Ok-clause-gone_on
@@ -33,15 +40,27 @@ returns-in-Ok-clause-gone_on g c =
     let status = c.gone_on-status.result in
     let told' = g.L.Link.transcript c.gone_on-status.new.link in
     let written' = g.W.Sink.written c.gone_on-status.new.sink in
-    let same : g.D.Disk.content c.new-recorder.result.disk ≡ g.D.Disk.content c.args.disk = ap (λ d. g.D.Disk.content d) c.new-recorder.ensures.disk ∙ c.in-Ok.ensures.kept in
-    let given : g.D.Disk.content c.gone_on-status.new.recorder.disk ≡ g.D.Disk.content c.into_disk.result = sym (ap (λ d. g.D.Disk.content d) c.into_disk.ensures) in
-    has_gone_on f laws remaining key had.0 next behind (seen_with told (g.D.Disk.content c.args.disk) written) (seen_with told' (g.D.Disk.content c.into_disk.result) written') status
-    (g.W.Sink.faults c.args.sink.now) (g.W.Sink.faults c.gone_on-status.new.sink) (g.W.Sink.shortages c.args.sink.now) (g.W.Sink.shortages c.gone_on-status.new.sink) c.in-Ok.ensures.found had.1
-    (subst (λ content. HasEndedAfter f key had.0 next behind (seen_with told (g.D.Disk.content c.args.disk) written) (seen_with told' content written') status
-    (g.W.Sink.faults c.args.sink.now) (g.W.Sink.faults c.gone_on-status.new.sink) (g.W.Sink.shortages c.args.sink.now) (g.W.Sink.shortages c.gone_on-status.new.sink)) given
-    (subst (λ content. HasEndedAfter f key had.0 next behind (seen_with told content written) (seen_with told' (g.D.Disk.content c.gone_on-status.new.recorder.disk) written') status
-    (g.W.Sink.faults c.args.sink.now) (g.W.Sink.faults c.gone_on-status.new.sink) (g.W.Sink.shortages c.args.sink.now) (g.W.Sink.shortages c.gone_on-status.new.sink)) same
-    (c.gone_on-status.ensures.gone_on had.0 had.2)))
+    let f0 = g.W.Sink.faults c.args.sink.now in
+    let f2 = g.W.Sink.faults c.gone_on-status.new.sink in
+    let s0 = g.W.Sink.shortages c.args.sink.now in
+    let s2 = g.W.Sink.shortages c.gone_on-status.new.sink in
+    let read = c.restored.new.disk in
+    let recorder = c.new-recorder.result in
+    let kept : JournalRecorder g.row.D.Denot → Kept = λ r. record { records = records_counted r.journal (g.D.Disk.content r.disk); refused = option_map_or (λ payload. payload.items ∷ []) r.refused [] } in
+    let first : kept recorder ≡ kept_on (g.D.Disk.content read) =
+    ap (λ refused. record { records = records_counted recorder.journal (g.D.Disk.content recorder.disk); refused = option_map_or (λ payload. payload.items ∷ []) refused [] }) c.new-recorder.ensures.none
+    ∙ kept_at_start recorder.journal (g.D.Disk.content recorder.disk) (g.D.Disk.images recorder.disk) c.new-recorder.ensures.whole
+    ∙ ap (λ d. kept_on (g.D.Disk.content d)) c.new-recorder.ensures.disk in
+    let P = λ (k : Kept). IfSome remaining (λ bytes. HasGoneOn f bytes (seen_with told (g.D.Disk.content c.args.disk) written) (outside_of (seen told' k) written') status f0 f2 s0 s2) in
+    let has : P (kept c.gone_on-status.new.recorder) =
+    has_gone_on f laws remaining key had.0 next behind (seen_with told (g.D.Disk.content c.args.disk) written) (outside_of (seen told' (kept c.gone_on-status.new.recorder)) written') status
+    f0 f2 s0 s2 c.in-Ok.ensures.found had.1
+    (subst (λ k. HasEndedAfter f key had.0 next behind (outside_of (seen told k) written) (outside_of (seen told' (kept c.gone_on-status.new.recorder)) written') status f0 f2 s0 s2)
+    (first ∙ ap kept_on c.in-Ok.ensures.kept) (c.gone_on-status.ensures.gone_on had.0 had.2)) in
+    behind_reading g.D.Disk.content g.D.Disk.images g.D.Disk.moment g.D.Disk.left_since c.args.disk read c.into_disk.result P c.args.journal c.requires.holds c.in-Ok.ensures.kept c.in-Ok.ensures.quiet
+    (kept_on_disk g.D.Disk.content g.D.Disk.images g.D.Disk.moment g.D.Disk.left_since (λ r. r.disk) kept recorder c.gone_on-status.new.recorder read c.into_disk.result P
+    c.new-recorder.ensures.disk c.into_disk.ensures first (λ image is. g.met.D.Disk.counts_now c.gone_on-status.new.recorder.disk (g.D.Disk.moment c.gone_on-status.new.recorder.disk) image (omega arith) is)
+    c.gone_on-status.ensures.keeps_on has)
 
 pub returns-in-Err-Journal-clause-gone_on : goal.returns-in-Err-Journal-clause-gone_on
 returns-in-Err-Journal-clause-gone_on g c =
@@ -64,10 +83,11 @@ returns-in-Err-Journal-clause-gone_on g c =
     let line = subst (λ s. TookOrRose written (g.W.Sink.written c.finish_unopened.new.sink) (journal_line s) (g.W.Sink.faults c.args.sink.now) (g.W.Sink.faults c.finish_unopened.new.sink) (g.W.Sink.shortages c.args.sink.now) (g.W.Sink.shortages c.finish_unopened.new.sink))
     c.in-Err-Journal.stop-is c.finish_unopened.ensures.line in
     let goes = subst (λ s. GoesOnTo f (lines_left [] remaining) now now (held_stop s)) c.in-Err-Journal.field-0-is (c.in-Err-Journal.ensures.stopped told written) in
-    has_gone_on-held f laws remaining now (seen_with told (g.D.Disk.content c.restored.new.disk) (g.W.Sink.written c.finish_unopened.new.sink)) stop status (g.W.Sink.faults c.args.sink.now) (g.W.Sink.faults c.finish_unopened.new.sink)
-    (g.W.Sink.shortages c.args.sink.now) (g.W.Sink.shortages c.finish_unopened.new.sink) goes refl (ap kept_on c.in-Err-Journal.ensures.kept)
+    kept_still g.D.Disk.content g.D.Disk.images g.D.Disk.moment g.D.Disk.left_since c.args.disk c.restored.new.disk _ c.args.journal c.requires.holds c.in-Err-Journal.ensures.holds c.in-Err-Journal.ensures.kept c.in-Err-Journal.ensures.quiet
+    (has_gone_on-held f laws remaining now (outside_of (seen told (kept_on old)) (g.W.Sink.written c.finish_unopened.new.sink)) stop status (g.W.Sink.faults c.args.sink.now) (g.W.Sink.faults c.finish_unopened.new.sink)
+    (g.W.Sink.shortages c.args.sink.now) (g.W.Sink.shortages c.finish_unopened.new.sink) goes refl refl
     (ends_line stop written (g.W.Sink.written c.finish_unopened.new.sink) status (g.W.Sink.faults c.args.sink.now) (g.W.Sink.faults c.args.sink.now) (g.W.Sink.faults c.finish_unopened.new.sink)
-    (g.W.Sink.shortages c.args.sink.now) (g.W.Sink.shortages c.args.sink.now) (g.W.Sink.shortages c.finish_unopened.new.sink) is line (λ other. refl) (omega arith)) is
+    (g.W.Sink.shortages c.args.sink.now) (g.W.Sink.shortages c.args.sink.now) (g.W.Sink.shortages c.finish_unopened.new.sink) is line (λ other. refl) (omega arith)) is)
 
 pub returns-clause-gone_on : goal.returns-clause-gone_on
 returns-clause-gone_on g c =
@@ -90,15 +110,16 @@ returns-clause-gone_on g c =
     let line = subst (λ s. TookOrRose written (g.W.Sink.written c.finish.new.sink) (last_line (input s)) (g.W.Sink.faults c.args.sink.now) (g.W.Sink.faults c.finish.new.sink) (g.W.Sink.shortages c.args.sink.now) (g.W.Sink.shortages c.finish.new.sink))
     c.in-Err-Input.stop-is c.finish.ensures.line in
     let goes = subst (λ s. GoesOnTo f (lines_left [] remaining) now now (held_stop s)) c.in-Err-Input.field-0-is (c.in-Err-Input.ensures.stopped told written) in
-    has_gone_on-held f laws remaining now (seen_with told (g.D.Disk.content c.restored.new.disk) (g.W.Sink.written c.finish.new.sink)) stop status (g.W.Sink.faults c.args.sink.now) (g.W.Sink.faults c.finish.new.sink)
-    (g.W.Sink.shortages c.args.sink.now) (g.W.Sink.shortages c.finish.new.sink) goes refl (ap kept_on c.in-Err-Input.ensures.kept)
+    kept_still g.D.Disk.content g.D.Disk.images g.D.Disk.moment g.D.Disk.left_since c.args.disk c.restored.new.disk _ c.args.journal c.requires.holds c.in-Err-Input.ensures.holds c.in-Err-Input.ensures.kept c.in-Err-Input.ensures.quiet
+    (has_gone_on-held f laws remaining now (outside_of (seen told (kept_on old)) (g.W.Sink.written c.finish.new.sink)) stop status (g.W.Sink.faults c.args.sink.now) (g.W.Sink.faults c.finish.new.sink)
+    (g.W.Sink.shortages c.args.sink.now) (g.W.Sink.shortages c.finish.new.sink) goes refl refl
     (ends_line stop written (g.W.Sink.written c.finish.new.sink) status (g.W.Sink.faults c.args.sink.now) (g.W.Sink.faults c.args.sink.now) (g.W.Sink.faults c.finish.new.sink)
-    (g.W.Sink.shortages c.args.sink.now) (g.W.Sink.shortages c.args.sink.now) (g.W.Sink.shortages c.finish.new.sink) is line (λ other. refl) (omega arith)) is
+    (g.W.Sink.shortages c.args.sink.now) (g.W.Sink.shortages c.args.sink.now) (g.W.Sink.shortages c.finish.new.sink) is line (λ other. refl) (omega arith)) is)
 
 pub returns-in-Ok-clause-lasts : goal.returns-in-Ok-clause-lasts
 returns-in-Ok-clause-lasts g c = λ disk memory.
     let recorder = c.gone_on-status.new.recorder in
-    subst (λ d. Lasts (g.D.Disk.content d) (g.D.Disk.images d)) (sym c.into_disk.ensures) (takes_lasts recorder.journal (g.D.Disk.content recorder.disk) (g.D.Disk.images recorder.disk) (c.gone_on-status.ensures.lasts disk memory))
+    subst (λ d. Lasts (g.D.Disk.content d) (g.D.Disk.images d)) (sym c.into_disk.ensures) (takes_lasts recorder.journal (g.D.Disk.content recorder.disk) (g.D.Disk.images recorder.disk) (c.gone_on-status.ensures.lasts disk memory).0)
 
 pub returns-in-Err-Journal-clause-lasts : goal.returns-in-Err-Journal-clause-lasts
 returns-in-Err-Journal-clause-lasts g c = λ disk memory.
@@ -107,3 +128,16 @@ returns-in-Err-Journal-clause-lasts g c = λ disk memory.
 pub returns-clause-lasts : goal.returns-clause-lasts
 returns-clause-lasts g c = λ disk memory.
     takes_lasts c.args.journal (g.D.Disk.content c.restored.new.disk) (g.D.Disk.images c.restored.new.disk) (record { unbroken = c.requires.unbroken; holds = c.in-Err-Input.ensures.holds })
+
+pub gone_on-status-requires-clause-restores : goal.gone_on-status-requires-clause-restores
+gone_on-status-requires-clause-restores g c =
+    let f = keyed_fn g.K.Keyed.prf g.K.Keyed.pad in
+    let had = c.in-Ok.ensures.restored in
+    let recorder = c.new-recorder.result in
+    let kept : JournalRecorder g.row.D.Denot → Kept = λ r. record { records = records_counted r.journal (g.D.Disk.content r.disk); refused = option_map_or (λ payload. payload.items ∷ []) r.refused [] } in
+    let first : kept recorder ≡ kept_on (g.D.Disk.content c.args.disk) =
+    ap (λ refused. record { records = records_counted recorder.journal (g.D.Disk.content recorder.disk); refused = option_map_or (λ payload. payload.items ∷ []) refused [] }) c.new-recorder.ensures.none
+    ∙ kept_at_start recorder.journal (g.D.Disk.content recorder.disk) (g.D.Disk.images recorder.disk) c.new-recorder.ensures.whole
+    ∙ ap (λ d. kept_on (g.D.Disk.content d)) c.new-recorder.ensures.disk
+    ∙ ap kept_on c.in-Ok.ensures.kept in
+    (had.0, subst (λ k. Restores f c.in-Ok.restart.client.key k had.0) (sym first) had.1, had.2)

@@ -16,6 +16,7 @@ use Rattle.sse_client.specs.declared.session.Stage.TheVariants.{Collecting}
 use Rattle.sse_client.proofs.WholeRun.{from_start, opens_memory, opens-away, opens-greeted, opens-stopped}
 use Rattle.sse_client.proofs.PartOfExchange.{TurnsAway-memory}
 use Rattle.sse_client.proofs.TranscriptsJoined.{KeepsLink-then}
+use Rattle.sse_recorder.proofs.Growing.{keeps-same}
 use Rattle.sse_client.proofs.run.run_script.Goals as goal
 
 pub returns-in_err-input-clause-ends : goal.returns-in_err-input-clause-ends
@@ -74,3 +75,15 @@ returns-clause-link g c =
     let new = c.run_lines.new.link in
     KeepsLink-then LinkCause (shows (g.L.Link.transcript old) (g.L.Link.faults old) (g.L.Link.began old)) (shows (g.L.Link.transcript mid) (g.L.Link.faults mid) (g.L.Link.began mid))
     (shows (g.L.Link.transcript new) (g.L.Link.faults new) (g.L.Link.began new)) c.run_lines.result c.in_ok-greet.ensures.keeps.began c.in_ok-greet.ensures.keeps.steady c.run_lines.ensures.link
+
+pub returns-in_err-input-clause-keeps_on : goal.returns-in_err-input-clause-keeps_on
+returns-in_err-input-clause-keeps_on g c = keeps-same g.R.Recorder.kept g.R.Recorder.moment g.R.Recorder.left_since c.args.recorder.now (g.met.R.Recorder.at_rest c.args.recorder.now c.requires.whole)
+
+pub returns-in_err-key-clause-keeps_on : goal.returns-in_err-key-clause-keeps_on
+returns-in_err-key-clause-keeps_on g c = keeps-same g.R.Recorder.kept g.R.Recorder.moment g.R.Recorder.left_since c.args.recorder.now (g.met.R.Recorder.at_rest c.args.recorder.now c.requires.whole)
+
+pub returns-in_err-buffer-clause-keeps_on : goal.returns-in_err-buffer-clause-keeps_on
+returns-in_err-buffer-clause-keeps_on g c = keeps-same g.R.Recorder.kept g.R.Recorder.moment g.R.Recorder.left_since c.args.recorder.now (g.met.R.Recorder.at_rest c.args.recorder.now c.requires.whole)
+
+pub returns-in_err-greet-clause-keeps_on : goal.returns-in_err-greet-clause-keeps_on
+returns-in_err-greet-clause-keeps_on g c = keeps-same g.R.Recorder.kept g.R.Recorder.moment g.R.Recorder.left_since c.args.recorder.now (g.met.R.Recorder.at_rest c.args.recorder.now c.requires.whole)

@@ -1,6 +1,7 @@
 use Rattle.keyed_fn.specs.KeyedFn.{IsKeyedFn, keyed_fn}
 use Rattle.sse_client.specs.Stands.{seen, outside_of, HasRun, HasHonestStatus, HasSimulatedRun, HasRecordedRun, HasHeadline}
 use Rattle.sse_client.proofs.WholeRun.{IfSome-then, run-honest, run-recorded, run-simulated, run-headline}
+use Rattle.sse_recorder.proofs.Growing.{keeps-same}
 use Rattle.sse_client.proofs.run.sse_run.Goals as goal
 
 pub returns-in-Some-Run-clause-honest : goal.returns-in-Some-Run-clause-honest
@@ -52,3 +53,6 @@ returns-in-Some-Run-clause-recorded g c = λ asked.
     IfSome-then (g.S.Source.remaining c.args.source.now) (λ bytes. HasRun f bytes now last c.whole_run.result) (λ bytes. HasRecordedRun f bytes now last c.whole_run.result)
     (λ bytes run. run-recorded f bytes now last c.whole_run.result run)
     c.whole_run.ensures.runs
+
+pub returns-in-None-clause-keeps_on : goal.returns-in-None-clause-keeps_on
+returns-in-None-clause-keeps_on g c = keeps-same g.R.Recorder.kept g.R.Recorder.moment g.R.Recorder.left_since c.args.recorder.now (g.met.R.Recorder.at_rest c.args.recorder.now c.requires.whole)

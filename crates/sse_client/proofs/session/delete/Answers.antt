@@ -11,6 +11,7 @@ use Rattle.sse_client.specs.declared.session.Stage.{Stage}
 use Rattle.sse_client.specs.declared.session.Stage.TheVariants.{Collecting, Searching}
 use Rattle.sse_client.proofs.CommandTaken.{behind, is_up, takes-not_set_up}
 use Rattle.sse_client.proofs.UpdateCarriedOut.{of_good, of_fault, of_stop, stops_as, not_refused}
+use Rattle.sse_recorder.proofs.Growing.{keeps-same}
 use Rattle.sse_client.proofs.session.delete.Goals as goal
 
 pub returns-in-Collecting-clause-takes : goal.returns-in-Collecting-clause-takes
@@ -47,3 +48,6 @@ pub returns-in-Searching-clause-may_stop : goal.returns-in-Searching-clause-may_
 returns-in-Searching-clause-may_stop g c =
     let f = keyed_fn g.K.Keyed.prf g.K.Keyed.pad in
     of_stop c.send_update.result _ _ (λ unrefused. subst (λ s. MayStop f s (lines.Del c.args.id)) (sym c.in-Searching.is) (λ place here. not_refused _ _ unrefused (c.plan_deletion-planned.ensures.refused place here))) c.send_update.ensures.may_stop
+
+pub returns-in-Collecting-clause-keeps_on : goal.returns-in-Collecting-clause-keeps_on
+returns-in-Collecting-clause-keeps_on g c = keeps-same g.R.Recorder.kept g.R.Recorder.moment g.R.Recorder.left_since c.args.recorder.now (g.met.R.Recorder.at_rest c.args.recorder.now c.requires.whole)

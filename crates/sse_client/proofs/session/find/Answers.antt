@@ -11,7 +11,7 @@ use Rattle.run_texts.specs.declared.command_stop.CommandStop.TheVariants.{Exchan
 use Rattle.sse_client.specs.declared.session.Stage.{Stage}
 use Rattle.sse_client.specs.declared.session.Stage.TheVariants.{Collecting, Searching}
 use Rattle.sse_client.proofs.TranscriptsJoined.{IfErr-from, may_stop}
-use Rattle.script_meaning.specs.Carries.{Kept}
+use Rattle.sse_outside.specs.Kept.{Kept}
 use Rattle.script_meaning.specs.Lines as requests
 use Rattle.script_meaning.specs.Outcome.{outcome}
 use Rattle.sse_client.specs.Exchanges.{HasSearched, HasCut}

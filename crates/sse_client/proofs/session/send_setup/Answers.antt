@@ -1,4 +1,4 @@
-use Rattle.std.proofs.Common.{[], refl, sym, ap, subst, ◌∙◌}
+use Rattle.std.proofs.Common.{inl, [], refl, sym, ap, subst, ◌∙◌}
 use Rattle.client_core.specs.Owes.{AreNumbered}
 use Rattle.client_core.specs.StandsFor.{StandsFor}
 use Rattle.client_core.specs.declared.ready.Ready.{Ready}
@@ -10,6 +10,7 @@ use Rattle.client_core.specs.Payloads.{setup_payload}
 use Rattle.run_texts.specs.declared.command_stop.CommandStop.TheVariants.{Exchange, Keeping}
 use Rattle.sse_client.specs.Stands.{seen}
 use Rattle.sse_client.proofs.TranscriptsJoined.{SendsKept-err}
+use Rattle.sse_client.proofs.RecordedFrames.{owes-taken}
 use Rattle.sse_client.proofs.session.send_setup.Goals as goal
 
 pub returns-clause-sends : goal.returns-clause-sends
@@ -39,3 +40,7 @@ returns-in_err-ready-clause-sends g c = λ frames planned numbered.
 
 pub returns-clause-hash_keys : goal.returns-clause-hash_keys
 returns-clause-hash_keys g c = ap (λ (r : Ready). r.registry.keys) c.in_ok-ready.ensures.ready ∙ c.commit.ensures.hash_keys
+
+pub catch_up-requires-clause-recorded : goal.catch_up-requires-clause-recorded
+catch_up-requires-clause-recorded g c =
+    owes-taken (g.R.Recorder.kept c.args.recorder.now) (g.R.Recorder.kept c.keep_setup.new.recorder) (setup_payload c.args.planned) c.commit.result.state c.in_ok-keep_setup.ensures.kept (λ records ends. inl (c.args.planned, ends, c.commit.ensures.owed))

@@ -1,6 +1,6 @@
 use Rattle.std.proofs.Common.{ℕ, ◌∷◌, [], List, refl, sym, ap, subst, ◌∙◌}
 use Rattle.client_core.specs.Payloads.{setup_payload}
-use Rattle.script_meaning.specs.Exchange.{Adds}
+use Rattle.script_meaning.specs.Carries.{Keeps}
 use Rattle.client_core.specs.declared.planned.Planned.{Planned}
 use Rattle.client_registry.specs.Run.{at_first}
 use Rattle.client_registry.specs.Setup.{setup_with}
@@ -22,6 +22,7 @@ use Rattle.sse_client.specs.Stands.{IsAt, seen, IsReady, MayStop, StopsWithin}
 use Rattle.sse_client.proofs.CommandTaken.{IsCollecting, is_up, takes_if_sent, stops_if_sent, takes-refused_setup, stops-plan, takes-set_up_already}
 use Rattle.sse_client.specs.Stages.{key_of}
 use Rattle.sse_script.specs.Lines as lines
+use Rattle.sse_recorder.proofs.Growing.{keeps-same}
 use Rattle.sse_client.proofs.session.set_up.Goals as goal
 
 pub returns-in_ok-send_setup-in-Ok-clause-takes : goal.returns-in_ok-send_setup-in-Ok-clause-takes
@@ -42,7 +43,7 @@ returns-in_ok-send_setup-in-Ok-clause-takes g c =
     let spelled = c.in-Ok.ensures.payload in
     let sends = c.in_ok-send_setup-in-Ok.ensures.sends frames c.in-Ok.ensures.frames (frames_of_setup-are_numbered (key_table f key s) at_first s) in
     takes_if_sent f key old new c.args.stage docs c.in-Collecting.docs.keys c.args.numbers.b c.args.numbers.big c.args.numbers.pad at c.in-Ok.ensures.accepted c.in-Ok.planned.own_words c.in-Ok.planned.own_blocks c.in-Ok.ensures.own_words c.in-Ok.ensures.own_blocks
-    done.0 done.1 (subst (λ payload. Adds old.kept new.kept (payload ∷ [])) spelled sends.0) sends.1 c.in_ok-send_setup-in-Ok.ensures.shown c.in_ok-send_setup-in-Ok.ensures.accepted ready
+    done.0 done.1 (subst (λ payload. Keeps old.kept new.kept (payload ∷ [])) spelled sends.0) sends.1 c.in_ok-send_setup-in-Ok.ensures.shown c.in_ok-send_setup-in-Ok.ensures.accepted ready
     c.in_ok-send_setup-in-Ok.ensures.key c.in_ok-send_setup-in-Ok.ensures.hash_keys
 
 pub returns-in_err-send_setup-in-Ok-clause-stops : goal.returns-in_err-send_setup-in-Ok-clause-stops
@@ -120,3 +121,12 @@ returns-in_err-setup_refusal-in-Err-clause-may_stop g c =
     c.in_err-setup_refusal-in-Err.field-0.0 (sym c.in_err-setup_refusal-in-Err.ensures) in
     may_stop c.from_residual-in_err-setup_refusal-in-Err.result (MayStop (keyed_fn g.K.Keyed.prf g.K.Keyed.pad) c.args.stage (lines.SetupLine c.args.numbers.b c.args.numbers.big c.args.numbers.pad))
     (subst (λ s. MayStop (keyed_fn g.K.Keyed.prf g.K.Keyed.pad) s (lines.SetupLine c.args.numbers.b c.args.numbers.big c.args.numbers.pad)) (sym c.in-Collecting.is) why.0)
+
+pub returns-in_err-setup_refusal-in-Err-clause-keeps_on : goal.returns-in_err-setup_refusal-in-Err-clause-keeps_on
+returns-in_err-setup_refusal-in-Err-clause-keeps_on g c = keeps-same g.R.Recorder.kept g.R.Recorder.moment g.R.Recorder.left_since c.args.recorder.now (g.met.R.Recorder.at_rest c.args.recorder.now c.requires.whole)
+
+pub returns-in_ok-setup_refusal-in-Err-clause-keeps_on : goal.returns-in_ok-setup_refusal-in-Err-clause-keeps_on
+returns-in_ok-setup_refusal-in-Err-clause-keeps_on g c = keeps-same g.R.Recorder.kept g.R.Recorder.moment g.R.Recorder.left_since c.args.recorder.now (g.met.R.Recorder.at_rest c.args.recorder.now c.requires.whole)
+
+pub returns-in-Searching-clause-keeps_on : goal.returns-in-Searching-clause-keeps_on
+returns-in-Searching-clause-keeps_on g c = keeps-same g.R.Recorder.kept g.R.Recorder.moment g.R.Recorder.left_since c.args.recorder.now (g.met.R.Recorder.at_rest c.args.recorder.now c.requires.whole)

@@ -12,6 +12,7 @@ use Rattle.sse_client.proofs.CommandTaken.{takes_own, stops_own, stops_if_memory
 use Rattle.sse_client.proofs.UpdateCarriedOut.{of_good, of_fault}
 use Rattle.std.specs.Prelude.{OnErr}
 use Rattle.sse_client.specs.Stands.{seen, MayStop, StopsWithin}
+use Rattle.sse_recorder.proofs.Growing.{keeps-same}
 use Rattle.sse_client.proofs.session.take_line.Goals as goal
 
 pub returns-in-Empty-clause-takes : goal.returns-in-Empty-clause-takes
@@ -97,3 +98,15 @@ returns-in-Find-clause-may_stop g c = subst (λ (line : Line). OnErr c.find.resu
 
 pub returns-in-Find-clause-recorder : goal.returns-in-Find-clause-recorder
 returns-in-Find-clause-recorder g c = KeepsRecorder-none KeepCommandCause (g.R.Recorder.faults c.args.recorder.now) c.find.result c.find.ensures.no_record
+
+pub returns-in_err-collect-in-Doc-clause-keeps_on : goal.returns-in_err-collect-in-Doc-clause-keeps_on
+returns-in_err-collect-in-Doc-clause-keeps_on g c = keeps-same g.R.Recorder.kept g.R.Recorder.moment g.R.Recorder.left_since c.args.recorder.now (g.met.R.Recorder.at_rest c.args.recorder.now c.requires.whole)
+
+pub returns-in-Empty-clause-keeps_on : goal.returns-in-Empty-clause-keeps_on
+returns-in-Empty-clause-keeps_on g c = keeps-same g.R.Recorder.kept g.R.Recorder.moment g.R.Recorder.left_since c.args.recorder.now (g.met.R.Recorder.at_rest c.args.recorder.now c.requires.whole)
+
+pub returns-in_ok-collect-in-Doc-clause-keeps_on : goal.returns-in_ok-collect-in-Doc-clause-keeps_on
+returns-in_ok-collect-in-Doc-clause-keeps_on g c = keeps-same g.R.Recorder.kept g.R.Recorder.moment g.R.Recorder.left_since c.args.recorder.now (g.met.R.Recorder.at_rest c.args.recorder.now c.requires.whole)
+
+pub returns-in-Find-clause-keeps_on : goal.returns-in-Find-clause-keeps_on
+returns-in-Find-clause-keeps_on g c = keeps-same g.R.Recorder.kept g.R.Recorder.moment g.R.Recorder.left_since c.args.recorder.now (g.met.R.Recorder.at_rest c.args.recorder.now c.requires.whole)

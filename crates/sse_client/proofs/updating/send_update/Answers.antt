@@ -1,4 +1,4 @@
-use Rattle.std.proofs.Common.{◌∷◌, [], List, Ok, refl, sym, ap, subst, ◌∙◌}
+use Rattle.std.proofs.Common.{inl, inr, ◌∷◌, [], List, Ok, refl, sym, ap, subst, ◌∙◌}
 use Rattle.client_core.specs.declared.ready.Ready.{Ready}
 use Rattle.std.specs.Prelude.{IfOk}
 use Rattle.client_core.specs.Sending.{first_number}
@@ -14,6 +14,9 @@ use Rattle.run_texts.specs.declared.command_stop.CommandStop.TheVariants.{Exchan
 use Rattle.sse_client.specs.declared.update_fault.UpdateFault.TheVariants.{Refused, Stopped}
 use Rattle.sse_client.proofs.TranscriptsJoined.{IfErr-from}
 use Rattle.sse_client.proofs.UpdateCarriedOut.{failed, goes-refused_update, goes-updated, numbered-at, stops-unplanned, stops-updated}
+use Rattle.sse_recorder.proofs.Growing.{keeps-same}
+use Rattle.sse_client.proofs.RecordedFrames.{owes-taken}
+use Rattle.client_core.specs.Payloads.{update_payload}
 use Rattle.sse_client.proofs.updating.send_update.Goals as goal
 
 pub returns-in_err-ready-in-Ok-clause-stops : goal.returns-in_err-ready-in-Ok-clause-stops
@@ -69,3 +72,13 @@ returns-in_err-keep_update-in-Ok-clause-stops g c =
     (λ f place refusal update shown at plan written.
     let p : IsUpdatePlan f place refusal update (Ok c.in-Ok.planned) = subst (IsUpdatePlan f place refusal update) c.in-Ok.is plan in
     stops-updated f place refusal update shown c.args.client at c.in-Ok.planned p.planned.0 p.planned.1 old new (Unit {0}) (Keeping stop) (refl, c.in_err-keep_update-in-Ok.ensures.kept) written)
+
+pub returns-in-Refused-clause-keeps_on : goal.returns-in-Refused-clause-keeps_on
+returns-in-Refused-clause-keeps_on g c = keeps-same g.R.Recorder.kept g.R.Recorder.moment g.R.Recorder.left_since c.args.recorder.now (g.met.R.Recorder.at_rest c.args.recorder.now c.requires.whole)
+
+pub returns-in-Stopped-clause-keeps_on : goal.returns-in-Stopped-clause-keeps_on
+returns-in-Stopped-clause-keeps_on g c = keeps-same g.R.Recorder.kept g.R.Recorder.moment g.R.Recorder.left_since c.args.recorder.now (g.met.R.Recorder.at_rest c.args.recorder.now c.requires.whole)
+
+pub catch_up-requires-clause-recorded : goal.catch_up-requires-clause-recorded
+catch_up-requires-clause-recorded g c =
+    owes-taken (g.R.Recorder.kept c.args.recorder.now) (g.R.Recorder.kept c.keep_update.new.recorder) (update_payload c.in-Ok.planned) c.commit.result.state c.in_ok-keep_update-in-Ok.ensures.kept (λ records ends. inr (inl (c.in-Ok.planned, ends, c.commit.ensures.owed)))

@@ -1,50 +1,36 @@
-use Rattle.std.proofs.Common.{inl}
+use Rattle.std.proofs.Common.{◌≡◌, [], ◌∷◌, ap, subst}
+use Rattle.std.specs.Option.{option_map_or}
+use Rattle.std.specs.Prelude.{IfSome}
+use Rattle.sse_journal.proofs.FileRecords.{takes_at_rest}
+use Rattle.sse_journal.specs.AnyMoment.{LeavesOnly}
+use Rattle.sse_journal.specs.FileRecords.{records_counted}
 use Rattle.sse_journal.specs.Files.{GivesWithOrWithout}
-use Rattle.sse_journal.proofs.FileRecords.{takes_leaves_only, takes_same, takes_added, takes_leaves_kept, takes_refused, takes_reads, left_now}
+use Rattle.sse_outside.specs.Kept.{with_records}
+use Rattle.sse_recorder.proofs.Keeping.{held-meanwhile, keeps-refused, keeps-taken}
 use Rattle.sse_recorder.proofs.journal_recorder.JournalRecorderRecorder.keep.Goals as goal
 
-pub returns-then-is_err-clause-refused : goal.returns-then-is_err-clause-refused
-returns-then-is_err-clause-refused g c records leaves = inl (takes_leaves_only c.args.self.now.journal _ _ c.requires.whole records leaves)
+pub returns-in-Ok-clause-keeps_on : goal.returns-in-Ok-clause-keeps_on
+returns-in-Ok-clause-keeps_on g c =
+    let old = c.args.self.now.disk in
+    let new = c.add.new.disk in
+    let payload = c.args.payload.items in
+    let refused = option_map_or (λ p. p.items ∷ []) c.args.self.now.refused [] in
+    let same : c.deref.result.now ≡ payload = c.deref.ensures.value in
+    let none = ap (λ r. option_map_or (λ p. p.items ∷ []) r []) c.requires.whole.1 in
+    let added : records_counted c.add.new.journal (g.D.Disk.content new) ≡ (with_records (payload ∷ []) (record { records = records_counted c.args.self.now.journal (g.D.Disk.content old); refused = refused })).records =
+    subst (λ p. records_counted c.add.new.journal (g.D.Disk.content new) ≡ (with_records (p ∷ []) (record { records = records_counted c.args.self.now.journal (g.D.Disk.content old); refused = refused })).records) same c.in-Ok.ensures.added in
+    keeps-taken _ _ _ c.args.self.now _ payload
+    (ap (λ records. record { records = records; refused = refused }) added) none
+    (held-meanwhile g.D.Disk.moment g.D.Disk.left_since (λ r. r.disk) c.args.self.now _ payload _ (subst (λ p. IfSome (records_counted c.args.self.now.journal (g.D.Disk.content old)) (λ before. LeavesOnly g.D.Disk.moment g.D.Disk.left_since old new (GivesWithOrWithout before p))) same c.add.ensures.meanwhile))
+    (takes_at_rest c.add.new.journal (g.D.Disk.content new) (g.D.Disk.images new) (g.D.Disk.left_since new (g.D.Disk.moment new)) c.in-Ok.ensures.takes (g.met.D.Disk.only_now new))
 
-pub returns-in-Ok-clause-added : goal.returns-in-Ok-clause-added
-returns-in-Ok-clause-added g c =
-    let r = c.reserve.ensures in
-    let takes = takes_same c.args.self.now.journal c.reserve.new.self _ _ r.end r.records r.broken c.requires.whole in
-    (takes_added c.reserve.new.self c.args.payload.now _ (g.D.Disk.images c.append.new.disk) _ _ c.append.new.self takes c.append.ensures.told c.in-Ok.ensures.whole c.in-Ok.ensures.added).1
-
-pub returns-in-Ok-clause-whole_after : goal.returns-in-Ok-clause-whole_after
-returns-in-Ok-clause-whole_after g c =
-    let r = c.reserve.ensures in
-    let takes = takes_same c.args.self.now.journal c.reserve.new.self _ _ r.end r.records r.broken c.requires.whole in
-    (takes_added c.reserve.new.self c.args.payload.now _ (g.D.Disk.images c.append.new.disk) _ _ c.append.new.self takes c.append.ensures.told c.in-Ok.ensures.whole c.in-Ok.ensures.added).0
-
-pub returns-in-Err-NoMemory-clause-refused : goal.returns-in-Err-NoMemory-clause-refused
-returns-in-Err-NoMemory-clause-refused g c =
-    let r = c.reserve.ensures in
-    let takes = takes_same c.args.self.now.journal c.reserve.new.self _ _ r.end r.records r.broken c.requires.whole in
-    takes_refused c.reserve.new.self c.args.payload.now _ (g.D.Disk.images c.append.new.disk) _ _ takes c.append.ensures.told
-    (λ payloads is. left_now g.D.Disk.images g.D.Disk.moment g.D.Disk.left_since c.args.self.now.disk c.append.new.disk (GivesWithOrWithout payloads c.args.payload.now) (g.met.D.Disk.counts_now c.append.new.disk) (c.append.ensures.any_moment payloads takes.unbroken is))
-
-pub returns-in-Err-DiskFault-clause-refused : goal.returns-in-Err-DiskFault-clause-refused
-returns-in-Err-DiskFault-clause-refused g c =
-    let r = c.reserve.ensures in
-    let takes = takes_same c.args.self.now.journal c.reserve.new.self _ _ r.end r.records r.broken c.requires.whole in
-    takes_refused c.reserve.new.self c.args.payload.now _ (g.D.Disk.images c.append.new.disk) _ _ takes c.append.ensures.told
-    (λ payloads is. left_now g.D.Disk.images g.D.Disk.moment g.D.Disk.left_since c.args.self.now.disk c.append.new.disk (GivesWithOrWithout payloads c.args.payload.now) (g.met.D.Disk.counts_now c.append.new.disk) (c.append.ensures.any_moment payloads takes.unbroken is))
-
-pub returns-in-Err-NoMemory-clause-reads : goal.returns-in-Err-NoMemory-clause-reads
-returns-in-Err-NoMemory-clause-reads g c =
-    let r = c.reserve.ensures in
-    let takes = takes_same c.args.self.now.journal c.reserve.new.self _ _ r.end r.records r.broken c.requires.whole in
-    takes_reads c.reserve.new.self c.args.payload.now _ (g.D.Disk.images c.append.new.disk) _ _ takes c.append.ensures.told (g.met.D.Disk.reads_as_image c.append.new.disk)
-    (λ payloads is. left_now g.D.Disk.images g.D.Disk.moment g.D.Disk.left_since c.args.self.now.disk c.append.new.disk (GivesWithOrWithout payloads c.args.payload.now) (g.met.D.Disk.counts_now c.append.new.disk) (c.append.ensures.any_moment payloads takes.unbroken is))
-
-pub returns-in-Err-DiskFault-clause-reads : goal.returns-in-Err-DiskFault-clause-reads
-returns-in-Err-DiskFault-clause-reads g c =
-    let r = c.reserve.ensures in
-    let takes = takes_same c.args.self.now.journal c.reserve.new.self _ _ r.end r.records r.broken c.requires.whole in
-    takes_reads c.reserve.new.self c.args.payload.now _ (g.D.Disk.images c.append.new.disk) _ _ takes c.append.ensures.told (g.met.D.Disk.reads_as_image c.append.new.disk)
-    (λ payloads is. left_now g.D.Disk.images g.D.Disk.moment g.D.Disk.left_since c.args.self.now.disk c.append.new.disk (GivesWithOrWithout payloads c.args.payload.now) (g.met.D.Disk.counts_now c.append.new.disk) (c.append.ensures.any_moment payloads takes.unbroken is))
-
-pub returns-then-is_err-clause-reads : goal.returns-then-is_err-clause-reads
-returns-then-is_err-clause-reads g c = takes_leaves_kept c.args.self.now.journal _ _ (g.met.D.Disk.reads_as_image c.args.self.now.disk) c.requires.whole
+pub returns-in-Err-clause-keeps_on : goal.returns-in-Err-clause-keeps_on
+returns-in-Err-clause-keeps_on g c =
+    let old = c.args.self.now.disk in
+    let new = c.add.new.disk in
+    let payload = c.args.payload.items in
+    let same : c.deref.result.now ≡ payload = c.deref.ensures.value in
+    keeps-refused _ _ _ c.args.self.now _ payload
+    (ap (λ records. record { records = records; refused = payload ∷ [] }) c.in-Err.ensures.refused)
+    (λ later image left. g.met.D.Disk.counts_now new (g.D.Disk.moment old) image later (g.met.D.Disk.only_now new image left))
+    (held-meanwhile g.D.Disk.moment g.D.Disk.left_since (λ r. r.disk) c.args.self.now _ payload _ (subst (λ p. IfSome (records_counted c.args.self.now.journal (g.D.Disk.content old)) (λ before. LeavesOnly g.D.Disk.moment g.D.Disk.left_since old new (GivesWithOrWithout before p))) same c.add.ensures.meanwhile))
