@@ -18,3 +18,4 @@ mod RunRows
 mod UpdateRows
 mod ContinuedRows
 mod ClashRows
+pub mod RecordedBehind

@@ -90,10 +90,10 @@ KeepsFirst-all all taken status old new disk memory (inr r) = absurd (elim r.sta
 
 -- What was sent of frames that were exchanged, or cut.
 
-sent_in-exchanged : (answers : List (List ℕ)) (frames : List FrameText) (events : List Event) → AreExchanged answers frames events → sent_in events ≡ map frame_bytes frames
+pub sent_in-exchanged : (answers : List (List ℕ)) (frames : List FrameText) (events : List Event) → AreExchanged answers frames events → sent_in events ≡ map frame_bytes frames
 sent_in-exchanged answers frames events e = sym (sent_in-bare events) ∙ ap sent_in e.each ∙ sent_in-exchange answers frames
 
-sent_in-cut_short : (frames : List FrameText) (events : List Event) (cause : Cause) → AreCut frames events cause → (k : ℕ) × (sent_in events ≡ map frame_bytes (take k frames))
+pub sent_in-cut_short : (frames : List FrameText) (events : List Event) (cause : Cause) → AreCut frames events cause → (k : ℕ) × (sent_in events ≡ map frame_bytes (take k frames))
 sent_in-cut_short frames events cause c =
     let last = sent_in-cut (drop c.n frames) c.cut cause c.one_more in (
       c.n + last.0,

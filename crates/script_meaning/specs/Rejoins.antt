@@ -1,10 +1,10 @@
 -- A session that goes on after a run with a server that may lack the last of its frames: these are sent first, and a line says how
 -- many they were.
-use Rattle.std.specs.Prelude.{◌≡◌, ◌⊎◌, ◌≤◌, ℕ, false, List, [], ◌++◌, drop, flat_map, length, map, take, Option, Some}
+use Rattle.std.specs.Prelude.{◌≡◌, ◌≢◌, ◌⊎◌, ◌≤◌, ℕ, ◌+◌, false, List, [], ◌∷◌, ◌++◌, drop, flat_map, length, map, take, Option, Some}
 use Rattle.std.specs.Io.KnownBytes.{append_known}
 use Rattle.client_records.specs.Recorded.{recorded}
 use Rattle.client_registry.specs.Command.{Command}
-use Rattle.client_registry.specs.Histories.{longer}
+use Rattle.client_registry.specs.Histories.{longer, IsFirstOf}
 use Rattle.client_registry.specs.Run.{History, Run}
 use Rattle.client_registry.specs.Sized.{update_frames}
 use Rattle.keyed_fn.specs.KeyedFn.{KeyedFn}
@@ -13,7 +13,7 @@ use Rattle.server_core.specs.Step.{steps}
 use Rattle.sse_agreement.specs.Agreement.{shown_behind}
 use Rattle.sse_agreement.specs.Taking.{Expects}
 use Rattle.sse_frames.specs.Exchange.{greeting, exchange}
-use Rattle.sse_frames.specs.Frames.{FrameText}
+use Rattle.sse_frames.specs.Frames.{FrameText, Hello, frame_bytes}
 use Rattle.link_events.specs.Events.{Event}
 use Rattle.sse_model.specs.Compared.{Collision}
 use Rattle.sse_model.specs.Epochs.{keys_under}
@@ -23,9 +23,10 @@ use Rattle.sse_script.specs.Texts.{text_of}
 use Rattle.sse_outside.specs.Fronts.{TookFront}
 use Rattle.script_meaning.specs.Carries.{Keeps, Outside, collision_cause}
 use Rattle.script_meaning.specs.Continues.{at_run}
-use Rattle.script_meaning.specs.Exchange.{Told, Adds, AreCut, AreExchanged, as_event, bare}
+use Rattle.script_meaning.specs.Exchange.{Told, Adds, AreCut, AreExchanged, as_event, bare, sent_in}
 use Rattle.script_meaning.specs.Lines.{Line}
 use Rattle.script_meaning.specs.Meaning.{Meaning}
+use Rattle.script_meaning.specs.Recorded.{KeepsFirst, records_in}
 use Rattle.script_meaning.specs.Runs.{Ended, IsGreeted, IsTurnedAway, Runs}
 use Rattle.script_meaning.specs.Session.{IsFree}
 use Rattle.script_meaning.specs.Stops.{At, SinkFault, status_of, stop_text}
@@ -118,3 +119,24 @@ pub record Rejoined (f : KeyedFn) (start : ServerState) (key : List ℕ) (run : 
   pub passed : map bare events ≡ map as_event (greeting next ++ exchange (shown_behind run more) (drop next (frames_under f key m.history)))
   pub kept : Keeps now.kept last.kept (recorded more)
   pub stored : behind ≡ (steps f start (frames_under f key m.history)).0
+
+-- between these two moments a run that goes on after a history took the records of one after it, behind those of that history: of the one
+-- up to its stop, or of the one before the command in hand, which has at most one record less, and that one may have been refused; and the
+-- frames that were sent are Hello and the first of the frames, from a number on, of the history whose records are there
+pub record IsRecordedBehind (f : KeyedFn) (key : List ℕ) (run : Run) (now : Outside) (end : Ended) : Type 0 where
+  pub held : History
+  pub since : IsFirstOf (Some run) held
+  pub first : IsFirstOf held end.history
+  pub taken : List (List ℕ)
+  pub taken_are : records_in f key held ≡ records_in f key (Some run) ++ taken
+  pub all : List (List ℕ)
+  pub all_are : records_in f key end.history ≡ records_in f key (Some run) ++ all
+  pub kept : KeepsFirst all taken (status_of end.stop) now.kept end.outside.kept
+  pub most : length all ≤ length taken + 1
+  pub next : ℕ
+  pub events : List Event
+  pub adds : Adds now.told end.outside.told events
+  pub count : ℕ
+  pub sent : sent_in events ≡ map frame_bytes (take count (Hello ∷ drop next (frames_under f key held)))
+  -- it lacks the command in hand only where values collided, the disk failed or memory was wanting
+  pub whole : status_of end.stop ≢ 6 → status_of end.stop ≢ 7 → status_of end.stop ≢ 8 → held ≡ end.history

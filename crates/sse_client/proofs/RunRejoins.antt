@@ -42,6 +42,7 @@ use Rattle.script_meaning.proofs.Following.{follow-key}
 use Rattle.script_meaning.proofs.Going.{Adds-nothing, AreExchanged-none}
 use Rattle.script_meaning.proofs.Kept.{IsKeptAt, IsKeptAt-opened, IsWithinItem}
 use Rattle.script_meaning.proofs.Joining.{count_alone, opened_by, took_all}
+use Rattle.script_meaning.proofs.RecordedBehind.{recorded_behind}
 use Rattle.script_meaning.proofs.Rejoining.{length-frames_under, rejoined, rejoined_status}
 use Rattle.script_meaning.proofs.Within.{IsWithin-lines_in, meaning_is_kept}
 use Rattle.script_meaning.specs.Carries.{Outside}
@@ -57,9 +58,9 @@ use Rattle.script_meaning.specs.Runs.{Ended, Ends, IsGreeted, StopsReading}
 use Rattle.script_meaning.specs.Session.{IsFree, frames_with}
 use Rattle.script_meaning.specs.Stops.{At, status_of, stop_text}
 use Rattle.sse_script.specs.TextLines.{lines_of}
-use Rattle.sse_client.specs.CanGoOn.{CanGoOn, StopsUnsent, meaning_after}
+use Rattle.sse_client.specs.CanGoOn.{CanGoOn, IsRecordedAfter, StopsUnsent, meaning_after}
 use Rattle.sse_client.specs.GoingOn.{EndsLine, GoesOnBehindKey, GoesOnFrom, GoesOnOver, HasResent, IsFound, IsHeldUp, IsUnrestored, AtKeyLine, collision_again, frames_lacking}
-use Rattle.sse_client.specs.KeyLines.{Keyed, key_line}
+use Rattle.sse_client.specs.KeyLines.{KeyLine, Keyed, Missing, key_line}
 use Rattle.sse_client.specs.OnDisk.{HasGoneOn}
 
 -- The history of records.
@@ -351,6 +352,40 @@ module _ (f : KeyedFn) (laws : IsKeyedFn f) (bytes : List ℕ) (now last : Outsi
     ];
   }
 
+  -- The records, and the frames.
+
+  recorded_of : (payloads : List (List ℕ)) → now.kept.records ≡ Some payloads → (key : List ℕ) (number : ℕ) (lines : List (Option Line)) → GoesOnBehindKey f key number lines now end → IsRecordedAfter f payloads now end
+  recorded_of payloads told key number lines (inl (cause, why, ends)) = inl (ap (λ (e : Ended). e.outside.told) ends, ap (λ (e : Ended). e.outside.kept) ends)
+  recorded_of payloads told key number lines (inr (run, restores, goes)) =
+      let opens : Opens (mark_of f key) payloads run = of_told f key now.kept payloads told (λ ps. Opens (mark_of f key) ps run) restores.1 in
+      let updates : filter is_update run.later ≡ run.later = opened_updates (mark_of f key) payloads run opens in
+      inr (
+        key,
+        run,
+        opens,
+        recorded_behind f key run (first_of_last f key run) (update_frames run) number lines now end (omega (arith, length-frames_under f key run updates)) (rejoins f key run updates restores.0 number lines now end goes),
+      )
+
+  recorded_at : (payloads : List (List ℕ)) → now.kept.records ≡ Some payloads → (k : KeyLine) → AtKeyLine f k now end → IsRecordedAfter f payloads now end
+  recorded_at payloads told (Keyed key number lines) at = recorded_of payloads told key number lines at
+  recorded_at payloads told (Missing number) at = inl (ap (λ (e : Ended). e.outside.told) at, ap (λ (e : Ended). e.outside.kept) at)
+
+  recorded_so : (payloads : List (List ℕ)) → now.kept.records ≡ Some payloads → IsRecordedAfter f payloads now end
+  recorded_so payloads told = elim goes_on [
+    | inl reading ↦ inl (elim reading [
+      | inl e ↦ (ap (λ (s : Ended). s.outside.told) e, ap (λ (s : Ended). s.outside.kept) e)
+      | inr e ↦ (ap (λ (s : Ended). s.outside.told) e, ap (λ (s : Ended). s.outside.kept) e)
+    ])
+    | inr at ↦ recorded_at payloads told (key_line 1 (script_lines bytes)) at
+  ]
+
+  recorded_after : IfSome now.kept.records (λ payloads. IsRecordedAfter f payloads now end)
+  recorded_after = by now.kept.records refl
+    where
+      by : (records : Option (List (List ℕ))) → now.kept.records ≡ records → IfSome records (λ payloads. IsRecordedAfter f payloads now end)
+      by None told = tt
+      by (Some payloads) told = recorded_so payloads told
+
   -- Where it can go on.
 
   module _ (can : CanGoOn f bytes now last) where
@@ -425,6 +460,7 @@ module _ (f : KeyedFn) (laws : IsKeyedFn f) (bytes : List ℕ) (now last : Outsi
       line = line;
       status_is = is;
       unsent = stops_unsent;
+      recorded = recorded_after;
       honest = λ can free. honest_after can told free;
       headline = λ can free calm. headline_after can told ends free calm;
     }

@@ -1,6 +1,6 @@
 -- A run that goes on where nothing stands in its way: what is supposed of its script, its records and its server, and what it did. And
 -- which stop the script and the records alone make.
-use Rattle.std.specs.Prelude.{◌≡◌, ◌≢◌, ◌≤◌, ℕ, false, List, [], take, Option, Some}
+use Rattle.std.specs.Prelude.{◌≡◌, ◌≢◌, ◌⊎◌, ◌≤◌, ℕ, false, List, [], take, Option, Some}
 use Rattle.client_core.specs.Resumes.{IsWithin}
 use Rattle.client_journal.specs.Recordings.{IsBadUnder}
 use Rattle.client_records.specs.Openings.{Opens, OpensElsewhere}
@@ -14,7 +14,7 @@ use Rattle.script_meaning.specs.Continues.{at_run}
 use Rattle.script_meaning.specs.Headline.{IsOverHonest, IsUndisturbed}
 use Rattle.script_meaning.specs.Lines.{Line, script_lines}
 use Rattle.script_meaning.specs.Meaning.{Meaning, follow}
-use Rattle.script_meaning.specs.Rejoins.{HasTaken, Rejoined}
+use Rattle.script_meaning.specs.Rejoins.{HasTaken, IsRecordedBehind, Rejoined}
 use Rattle.script_meaning.specs.Runs.{Ended}
 use Rattle.script_meaning.specs.Session.{IsFree}
 use Rattle.script_meaning.specs.Stops.{At}
@@ -63,3 +63,12 @@ pub record StopsUnsent (f : KeyedFn) (bytes : List ℕ) (now : Outside) (end : E
       → IsBadUnder (mark_of f key) payloads n → status ≢ 3 → status ≢ 6 → status ≢ 7 → end.stop ≡ At (BadRecord n)
   pub wrong_key : (key : List ℕ) (number : ℕ) (lines : List (Option Line)) (payloads : List (List ℕ)) → key_line 1 (script_lines bytes) ≡ Keyed key number lines → now.kept.records ≡ Some payloads
       → OpensElsewhere (mark_of f key) (take 1 payloads) → status ≢ 3 → status ≢ 6 → status ≢ 7 → end.stop ≡ At WrongKey
+
+-- Records and frames.
+
+-- nothing was sent and nothing kept; or these records open to a history under the script's key, and the run took records and sent frames of
+-- one after it
+abbrev pub IsRecordedAfter : KeyedFn → (payloads : List (List ℕ)) → (now : Outside) → Ended → Type 0
+IsRecordedAfter f payloads now end =
+    ((end.outside.told ≡ now.told) × (end.outside.kept ≡ now.kept))
+    ⊎ ((key : List ℕ) × (run : Run) × Opens (mark_of f key) payloads run × IsRecordedBehind f key run now end)

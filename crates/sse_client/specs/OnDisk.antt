@@ -18,7 +18,7 @@ use Rattle.sse_journal.specs.AnyMoment.{HasSynced, LeavesOnly}
 use Rattle.sse_outside.specs.Causes.{Rose}
 use Rattle.sse_outside.specs.Kept.{Kept}
 use Rattle.sse_recorder.specs.KeepsOn.{GivesFront, LeavesKept}
-use Rattle.sse_client.specs.CanGoOn.{StopsUnsent, IsHonestAfter, HasHeadlineAfter}
+use Rattle.sse_client.specs.CanGoOn.{IsRecordedAfter, StopsUnsent, IsHonestAfter, HasHeadlineAfter}
 use Rattle.sse_client.specs.GoingOn.{EndsLine, GoesOnOver}
 use Rattle.sse_client.specs.LastLine.{HasLastLine, HasShortLine, IsWholeOrRose}
 use Rattle.sse_client.specs.Stands.{seen, outside_of, HasRun, HasHonestStatus, HasSimulatedRun, HasRecordedRun, HasHeadline}
@@ -130,5 +130,6 @@ pub record HasGoneOn (f : KeyedFn) (bytes : List ℕ) (now last : Outside) (stat
   pub line : EndsLine end.stop end.outside.written last.written status faults faults_now shortages shortages_now
   pub status_is : status ≡ status_of end.stop
   pub unsent : StopsUnsent f bytes now end status
+  pub recorded : IfSome now.kept.records (λ payloads. IsRecordedAfter f payloads now end)
   pub honest : IsHonestAfter f bytes now last end status
   pub headline : HasHeadlineAfter f bytes now last status
