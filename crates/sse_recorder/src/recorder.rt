@@ -9,8 +9,8 @@ use sse_outside::DeviceFault;
 /// Where records are kept from one run to the next.
 ///
 /// It tells five things to contracts. `kept` is the records that it took, in order, where it can tell them (on a real disk it
-/// can't), and one that it refused. `moment` is a number that never falls, and `left_since` are the files that may be there after
-/// a crash at any moment from that one on. `whole` says that it takes records. `faults` is its count of faults.
+/// can't), and one that it refused. `moment` is the number of this moment, and `left_since` are the files that may be there
+/// after a crash at any moment from one on. `whole` says that it takes records. `faults` is its count of faults.
 pub trait Recorder {
     ghost kept: { Self → Kept };
 
