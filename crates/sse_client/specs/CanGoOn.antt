@@ -66,8 +66,8 @@ pub record StopsUnsent (f : KeyedFn) (bytes : List ℕ) (now : Outside) (end : E
 
 -- Records and frames.
 
--- nothing was sent and nothing kept; or these records open to a history under the script's key, and the run took records and sent frames of
--- one after it
+-- nothing was sent and nothing kept; or these records open to a history under a key, and the run took records and sent frames of one
+-- after it
 abbrev pub IsRecordedAfter : KeyedFn → (payloads : List (List ℕ)) → (now : Outside) → Ended → Type 0
 IsRecordedAfter f payloads now end =
     ((end.outside.told ≡ now.told) × (end.outside.kept ≡ now.kept))

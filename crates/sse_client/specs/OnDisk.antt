@@ -58,8 +58,8 @@ abbrev pub KeepsOnStarted : {D : Type 0} (content : D → Option (List ℕ)) (im
 KeepsOnStarted content images moment left_since old new P =
     KeepsWhat (records_on (content old)) (λ more. IfSome (content old) (λ file. LeavesOnly moment left_since old new (GivesFront (records_in_file file) more))) (images new) P
 
--- a run that isn't begun keeps nothing: from the first sync that succeeded on, a crash leaves a file that gives what the file gave; and
--- where that sync was refused, one that it might have left before
+-- a run that isn't begun keeps nothing: from a first sync that succeeded on, a crash leaves a file that gives what the file gave; or it
+-- leaves at each moment one that it might have left before
 abbrev pub LeavesAsBefore : {D : Type 0} (content : D → Option (List ℕ)) (images : D → List ℕ → Type 0) (moment : D → ℕ) (left_since : D → ℕ → List ℕ → Type 0) (old new : D) → Type 0
 LeavesAsBefore content images moment left_since old new = HasSynced content images moment left_since old new GivesAs ⊎ LeavesOnly moment left_since old new (images old)
 
