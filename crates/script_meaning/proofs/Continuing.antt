@@ -60,6 +60,17 @@ pub since : (run : Run) (h : History) → IsFirstOf (Some run) h → (more : Lis
 since run None first = absurd first
 since run (Some whole) first = (first.1.0, ap (λ r. Some r) (whole_run run whole first))
 
+-- none, where it is that run
+pub no_commands : (run : Run) (h : History) (first : IsFirstOf (Some run) h) → h ≡ Some run → (since run h first).0 ≡ []
+no_commands run h first same = append_cancel_left run.later (since run h first).0 [] (later_of (record run { later = run.later ++ (since run h first).0 }) run (sym (since run h first).1 ∙ same) ∙ append-none run.later)
+  where
+    later_of : (a b : Run) → Some a ≡ Some b → a.later ≡ b.later
+    later_of a b e = ap (λ (r : Run). r.later) (let same : a ≡ b = cc in same)
+
+    append-none : {A : Type 0} (xs : List A) → xs ≡ xs ++ []
+    append-none [] = refl
+    append-none (x ∷ xs) = ap (λ more. x ∷ more) (append-none xs)
+
 -- what the searches of all show is what those of the run show, and then those after it
 pub shown_in_turn-longer : (run : Run) (more : List Command) → shown_in_turn (longer more (Some run)) ≡ shown_in_turn (Some run) ++ shown_behind run more
 shown_in_turn-longer run more =
@@ -111,18 +122,19 @@ module _ (f : KeyedFn) (laws : IsKeyedFn f) (key : List ℕ) (run : Run) (before
 
     pub goes_since : GoesSince
     goes_since = elim goes_on [
-      | inl away ↦ record {
-        first = subst (IsFirstOf (Some run)) (sym away.history) (refl, ([], sym (append-none run.later)));
-        same_key = away.same_key;
-        goes = record {
-          key = inr (away.same_key ∙ sym (follow-key (at_run key docs run) number lines refused));
-          history = subst (λ h. IsFirstOf h m.history) (sym away.history) (first-follow (at_run key docs run) number lines refused);
-          answers = [];
-          passes = inr (inl (record { key = key; same_key = away.same_key; cause = away.cause; stops = away.stops; away = away.away; none = refl }));
-          prints = Prints-none m [] now.written end.outside.written away.unprinted;
-          ended = λ low_status. absurd (omega (arith, low_status, ap status_of away.stops, turned_status low high away.away.events away.cause away.away.turned));
-        };
-      }
+      | inl away ↦
+          let first : IsFirstOf (Some run) end.history = subst (IsFirstOf (Some run)) (sym away.history) (refl, ([], sym (append-none run.later))) in record {
+            first = first;
+            same_key = away.same_key;
+            goes = record {
+              key = inr (away.same_key ∙ sym (follow-key (at_run key docs run) number lines refused));
+              history = subst (λ h. IsFirstOf h m.history) (sym away.history) (first-follow (at_run key docs run) number lines refused);
+              answers = [];
+              passes = inr (inl (record { key = key; same_key = away.same_key; cause = away.cause; stops = away.stops; away = away.away; none = refl; most = λ next least most. omega (arith, ap (λ cs. length (frames_since f key run cs)) (no_commands run end.history first away.history)) }));
+              prints = Prints-none m [] now.written end.outside.written away.unprinted;
+              ended = λ low_status. absurd (omega (arith, low_status, ap status_of away.stops, turned_status low high away.away.events away.cause away.away.turned));
+            };
+          }
       | inr opened ↦
           let greeted = opened.1 in
           let w = went f n (at_run key docs run) number lines refused opened.0 end within kept_at opened.2 in

@@ -106,6 +106,7 @@ Passes-behind f frames more xs ys old now end events adds first rest = record {
   parts = ap (λ es. events ++ es) rest.parts ∙ sym (append_assoc events rest.before rest.cut);
   exchanged = subst (λ fs. AreExchanged (xs ++ ys) fs (events ++ rest.before)) (sym (take-append-add frames more rest.n)) (AreExchanged-both xs ys frames (take rest.n more) events rest.before first rest.exchanged);
   left = subst (λ fs. IsLeft f end fs rest.cut) (sym (drop-append-add frames more rest.n)) rest.left;
+  most = omega (arith, rest.most, length-append frames more);
   whole = λ few. AreExchanged-both xs ys frames more events rest.events first (rest.whole few);
 }
 
@@ -120,6 +121,7 @@ Passes-none f now end same outside = record {
   parts = refl;
   exchanged = AreExchanged-none;
   left = inl (refl, refl, outside);
+  most = omega arith;
   whole = λ few. AreExchanged-none;
 }
 

@@ -1,7 +1,7 @@
 -- The headline, as a law of runs; and that no run over an honest link ends with a collision or a bad reply, where the history
 -- up to its stop has no collision. Both begin with laws of any frames, sent after the greeting to a server in any state that
 -- answers them so.
-use Rattle.std.proofs.Common.{◌≡◌, ◌⊎◌, ℕ, false, ◌+◌, ◌^◌, ◌<◌, ◌≤◌, inl, inr, List, [], ◌∷◌, ◌++◌, length, map, take, drop, Some, None, refl, sym, ap, ◌∙◌, subst, arith}
+use Rattle.std.proofs.Common.{◌≡◌, ◌⊎◌, ℕ, suc, false, ◌+◌, ◌^◌, ◌<◌, ◌≤◌, inl, inr, List, [], ◌∷◌, ◌++◌, length, map, take, drop, Some, None, refl, sym, ap, ◌∙◌, subst, arith}
 use Rattle.std.specs.Prelude.{flat_map, Option, All, option_map}
 use Rattle.std.specs.Io.KnownBytes.{append_known}
 use Rattle.std.specs.List.{AllByRecursion}
@@ -15,7 +15,7 @@ use Rattle.client_registry.specs.Run.{History}
 use Rattle.sse_outside.proofs.Known.{append_known-twice}
 use Rattle.keyed_fn.specs.KeyedFn.{KeyedFn, IsKeyedFn}
 use Rattle.server_core.specs.State.{ServerState}
-use Rattle.server_core.specs.Step.{steps}
+use Rattle.server_core.specs.Step.{step, steps}
 use Rattle.sse_agreement.proofs.Histories.{IsAnswer, replies_agree, shown_are_answers, in_order-shown_in_turn}
 use Rattle.sse_agreement.specs.Taking.{Expects}
 use Rattle.sse_frames.specs.Exchange.{greeting, exchange, replied, searches}
@@ -33,7 +33,7 @@ use Rattle.sse_script.specs.Texts.{text_of}
 use Rattle.sse_outside.specs.Kept.{with_records}
 use Rattle.script_meaning.specs.Carries.{Outside, with_answers, text_with}
 use Rattle.script_meaning.specs.Exchange.{Told, Adds, AreExchanged, IsCut, as_event, bare}
-use Rattle.script_meaning.specs.Goes.{Passes, IsOpened, HasPassed, GoesFirst}
+use Rattle.script_meaning.specs.Goes.{frames_in_hand, Passes, IsOpened, HasPassed, GoesFirst}
 use Rattle.script_meaning.specs.Headline.{IsOverHonest, IsUndisturbed, Headline}
 use Rattle.script_meaning.specs.Lines.{Line, Empty, Key, Command, script_lines}
 use Rattle.script_meaning.specs.Meaning.{Meaning, meant_from, meaning}
@@ -45,6 +45,7 @@ use Rattle.script_meaning.specs.Stops.{status_of, stop_text}
 use Rattle.script_meaning.proofs.Following.{finds, follow-key, finds-meant}
 use Rattle.script_meaning.proofs.Going.{Adds-nothing, Adds-joined}
 use Rattle.script_meaning.proofs.Honest.{IsServed-bare, behind, cut_outside, behind_greeted, turned_outside}
+use Rattle.script_meaning.proofs.PartsLeft.{part_left, part_of_left, steps-next, turned_state}
 use Rattle.script_meaning.proofs.Recorded.{KeepsFirst-all, recorded}
 use Rattle.script_meaning.proofs.RunGoes.{goes, turned_status}
 use Rattle.script_meaning.proofs.Simulated.{session_with-simulated}
@@ -121,6 +122,19 @@ module _ (f : KeyedFn) (start : Served) (frames : List FrameText) (shown : List 
       empty [] e = refl
       empty (x ∷ xs) e = absurd (omega (arith, e))
 
+  -- wherever it stopped, the server is one that was sent the frames that were exchanged, and the next one or not
+  pub passes_left : (now : Told) (end : Ended) (answers : List (List ℕ)) (p : Passes f frames answers now end) → IsServed f start (map bare p.events) (idle state)
+      → (n : ℕ) × (p.n ≤ n) × (state ≡ (steps f start.state (take n frames)).0)
+  passes_left now end answers p served =
+      let bared : map bare p.events ≡ map as_event (exchange answers (take p.n frames)) ++ map bare p.cut =
+      ap (map bare) p.parts ∙ map-append bare p.before p.cut ∙ ap (λ es. es ++ map bare p.cut) p.exchanged.each in
+      let b = behind f start (idle state) frames p.n answers shown (map bare p.cut) answered.grammar (identifiers answers p.exchanged.ids) answered.given
+      p.exchanged.count answered.count answered.replies (subst (λ es. IsServed f start es (idle state)) bared served) in
+      elim (part_left f b.mid (idle state) (drop p.n frames) p.cut b.grammar (part_of_left f end (drop p.n frames) p.cut p.left) b.served) [
+        | inl same ↦ (p.n, omega arith, same ∙ b.state)
+        | inr (frame, rest, are, one) ↦ (suc p.n, omega arith, one ∙ ap (λ s. (step f s frame).0) b.state ∙ steps-next f start.state frames p.n frame rest are)
+      ]
+
 -- The greeting, and then such frames.
 
 module _ (f : KeyedFn) (low high : ℕ) (frames : (next : ℕ) → List FrameText) (answers : List (List ℕ)) (now : Told) (end : Ended) (fits : high < 2 ^ 32)
@@ -149,6 +163,25 @@ module _ (f : KeyedFn) (low high : ℕ) (frames : (next : ℕ) → List FrameTex
         let here : AreAnswered f mid.0.state (frames o.greets.next) shown =
         subst (λ s. AreAnswered f s (frames o.greets.next) shown) (sym mid.1) (subst (λ n. AreAnswered f before (frames n) shown) (sym mid.2) answered) in
         passes_outside f mid.0 (frames o.greets.next) shown here state o.greeted end answers o.passes free mid.3
+  ]
+
+  -- wherever it stopped, the server is one that was sent the first of them, all but some of the last command's
+  pub session_left : (key : List ℕ) → end.key ≡ Some key → (shown : List (List ℕ)) → AreAnswered f before (frames before.next) shown → HasPassed f low high frames answers now end
+      → (n : ℕ) × (length (frames before.next) ≤ n + frames_in_hand end.history) × (state ≡ (steps f before (take n (frames before.next))).0)
+  session_left key same_key shown answered passed = elim passed [
+    | inl u ↦ absurd (let no : Some key ≡ None = sym same_key ∙ u.key in cc)
+    | inr (inl u) ↦ let few = u.most before.next least most in (0, omega (arith, few), turned_state f (idle before) (idle state) low high u.away.events u.cause (IsServed-bare f (idle before) (idle state) u.away.events (served u.away.events u.away.adds)) u.away.turned)
+    | inr (inr o) ↦
+        let mid = opened_over o in
+        let same : frames o.greets.next ≡ frames before.next = ap frames mid.2 in
+        let here : AreAnswered f mid.0.state (frames o.greets.next) shown =
+        subst (λ s. AreAnswered f s (frames o.greets.next) shown) (sym mid.1) (subst (λ n. AreAnswered f before (frames n) shown) (sym mid.2) answered) in
+        let left = passes_left f mid.0 (frames o.greets.next) shown here state o.greeted end answers o.passes mid.3 in
+        let all = o.passes.most in (
+          left.0,
+          omega (arith, all, left.1, ap length same),
+          left.2 ∙ (λ i. (steps f (mid.1 i) (take left.0 (same i))).0),
+        )
   ]
 
   -- where all frames were exchanged, what passed is the greeting and their exchange, with the answers that are shown, and the
@@ -233,6 +266,13 @@ module _ (f : KeyedFn) (laws : IsKeyedFn f) (bytes : List ℕ) (now : Outside) (
     pub honest_status : IsFree f end.key end.history → status_of end.stop ≤ 7
     honest_status free =
         session_outside f 0 0 (λ next. frames_with f end.key end.history) g.answers now.told end (omega arith) before state least most free served (shown_with end.key end.history)
+        (history_is_answered f laws end.key end.history before (IsKept-first end.history m.history g.history kept) free expects) g.passes
+
+    -- wherever it stopped, the server is one that was sent the first frames of the history up to there, all but some of the last command's
+    pub frames_left : (key : List ℕ) → end.key ≡ Some key → IsFree f end.key end.history
+        → (n : ℕ) × (length (frames_with f end.key end.history) ≤ n + frames_in_hand end.history) × (state ≡ (steps f before (take n (frames_with f end.key end.history))).0)
+    frames_left key same_key free =
+        session_left f 0 0 (λ next. frames_with f end.key end.history) g.answers now.told end (omega arith) before state least most free served key same_key (shown_with end.key end.history)
         (history_is_answered f laws end.key end.history before (IsKept-first end.history m.history g.history kept) free expects) g.passes
 
     module _ (free : IsFree f m.key m.history) (low : status_of end.stop ≤ 2) where

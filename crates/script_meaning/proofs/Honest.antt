@@ -85,7 +85,7 @@ IsBehindGreeting (ForTook q) = Unit {0}
 IsBehindGreeting ForAnswer = Unit {0}
 
 -- a frame whose replies are those that are to come is no Hello, as its step always has a reply
-behind_greeting : (f : KeyedFn) (s : ServerState) (frame : FrameText) (ids : List ℕ) → (step f s frame).1 ≡ expected ids (asked frame) → IsBehindGreeting (asked frame)
+pub behind_greeting : (f : KeyedFn) (s : ServerState) (frame : FrameText) (ids : List ℕ) → (step f s frame).1 ≡ expected ids (asked frame) → IsBehindGreeting (asked frame)
 behind_greeting f s Hello ids e = absurd (let none : Next s.next ∷ [] ≡ [] = e in cc)
 behind_greeting f s (SetupBegin q b big m a) ids e = tt
 behind_greeting f s (SetupDict q width entries) ids e = tt
@@ -96,7 +96,7 @@ behind_greeting f s (DeleteFrame q numbers) ids e = tt
 behind_greeting f s (SearchFrame token) ids e = tt
 
 -- out of memory is no reply that is to come, nor is the report of a store fault
-not_lacking : (why : ReplyText) (ids : List ℕ) (asks : Asked) (due : List (List ℕ)) → 0x87 ≤ kind_of (reply_bytes why) → IsBehindGreeting asks → map reply_bytes (expected ids asks) ++ due ≡ reply_bytes why ∷ [] → ⊥
+pub not_lacking : (why : ReplyText) (ids : List ℕ) (asks : Asked) (due : List (List ℕ)) → 0x87 ≤ kind_of (reply_bytes why) → IsBehindGreeting asks → map reply_bytes (expected ids asks) ++ due ≡ reply_bytes why ∷ [] → ⊥
 not_lacking why ids asks due least is e = by asks (map reply_bytes (expected ids asks)) (kinds_expected ids asks) (some ids asks is) e
   where
     some : (ids : List ℕ) (asks : Asked) → IsBehindGreeting asks → 1 ≤ length (map reply_bytes (expected ids asks))

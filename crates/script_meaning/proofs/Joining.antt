@@ -55,7 +55,7 @@ unchanged s None replies = refl
 unchanged s (Some reply) replies = refl
 
 -- so it comes to the same without the searches among its frames
-steps-updates : (f : KeyedFn) (s : ServerState) (frames : List FrameText) → (steps f s (filter is_no_search frames)).0 ≡ (steps f s frames).0
+pub steps-updates : (f : KeyedFn) (s : ServerState) (frames : List FrameText) → (steps f s (filter is_no_search frames)).0 ≡ (steps f s frames).0
 steps-updates f s [] = refl
 steps-updates f s (Hello ∷ frames) = steps-updates f (step f s Hello).0 frames
 steps-updates f s (SetupBegin q b big m a ∷ frames) = steps-updates f (step f s (SetupBegin q b big m a)).0 frames
@@ -67,7 +67,7 @@ steps-updates f s (DeleteFrame q numbers ∷ frames) = steps-updates f (step f s
 steps-updates f s (SearchFrame token ∷ frames) =
     steps-updates f s frames ∙ ap (λ state. (steps f state frames).0) (sym (unchanged s (refusal s (SearchFrame token)) (answers f s (SearchFrame token))))
 
-updates_again : (cs : List Command) → filter is_update (filter is_update cs) ≡ filter is_update cs
+pub updates_again : (cs : List Command) → filter is_update (filter is_update cs) ≡ filter is_update cs
 updates_again [] = refl
 updates_again (Add d ∷ cs) = ap (λ (rest : List Command). Add d ∷ rest) (updates_again cs)
 updates_again (Delete id ∷ cs) = ap (λ (rest : List Command). Delete id ∷ rest) (updates_again cs)
@@ -78,7 +78,7 @@ module _ (f : KeyedFn) (key : List ℕ) (run : Run) where
   keys = keys_under key (Some run)
 
   -- the frames of a run's updates are those of the run that are no search's
-  frames_alone : frames_under f key (Some (updates_of run)) ≡ filter is_no_search (frames_under f key (Some run))
+  pub frames_alone : frames_under f key (Some (updates_of run)) ≡ filter is_no_search (frames_under f key (Some run))
   frames_alone = frames-updates (table_of f keys run) at_first run.setup run.later
 
   pub count_alone : update_frames (updates_of run) ≡ update_frames run

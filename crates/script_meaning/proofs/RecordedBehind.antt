@@ -1,5 +1,5 @@
 -- The records that are kept of a run that goes on after a history and the frames that it sends are of one history after it.
-use Rattle.std.proofs.Common.{◌≡◌, ◌≢◌, ◌⊎◌, ℕ, suc, ◌+◌, ◌≤◌, inl, inr, false, List, [], ◌∷◌, ◌++◌, length, map, take, drop, Some, None, refl, sym, ap, ◌∙◌, subst, arith, length-append}
+use Rattle.std.proofs.Common.{◌≡◌, ℕ, suc, ◌+◌, ◌≤◌, inl, inr, false, List, [], ◌∷◌, ◌++◌, length, map, take, drop, Some, refl, sym, ap, ◌∙◌, subst, arith, length-append}
 use Rattle.std.specs.Prelude.{Option}
 use Rattle.std.proofs.Math.Seq.{take-append-add, take-length}
 use Rattle.std.proofs.lemmas.List.{append-nil, drop-append-le, map-append}
@@ -8,15 +8,13 @@ use Rattle.client_registry.specs.Histories.{IsFirstOf}
 use Rattle.client_registry.specs.Run.{Run}
 use Rattle.keyed_fn.specs.KeyedFn.{KeyedFn}
 use Rattle.link_events.specs.Events.{Event}
-use Rattle.sse_frames.specs.Exchange.{greeting}
 use Rattle.sse_frames.specs.Frames.{FrameText, Hello, frame_bytes}
-use Rattle.sse_outside.specs.Kept.{Kept}
 use Rattle.script_meaning.specs.Carries.{Outside}
 use Rattle.script_meaning.specs.Continues.{at_run}
-use Rattle.script_meaning.specs.Exchange.{Told, Adds, as_event, sent_in}
+use Rattle.script_meaning.specs.Exchange.{Told, Adds, sent_in}
 use Rattle.script_meaning.specs.Lines.{Line}
 use Rattle.script_meaning.specs.Recorded.{KeepsFirst, records_in}
-use Rattle.script_meaning.specs.Rejoins.{CatchesUp, HasCaughtUp, HasSent, IsRecordedBehind, Rejoins, StopsShort, StopsUntold, frames_under, lacking}
+use Rattle.script_meaning.specs.Rejoins.{HasCaughtUp, HasSent, IsRecordedBehind, Rejoins, StopsShort, StopsUntold, frames_under, lacking}
 use Rattle.script_meaning.specs.Runs.{Ended, IsGreeted, IsTurnedAway, Runs}
 use Rattle.script_meaning.specs.Stops.{status_of}
 use Rattle.script_meaning.proofs.Going.{Adds-joined, Adds-nothing, Keeps-nothing, front_more}
@@ -28,9 +26,10 @@ module _ (f : KeyedFn) (key : List ℕ) (run : Run) (low high number : ℕ) (lin
   own = frames_under f key (Some run)
 
   -- a run that took no record and sent the first of these
-  none_taken : end.history ≡ Some run → end.outside.kept ≡ now.kept → (next : ℕ) (events : List Event) → Adds now.told end.outside.told events
+  none_taken : end.key ≡ Some key → end.history ≡ Some run → end.outside.kept ≡ now.kept → (next : ℕ) (events : List Event) → Adds now.told end.outside.told events
       → (count : ℕ) → sent_in events ≡ map frame_bytes (take count (Hello ∷ drop next own)) → IsRecordedBehind f key run now end
-  none_taken history unkept next events adds count sent = record {
+  none_taken same_key history unkept next events adds count sent = record {
+    same_key = same_key;
     held = Some run;
     since = IsFirstOf-same (Some run);
     first = subst (λ h. IsFirstOf (Some run) h) (sym history) (IsFirstOf-same (Some run));
@@ -52,7 +51,7 @@ module _ (f : KeyedFn) (key : List ℕ) (run : Run) (low high number : ℕ) (lin
   away a =
       let turned = sent_in-turned low high a.away.events a.cause a.away.turned in
       let more = front_more turned.0 (Hello ∷ []) (drop 0 own) in
-      none_taken a.history a.unkept 0 a.away.events a.away.adds more.0 (turned.1 ∙ ap (map frame_bytes) (sym more.1))
+      none_taken a.same_key a.history a.unkept 0 a.away.events a.away.adds more.0 (turned.1 ∙ ap (map frame_bytes) (sym more.1))
 
   -- Behind the greeting.
 
@@ -73,16 +72,16 @@ module _ (f : KeyedFn) (key : List ℕ) (run : Run) (low high number : ℕ) (lin
     joined events adds = Adds-joined now.told greeted.told end.outside.told g.greets.events events g.greets.adds adds
 
     -- so many of the frames that the server lacks
-    lacking_sent : end.history ≡ Some run → end.outside.kept ≡ now.kept → (events : List Event) → Adds greeted.told end.outside.told events
+    lacking_sent : end.key ≡ Some key → end.history ≡ Some run → end.outside.kept ≡ now.kept → (events : List Event) → Adds greeted.told end.outside.told events
         → (count : ℕ) → sent_in events ≡ map frame_bytes (take count left) → IsRecordedBehind f key run now end
-    lacking_sent history unkept events adds count sent = none_taken history unkept next (g.greets.events ++ events) (joined events adds) (suc count) (behind events (take count left) sent)
+    lacking_sent same_key history unkept events adds count sent = none_taken same_key history unkept next (g.greets.events ++ events) (joined events adds) (suc count) (behind events (take count left) sent)
 
     short : StopsShort f left key run greeted end → IsRecordedBehind f key run now end
     short s = elim s.short [
       | inl (events, adds, cut) ↦
           let sent = sent_in-cut_short left events s.cause cut in
-          lacking_sent s.history (s.unkept ∙ g.unkept) events adds sent.0 sent.1
-      | inr (same, why, free) ↦ lacking_sent s.history (s.unkept ∙ g.unkept) [] (same ∙ Adds-nothing greeted.told) 0 refl
+          lacking_sent s.same_key s.history (s.unkept ∙ g.unkept) events adds sent.0 sent.1
+      | inr (same, why, free) ↦ lacking_sent s.same_key s.history (s.unkept ∙ g.unkept) [] (same ∙ Adds-nothing greeted.told) 0 refl
     ]
 
     -- all of them
@@ -91,7 +90,7 @@ module _ (f : KeyedFn) (key : List ℕ) (run : Run) (low high number : ℕ) (lin
 
     untold : StopsUntold left key run greeted end → IsRecordedBehind f key run now end
     untold u =
-        lacking_sent u.history (u.unkept ∙ g.unkept) u.sent.events u.sent.adds (length left)
+        lacking_sent u.same_key u.history (u.unkept ∙ g.unkept) u.sent.events u.sent.adds (length left)
         (whole_sent greeted.told end.outside.told u.sent ∙ ap (map frame_bytes) (sym (take-length left)))
 
     -- and the lines behind
@@ -104,6 +103,7 @@ module _ (f : KeyedFn) (key : List ℕ) (run : Run) (low high number : ℕ) (lin
 
       went_on : IsRecordedBehind f key run now end
       went_on = record {
+        same_key = w.same_key;
         held = w.held;
         since = w.since;
         first = w.first;

@@ -1,11 +1,12 @@
 -- A session that goes on after a run with a server that took the first of its frames: over an honest link no collision and no reply
 -- stops it where the history up to its stop has no collision; and where nothing stopped it from outside either, it sent what the
 -- server lacked and did what its lines mean.
-use Rattle.std.proofs.Common.{◌≡◌, ◌⊎◌, ℕ, zero, suc, false, ◌^◌, ◌<◌, ◌≤◌, inl, inr, List, [], ◌∷◌, ◌++◌, length, map, take, drop, Some, refl, sym, ap, ◌∙◌, subst, arith, append_assoc, length-append}
+use Rattle.std.proofs.Common.{◌≡◌, ◌⊎◌, ℕ, zero, suc, ◌+◌, false, ◌^◌, ◌<◌, ◌≤◌, inl, inr, List, [], ◌∷◌, ◌++◌, length, map, take, drop, Some, refl, sym, ap, ◌∙◌, subst, arith, append_assoc, length-append}
 use Rattle.std.specs.Prelude.{filter, flat_map, Option}
 use Rattle.std.specs.Io.KnownBytes.{append_known}
 use Rattle.std.specs.List.{AllByRecursion}
-use Rattle.std.proofs.lemmas.List.{append-nil, append_cancel_left, drop-append-le, take-append-drop, take-append-le}
+use Rattle.std.proofs.Math.Seq.{take-add}
+use Rattle.std.proofs.lemmas.List.{append-nil, append_cancel_left, drop-append-le, length-drop, take-append-drop, take-append-le}
 use Rattle.client_records.specs.Recorded.{recorded}
 use Rattle.client_registry.proofs.HistoryLaws.{IsFirstOf-same, IsKept-first}
 use Rattle.client_registry.specs.Command.{Command, Add, Delete, Search, is_update}
@@ -40,7 +41,7 @@ use Rattle.sse_outside.specs.Kept.{with_records}
 use Rattle.script_meaning.specs.Carries.{Keeps, Outside, text_with, with_answers}
 use Rattle.script_meaning.specs.Continues.{at_run, frames_since}
 use Rattle.script_meaning.specs.Exchange.{Adds, as_event}
-use Rattle.script_meaning.specs.Goes.{Passes, IsOpened, HasPassed}
+use Rattle.script_meaning.specs.Goes.{frames_in_hand, Passes, IsOpened, HasPassed}
 use Rattle.script_meaning.specs.Headline.{IsOverHonest, IsUndisturbed}
 use Rattle.script_meaning.specs.Lines.{Line}
 use Rattle.script_meaning.specs.Meaning.{Meaning, follow}
@@ -49,10 +50,10 @@ use Rattle.script_meaning.specs.Rejoins.{frames_under, HasTaken, lacking, StopsS
 use Rattle.script_meaning.specs.Runs.{Ended, Ends, IsGreeted, Runs}
 use Rattle.script_meaning.specs.Session.{IsFree}
 use Rattle.script_meaning.specs.Stops.{SinkFault, At, status_of, stop_text}
-use Rattle.script_meaning.proofs.Continuing.{since, shown_in_turn-longer}
+use Rattle.script_meaning.proofs.Continuing.{no_commands, since, shown_in_turn-longer}
 use Rattle.script_meaning.proofs.Following.{finds, finds-follow, first-follow, follow-key}
 use Rattle.script_meaning.proofs.Going.{Adds-joined, Adds-nothing, AreExchanged-none, Passes-behind, Passes-none}
-use Rattle.script_meaning.proofs.Headline.{AreAnswered, history_is_answered, session_outside, session_whole, opened_over, same_events, with_answers-finds, few, IsFree-first}
+use Rattle.script_meaning.proofs.Headline.{AreAnswered, history_is_answered, session_left, session_outside, session_whole, opened_over, same_events, with_answers-finds, few, IsFree-first}
 use Rattle.script_meaning.proofs.Kept.{IsWithinItem, IsKeptAt, kept_follow}
 use Rattle.script_meaning.proofs.Recorded.{KeepsFirst-all, records-longer, kept_since}
 use Rattle.script_meaning.proofs.RunGoes.{Passes-cut, clash_status, cut_status, turned_status, Went, went}
@@ -119,7 +120,7 @@ module _ (f : KeyedFn) (laws : IsKeyedFn f) (key : List ℕ) (run : Run) (update
   all = frames_under f key (Some run)
 
   -- those from a number on of the run and of commands after it
-  frames_behind : (n : ℕ) (more : List Command) → n ≤ update_frames run → drop n (frames_under f key (longer more (Some run))) ≡ lacking f key run n ++ frames_since f key run more
+  pub frames_behind : (n : ℕ) (more : List Command) → n ≤ update_frames run → drop n (frames_under f key (longer more (Some run))) ≡ lacking f key run n ++ frames_since f key run more
   frames_behind n more few =
       ap (drop n) (frames_sent-longer f keys (Some run) more)
       ∙ drop-append-le n all (frames_since f key run more) (omega (arith, few, length-frames_under f key run updates))
@@ -147,7 +148,7 @@ module _ (f : KeyedFn) (laws : IsKeyedFn f) (key : List ℕ) (run : Run) (update
       (λ i. ((ap (λ fs. (steps f had.start fs).0) first ∙ sym had.sent) i, frames_behind next more had.within i, shown i)) behind
 
   module _ (n number : ℕ) (lines : List (Option Line)) (within : AllByRecursion IsWithinItem lines) (kept_at : IsKeptAt n (at_run key [] run))
-      (low high : ℕ) (fits : high < 2 ^ 32) (least : low ≤ next) (most : next ≤ high)
+      (low high : ℕ) (fits : high < 2 ^ 32) (least : low ≤ next) (most : next ≤ high) (near : update_frames run ≤ low + frames_in_hand (Some run))
       (now : Outside) (end : Ended) (goes : Rejoins f low high key run number lines now end) where
     abbrev m : Meaning
     m = follow (at_run key [] run) number lines false
@@ -180,14 +181,14 @@ module _ (f : KeyedFn) (laws : IsKeyedFn f) (key : List ℕ) (run : Run) (update
           same_key = same_key;
           history = subst (λ h. IsFirstOf h m.history) (sym history) (first-follow (at_run key [] run) number lines false);
           answers = answers;
-          passes = passes (commands_in end.history first) (none (commands_in end.history first) (sym (since run end.history first).1 ∙ history));
+          passes = passes (commands_in end.history first) (no_commands run end.history first history);
         }
-      where
-        later_of : (a b : Run) → Some a ≡ Some b → a.later ≡ b.later
-        later_of a b e = ap (λ (r : Run). r.later) (let same : a ≡ b = cc in same)
 
-        none : (commands : List Command) → longer commands (Some run) ≡ Some run → commands ≡ []
-        none commands e = append_cancel_left run.later commands [] (later_of (record run { later = run.later ++ commands }) run e ∙ sym (append-nil run.later))
+    -- of the run's frames from a possible number on there are at most those of its last command
+    few_lacking : (q : ℕ) → low ≤ q → end.history ≡ Some run → length (lacking f key run q) ≤ frames_in_hand end.history
+    few_lacking q at_least history =
+        subst (λ h. length (lacking f key run q) ≤ frames_in_hand h) (sym history)
+        (omega (arith, near, at_least, length-drop q all, length-frames_under f key run updates))
 
     module _ (greeted : Outside) (g : IsGreeted low high now greeted) where
       abbrev lacked : List FrameText
@@ -204,7 +205,7 @@ module _ (f : KeyedFn) (laws : IsKeyedFn f) (key : List ℕ) (run : Run) (update
 
       short : StopsShort f lacked key run greeted end → GoesRejoining
       short s = elim s.short [
-        | inl cut ↦ stopped_open cut.2.answers s.same_key s.history (Passes-cut f lacked greeted.told end cut.0 s.cause s.stops cut.1 cut.2)
+        | inl cut ↦ stopped_open cut.2.answers s.same_key s.history (Passes-cut f lacked greeted.told end cut.0 s.cause s.stops cut.1 (few_lacking g.greets.next g.greets.least s.history) cut.2)
         | inr clash ↦
             let status : status_of end.stop ≡ 8 = ap status_of s.stops ∙ clash_status (Some clash.1.0) s.cause (ap (λ c. Some c) (sym clash.1.1)) in
             stopped_open [] s.same_key s.history (record {
@@ -215,6 +216,7 @@ module _ (f : KeyedFn) (laws : IsKeyedFn f) (key : List ℕ) (run : Run) (update
               cut = [];
               parts = refl;
               exchanged = AreExchanged-none;
+              most = let few = few_lacking g.greets.next g.greets.least s.history in omega (arith, few);
               left = inr (inr (inr (refl, λ free. clash.2 (subst (λ h. IsFree f (Some key) h) s.history (subst (λ k. IsFree f k end.history) s.same_key free)))));
               whole = λ low_status. absurd (omega (arith, low_status, status));
             })
@@ -266,7 +268,17 @@ module _ (f : KeyedFn) (laws : IsKeyedFn f) (key : List ℕ) (run : Run) (update
 
     pub goes_rejoining : GoesRejoining
     goes_rejoining = elim goes [
-      | inl away ↦ stopped [] away.same_key away.history (λ commands none. inr (inl (record { key = key; same_key = away.same_key; cause = away.cause; stops = away.stops; away = away.away; none = refl })))
+      | inl away ↦ stopped [] away.same_key away.history (λ commands none. inr (inl (record {
+        key = key;
+        same_key = away.same_key;
+        cause = away.cause;
+        stops = away.stops;
+        away = away.away;
+        none = refl;
+        most = λ q least most.
+            let here = few_lacking q least away.history in
+            omega (arith, here, length-append (lacking f key run q) (frames_since f key run commands), ap (λ cs. length (frames_since f key run cs)) none);
+      })))
       | inr (greeted, g, inl s) ↦ short greeted g s
       | inr (greeted, g, inr (inl u)) ↦ untold greeted g u
       | inr (greeted, g, inr (inr (later, caught, runs))) ↦ went_on greeted g later caught runs
@@ -296,6 +308,30 @@ module _ (f : KeyedFn) (laws : IsKeyedFn f) (key : List ℕ) (run : Run) (update
           let g = goes_rejoining in
           session_outside f low high (to_send (commands_in end.history g.first)) g.answers now.told end fits before state at_least at_most free served (shown_behind run (commands_in end.history g.first))
           (answered end.history g.first g.history (subst (λ k. IsFree f k end.history) g.same_key free)) g.passes
+
+      -- wherever it stopped, the server is one that was sent the first frames of the history up to there, all but some of the last command's
+      pub frames_left_after : IsFree f end.key end.history
+          → (n : ℕ) × (length (frames_under f key end.history) ≤ n + frames_in_hand end.history) × (state ≡ (steps f had.start (take n (frames_under f key end.history))).0)
+      frames_left_after free =
+          let g = goes_rejoining in
+          let cs = commands_in end.history g.first in
+          let whole = frames_under f key end.history in
+          let history : end.history ≡ longer cs (Some run) = (since run end.history g.first).1 in
+          let left = session_left f low high (to_send cs) g.answers now.told end fits before state at_least at_most free served key g.same_key (shown_behind run cs)
+          (answered end.history g.first g.history (subst (λ k. IsFree f k end.history) g.same_key free)) g.passes in
+          let sends : to_send cs before.next ≡ drop next whole = ap (to_send cs) had.number ∙ sym (frames_behind next cs had.within) ∙ ap (λ h. drop next (frames_under f key h)) (sym history) in
+          let first : take next whole ≡ take next all =
+          ap (λ h. take next (frames_under f key h)) history
+          ∙ ap (take next) (frames_sent-longer f keys (Some run) cs)
+          ∙ take-append-le next all (frames_since f key run cs) (omega (arith, had.within, length-frames_under f key run updates)) in (
+            next + left.0,
+            omega (arith, left.1, ap length sends, length-drop next whole),
+            left.2
+                ∙ ap (λ fs. (steps f before (take left.0 fs)).0) sends
+                ∙ ap (λ s. (steps f s (take left.0 (drop next whole))).0) (had.sent ∙ ap (λ fs. (steps f had.start fs).0) (sym first))
+                ∙ sym (ap (λ r. r.0) (steps-append f had.start (take next whole) (take left.0 (drop next whole))))
+                ∙ ap (λ fs. (steps f had.start fs).0) (sym (take-add next left.0 whole)),
+          )
 
       -- and where nothing else did, it sent what the server lacked and did what its lines mean
       pub rejoined : (last : Outside) → Ends end last → HasNoCollision f (keys_under key m.history) m.history → IsUndisturbed (status_of end.stop)

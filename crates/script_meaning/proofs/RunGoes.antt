@@ -21,7 +21,7 @@ use Rattle.sse_script.specs.Stops.{cause_status}
 use Rattle.sse_script.specs.TextLines.{lines_of}
 use Rattle.script_meaning.specs.Carries.{Outside, keys_at, frames_by, collision_cause, clash_in_hand, text_with, Carries, FindsClash, LacksMemory, IsUnkept, IsCutShort, IsUnprinted}
 use Rattle.script_meaning.specs.Exchange.{Told, Adds, AreCut, IsCut}
-use Rattle.script_meaning.specs.Goes.{Passes, Prints, GoesFirst}
+use Rattle.script_meaning.specs.Goes.{frames_in_hand, Passes, Prints, GoesFirst}
 use Rattle.script_meaning.specs.Greeting.{IsTurned}
 use Rattle.script_meaning.specs.Lines.{Line, Empty, Key, Command, Request, script_lines}
 use Rattle.script_meaning.specs.Meaning.{Meaning, showing, follow, meant_from, meaning}
@@ -31,7 +31,7 @@ use Rattle.script_meaning.specs.Session.{frames_with, IsFree}
 use Rattle.script_meaning.specs.Stops.{Stop, AtEnd, SinkFault, At, status_of}
 use Rattle.script_meaning.proofs.Kept.{IsWithinItem, IsKeptAt, IsKeptAt-opened, kept_next}
 use Rattle.script_meaning.proofs.Within.{IsWithin-lines_in}
-use Rattle.script_meaning.proofs.Following.{first-next, frames-next, searches-next, no_clash-next, after-key, follow-key, first-follow}
+use Rattle.script_meaning.proofs.Following.{first-next, few-next, frames-next, searches-next, no_clash-next, after-key, follow-key, first-follow}
 use Rattle.script_meaning.proofs.Going.{Adds-nothing, AreExchanged-none, append_known-nothing, text_with-append, front_more, Passes-behind, Passes-none, Prints-none, shows_status, answer_status}
 
 -- Which statuses a stop within a line has.
@@ -59,8 +59,9 @@ turned_status low high (Sent bytes mark ∷ Sent more other ∷ events) cause is
 turned_status low high (Sent bytes mark ∷ Received reply ∷ event ∷ events) cause is = absurd is
 
 -- a cut exchange is what passed of these frames
-pub Passes-cut : (f : KeyedFn) (frames : List FrameText) (now : Told) (end : Ended) (events : List Event) (cause : Cause) → end.stop ≡ At cause → Adds now end.outside.told events → (c : AreCut frames events cause) → Passes f frames c.answers now end
-Passes-cut f frames now end events cause stops adds c = record {
+pub Passes-cut : (f : KeyedFn) (frames : List FrameText) (now : Told) (end : Ended) (events : List Event) (cause : Cause) → end.stop ≡ At cause → Adds now end.outside.told events → length frames ≤ frames_in_hand end.history → (c : AreCut frames events cause)
+    → Passes f frames c.answers now end
+Passes-cut f frames now end events cause stops adds few c = record {
   events = events;
   adds = adds;
   n = c.n;
@@ -69,7 +70,8 @@ Passes-cut f frames now end events cause stops adds c = record {
   parts = c.parts;
   exchanged = c.exchanged;
   left = inr (inl (cause, stops, c.one_more));
-  whole = λ few. absurd (omega (arith, few, ap status_of stops, cut_status (drop c.n frames) c.cut cause c.one_more));
+  most = omega (arith, few);
+  whole = λ low. absurd (omega (arith, low, ap status_of stops, cut_status (drop c.n frames) c.cut cause c.one_more));
 }
 
 -- what a run does since a moment after a history, over lines of this meaning
@@ -126,6 +128,9 @@ module _ (f : KeyedFn) where
       frames_of : frames_sent f (keys_at place) end.history ≡ frames_sent f (keys_at place) place.history ++ frames_by f place result
       frames_of = ap (frames_sent f (keys_at place)) s.history ∙ frames-next place line f
 
+      few_in_hand : length (frames_by f place result) ≤ frames_in_hand end.history
+      few_in_hand = subst (λ h. length (frames_by f place result) ≤ frames_in_hand h) (sym s.history) (few-next place line f)
+
       went-clash : FindsClash f place result now end.outside end.stop → Went f place.key place.history whole now end
       went-clash c =
           let status : status_of end.stop ≡ 8 = ap status_of c.stops ∙ clash_status _ c.cause c.found in record {
@@ -144,6 +149,7 @@ module _ (f : KeyedFn) where
               parts = refl;
               exchanged = AreExchanged-none;
               left = inr (inr (inr (refl, λ free. never c.cause c.found (no_clash-next f place line kept (subst (λ h. HasNoCollision f (keys_at place) h) s.history (subst (λ k. IsFree f k end.history) s.key free))))));
+              most = omega (arith, few_in_hand);
               whole = λ few. absurd (omega (arith, few, status));
             };
             prints = Prints-none whole [] now.written end.outside.written (ap (λ (o : Outside). o.written) c.nothing);
@@ -175,6 +181,7 @@ module _ (f : KeyedFn) where
                 | inl disk ↦ inr (inr (inl (refl, stops ∙ ap (λ c. At c) disk)))
                 | inr memory ↦ inr (inl (NoMemory, stops ∙ ap (λ c. At c) memory, nothing_of (frames_by f place result)))
               ];
+              most = omega (arith, few_in_hand);
               whole = λ few. absurd (omega (arith, few, status));
             };
             prints = Prints-none whole [] now.written end.outside.written unprinted;
@@ -202,7 +209,7 @@ module _ (f : KeyedFn) where
         more = frames_by f place result;
         frames = frames_of;
         answers = c.cut.answers;
-        passes = Passes-cut f (frames_by f place result) now.told end c.events c.cause c.stops c.adds c.cut;
+        passes = Passes-cut f (frames_by f place result) now.told end c.events c.cause c.stops c.adds few_in_hand c.cut;
         prints = Prints-none whole c.cut.answers now.written end.outside.written c.unprinted;
         ended_well = λ few. absurd (omega (arith, few, ap status_of c.stops, cut_status _ c.cut.cut c.cause c.cut.one_more));
       }
@@ -334,7 +341,7 @@ module _ (f : KeyedFn) where
         key = inr (away.same_key ∙ sym (follow-key (opened key) (number + 1) lines false));
         history = subst (λ h. IsFirstOf h m.history) (sym away.history) tt;
         answers = [];
-        passes = inr (inl (record { key = key; same_key = away.same_key; cause = away.cause; stops = away.stops; away = away.away; none = refl }));
+        passes = inr (inl (record { key = key; same_key = away.same_key; cause = away.cause; stops = away.stops; away = away.away; none = refl; most = λ next least most. omega (arith, ap length (λ i. frames_with f (away.same_key i) (away.history i))) }));
         prints = Prints-none m [] now.written end.outside.written away.unprinted;
         ended = λ few. absurd (omega (arith, few, ap status_of away.stops, turned_status 0 0 away.away.events away.cause away.away.turned));
       }

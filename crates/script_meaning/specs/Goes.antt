@@ -1,8 +1,12 @@
 -- What follows from a run over any link, by the meaning of its script: what passed is the first of the session of the history
 -- up to where it stopped, and what was printed is the first of the meaning's lines with the answers that came.
-use Rattle.std.specs.Prelude.{◌≡◌, ◌⊎◌, ◌≤◌, ℕ, List, [], ◌++◌, take, drop, None, Some, Option}
+use Rattle.std.specs.Prelude.{◌≡◌, ◌⊎◌, ◌≤◌, ℕ, ◌+◌, List, [], ◌∷◌, ◌++◌, length, take, drop, None, Some, Option}
 use Rattle.std.specs.Io.KnownBytes.{append_known}
+use Rattle.client_registry.specs.Acceptance.{frames_needed}
+use Rattle.client_registry.specs.Command.{Command}
 use Rattle.client_registry.specs.Histories.{IsFirstOf}
+use Rattle.client_registry.specs.Run.{History}
+use Rattle.client_registry.specs.Setup.{Setup}
 use Rattle.keyed_fn.specs.KeyedFn.{KeyedFn}
 use Rattle.sse_frames.specs.Frames.{FrameText}
 use Rattle.link_events.specs.Events.{Event}
@@ -24,8 +28,17 @@ IsLeft f end left cut =
     ⊎ ((cut ≡ []) × (end.stop ≡ At DiskFault))
     ⊎ ((cut ≡ []) × (IsFree f end.key end.history → ⊥))
 
--- the first n of these frames were exchanged, with these answers, and at most a part of the next; all of them, where the run
--- came to the end of its script or to a bad line
+-- how many frames the last command of a history has: those of its setup, or one
+abbrev pub frames_of_last : Setup → List Command → ℕ
+frames_of_last s [] = frames_needed s
+frames_of_last s (c ∷ later) = 1
+
+abbrev pub frames_in_hand : History → ℕ
+frames_in_hand None = 0
+frames_in_hand (Some run) = frames_of_last run.setup run.later
+
+-- the first n of these frames were exchanged, with these answers, and at most a part of the next: all of them but some of the last
+-- command of the history up to the stop; and all of them, where the run came to the end of its script or to a bad line
 pub record Passes (f : KeyedFn) (frames : List FrameText) (answers : List (List ℕ)) (now : Told) (end : Ended) : Type 0 where
   pub events : List Event
   pub adds : Adds now end.outside.told events
@@ -35,6 +48,7 @@ pub record Passes (f : KeyedFn) (frames : List FrameText) (answers : List (List 
   pub parts : events ≡ before ++ cut
   pub exchanged : AreExchanged answers (take n frames) before
   pub left : IsLeft f end (drop n frames) cut
+  pub most : length frames ≤ n + frames_in_hand end.history
   pub whole : status_of end.stop ≤ 2 → AreExchanged answers frames events
 
 -- After the greeting.
@@ -46,14 +60,15 @@ pub record IsUnopened (answers : List (List ℕ)) (now : Told) (end : Ended) : T
   pub stops : status_of end.stop ≤ 7
   pub none : answers ≡ []
 
--- it wasn't opened, since it was turned away
-pub record IsUngreeted (low high : ℕ) (answers : List (List ℕ)) (now : Told) (end : Ended) : Type 0 where
+-- it wasn't opened, since it was turned away: none of the frames was sent, which are at most those of the last command
+pub record IsUngreeted (low high : ℕ) (frames : (next : ℕ) → List FrameText) (answers : List (List ℕ)) (now : Told) (end : Ended) : Type 0 where
   pub key : List ℕ
   pub same_key : end.key ≡ Some key
   pub cause : Cause
   pub stops : end.stop ≡ At cause
   pub away : TurnsAway low high now end.outside.told cause
   pub none : answers ≡ []
+  pub most : (next : ℕ) → low ≤ next → next ≤ high → length (frames next) ≤ frames_in_hand end.history
 
 -- it was opened, and then of the frames that are sent to a server that expects this update a front passed
 pub record IsOpened (f : KeyedFn) (low high : ℕ) (frames : (next : ℕ) → List FrameText) (answers : List (List ℕ)) (now : Told) (end : Ended) : Type 0 where
@@ -64,7 +79,7 @@ pub record IsOpened (f : KeyedFn) (low high : ℕ) (frames : (next : ℕ) → Li
   pub passes : Passes f (frames greets.next) answers greeted end
 
 abbrev pub HasPassed : KeyedFn → (low high : ℕ) → (frames : (next : ℕ) → List FrameText) → List (List ℕ) → Told → Ended → Type 0
-HasPassed f low high frames answers now end = IsUnopened answers now end ⊎ IsUngreeted low high answers now end ⊎ IsOpened f low high frames answers now end
+HasPassed f low high frames answers now end = IsUnopened answers now end ⊎ IsUngreeted low high frames answers now end ⊎ IsOpened f low high frames answers now end
 
 -- a front of the meaning's lines is printed, with these answers
 pub record Prints (m : Meaning) (answers : List (List ℕ)) (now end : Option (List ℕ)) : Type 0 where

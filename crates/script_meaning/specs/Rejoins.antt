@@ -124,6 +124,7 @@ pub record Rejoined (f : KeyedFn) (start : ServerState) (key : List ℕ) (run : 
 -- up to its stop, or of the one before the command in hand, which has at most one record less, and that one may have been refused; and the
 -- frames that were sent are Hello and the first of the frames, from a number on, of the history whose records are there
 pub record IsRecordedBehind (f : KeyedFn) (key : List ℕ) (run : Run) (now : Outside) (end : Ended) : Type 0 where
+  pub same_key : end.key ≡ Some key
   pub held : History
   pub since : IsFirstOf (Some run) held
   pub first : IsFirstOf held end.history
