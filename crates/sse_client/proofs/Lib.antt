@@ -24,3 +24,7 @@ pub mod RunsOnDisk
 pub mod RecordsLast
 pub mod KeptOnDisk
 pub mod RecordedFrames
+pub mod EmptyFile
+pub mod FirstFrames
+pub mod LentLink
+pub mod OverStore

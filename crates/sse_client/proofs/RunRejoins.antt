@@ -6,9 +6,11 @@ use Rattle.std.specs.Io.KnownBytes.{append_known}
 use Rattle.std.specs.List.{AllByRecursion}
 use Rattle.std.proofs.Math.Seq.{drop-append-add, take-length}
 use Rattle.std.proofs.lemmas.List.{append-nil, length-drop}
+use Rattle.client_core.proofs.OwesLaws.{last_frames-with_command}
 use Rattle.client_core.proofs.ResumeLaws.{last_collision-with_command}
 use Rattle.client_core.specs.Owes.{last_frames}
 use Rattle.client_core.specs.Resumes.{IsWithin, first_of_last}
+use Rattle.client_core.specs.StandsFor.{frames_next}
 use Rattle.client_journal.proofs.Fronts.{bad_not_elsewhere, bad_once, open_not_bad, open_not_elsewhere}
 use Rattle.client_journal.specs.Recordings.{IsBadUnder}
 use Rattle.client_records.proofs.OpeningLaws.{opens_once}
@@ -29,6 +31,7 @@ use Rattle.server_core.specs.Step.{steps}
 use Rattle.sse_agreement.specs.Taking.{Expects}
 use Rattle.sse_frames.specs.Exchange.{greeting}
 use Rattle.sse_frames.specs.Frames.{FrameText}
+use Rattle.sse_model.proofs.Counts.{length-frames_of_setup}
 use Rattle.sse_model.proofs.Prefixes.{frames_by}
 use Rattle.sse_model.specs.Compared.{Collision}
 use Rattle.sse_model.specs.Epochs.{keys_under}
@@ -40,16 +43,18 @@ use Rattle.sse_script.specs.Shown.{Cause}
 use Rattle.sse_script.specs.Texts.{text_of}
 use Rattle.script_meaning.proofs.Following.{follow-key}
 use Rattle.script_meaning.proofs.Going.{Adds-nothing, AreExchanged-none}
-use Rattle.script_meaning.proofs.Kept.{IsKeptAt, IsKeptAt-opened, IsWithinItem}
+use Rattle.script_meaning.proofs.Kept.{IsKeptAt, IsKeptAt-opened, IsWithinItem, kept_follow}
 use Rattle.script_meaning.proofs.Joining.{count_alone, opened_by, took_all}
+use Rattle.script_meaning.proofs.Leaving.{rejoined_leaves}
 use Rattle.script_meaning.proofs.RecordedBehind.{recorded_behind}
 use Rattle.script_meaning.proofs.Rejoining.{length-frames_under, rejoined, rejoined_status}
 use Rattle.script_meaning.proofs.Within.{IsWithin-lines_in, meaning_is_kept}
 use Rattle.script_meaning.specs.Carries.{Outside}
 use Rattle.script_meaning.specs.Continues.{at_run}
 use Rattle.script_meaning.specs.Exchange.{Told, AreCut, AreExchanged, IsCut, as_event}
+use Rattle.script_meaning.specs.Goes.{frames_in_hand, frames_of_last}
 use Rattle.script_meaning.specs.Headline.{Headline, IsOverHonest, IsUndisturbed}
-use Rattle.script_meaning.specs.Joined.{updates_of}
+use Rattle.script_meaning.specs.Joined.{updates_of, LeavesServer, LeavesTaken}
 use Rattle.script_meaning.specs.Lines.{Line, Empty, Key, Command as CommandLine, script_lines}
 use Rattle.script_meaning.specs.Meaning.{meaning}
 use Rattle.script_meaning.specs.Recorded.{records_in, records_with}
@@ -58,7 +63,7 @@ use Rattle.script_meaning.specs.Runs.{Ended, Ends, IsGreeted, StopsReading}
 use Rattle.script_meaning.specs.Session.{IsFree, frames_with}
 use Rattle.script_meaning.specs.Stops.{At, status_of, stop_text}
 use Rattle.sse_script.specs.TextLines.{lines_of}
-use Rattle.sse_client.specs.CanGoOn.{CanGoOn, IsRecordedAfter, StopsUnsent, meaning_after}
+use Rattle.sse_client.specs.CanGoOn.{CanGoOn, CanResume, IsRecordedAfter, StopsUnsent, meaning_after}
 use Rattle.sse_client.specs.GoingOn.{EndsLine, GoesOnBehindKey, GoesOnFrom, GoesOnOver, HasResent, IsFound, IsHeldUp, IsUnrestored, AtKeyLine, collision_again, frames_lacking}
 use Rattle.sse_client.specs.KeyLines.{KeyLine, Keyed, Missing, key_line}
 use Rattle.sse_client.specs.OnDisk.{HasGoneOn}
@@ -115,6 +120,28 @@ module _ (f : KeyedFn) (key : List ℕ) (run : Run) (updates : filter is_update 
   -- as many as its number tells
   pub length-lacking : (next left : ℕ) → next + left ≡ update_frames run → length (lacking f key run next) ≡ left
   length-lacking next left is = omega (arith, length-drop next (frames_under f key (Some run)), length-frames_under f key run updates, is)
+
+-- those of the last command are as many as a setup has, or one
+pub length-last_frames : (f : KeyedFn) (key : List ℕ) (run : Run) → length (last_frames f (keys_under key (Some run)) at_first run) ≡ frames_in_hand (Some run)
+length-last_frames f key run = from_end (λ cs. length (last_frames f keys at_first (with_later cs)) ≡ frames_of_last run.setup cs) (length-frames_of_setup (table_of f keys run) at_first run.setup) push run.later
+  where
+    keys : ℕ → List ℕ
+    keys = keys_under key (Some run)
+
+    with_later : List Command → Run
+    with_later cs = record { setup = run.setup; later = cs }
+
+    one : (cs : List Command) (c : Command) → length (frames_next f keys at_first (with_later cs) c) ≡ 1
+    one cs (Add d) = refl
+    one cs (Delete id) = refl
+    one cs (Search word) = refl
+
+    one_in_hand : (cs : List Command) (c : Command) → frames_of_last run.setup (cs ++ c ∷ []) ≡ 1
+    one_in_hand [] c = refl
+    one_in_hand (first ∷ cs) c = refl
+
+    push : (cs : List Command) (c : Command) → length (last_frames f keys at_first (with_later cs)) ≡ frames_of_last run.setup cs → length (last_frames f keys at_first (with_later (cs ++ c ∷ []))) ≡ frames_of_last run.setup (cs ++ c ∷ [])
+    push cs c before = ap length (last_frames-with_command f keys at_first (with_later cs) c) ∙ one cs c ∙ sym (one_in_hand cs c)
 
 -- Equal values of the last command.
 
@@ -277,6 +304,21 @@ within_behind number (Some Empty ∷ rest) key next lines is all = within_behind
 within_behind number (Some (Key other) ∷ rest) key next lines is all = subst (AllByRecursion IsWithinItem) (let same : rest ≡ lines = cc in same) all.1
 within_behind number (Some (CommandLine line) ∷ rest) key next lines is all = absurd (cc)
 
+-- what such records and such a script make: no search stands among the commands, and the lines behind the key line go on with a history
+-- that keeps its rules
+module _ (f : KeyedFn) (bytes : List ℕ) (records : Kept) (before : ServerState) (has : CanResume f bytes records before) where
+  pub updates_behind : filter is_update has.run.later ≡ has.run.later
+  updates_behind = opened_updates (mark_of f has.key) has.payloads has.run has.opens
+
+  lines_within : AllByRecursion IsWithinItem has.lines
+  lines_within = within_behind 1 (script_lines bytes) has.key has.number has.lines has.found (IsWithin-lines_in (lines_of bytes))
+
+  kept_at_run : IsKeptAt (length has.run.later) (at_run has.key [] has.run)
+  kept_at_run = record { documents = (IsKeptAt-opened 0 has.key).documents; history = has.opens.kept; few = omega arith }
+
+  pub kept_behind : IsKept (meaning_after has.key has.run has.number has.lines).history
+  kept_behind = (kept_follow (length has.run.later) (at_run has.key [] has.run) has.number has.lines false lines_within kept_at_run).0
+
 -- The records.
 
 -- why they make no history under a key
@@ -389,30 +431,37 @@ module _ (f : KeyedFn) (laws : IsKeyedFn f) (bytes : List ℕ) (now last : Outsi
   -- Where it can go on.
 
   module _ (can : CanGoOn f bytes now last) where
-    abbrev updates : filter is_update can.run.later ≡ can.run.later
-    updates = opened_updates (mark_of f can.key) can.payloads can.run can.opens
+    abbrev has : CanResume f bytes now.kept can.before
+    has = can.resumes
 
-    within : AllByRecursion IsWithinItem can.lines
-    within = within_behind 1 (script_lines bytes) can.key can.number can.lines can.found (IsWithin-lines_in (lines_of bytes))
+    abbrev updates : filter is_update has.run.later ≡ has.run.later
+    updates = updates_behind f bytes now.kept can.before has
 
-    kept_at : IsKeptAt (length can.run.later) (at_run can.key [] can.run)
-    kept_at = record { documents = (IsKeptAt-opened 0 can.key).documents; history = can.opens.kept; few = omega arith }
+    abbrev within : AllByRecursion IsWithinItem has.lines
+    within = lines_within f bytes now.kept can.before has
+
+    abbrev kept_at : IsKeptAt (length has.run.later) (at_run has.key [] has.run)
+    kept_at = kept_at_run f bytes now.kept can.before has
+
+    near : update_frames has.run ≤ first_of_last f has.key has.run + frames_in_hand (Some has.run)
+    near = omega (arith, length-last_frames f has.key has.run)
 
     -- it goes on after that history, but where a device failed or memory was wanting before
-    goes_or_not : ((status ≡ 3) ⊎ (status ≡ 6) ⊎ (status ≡ 7)) ⊎ GoesOnFrom f can.key can.run can.number can.lines now end
-    goes_or_not = elim (behind_key can.key can.number can.lines can.found) [
-      | inl reading ↦ inl (elim (reading_status reading) [ inl e ↦ inl e | inr e ↦ inr (inr e) ])
+    goes_or_not : (((status ≡ 3) ⊎ (status ≡ 6) ⊎ (status ≡ 7)) × (end.history ≡ empty)) ⊎ GoesOnFrom f has.key has.run has.number has.lines now end
+    goes_or_not = elim (behind_key has.key has.number has.lines has.found) [
+      | inl reading ↦ inl (elim (reading_status reading) [ inl e ↦ inl e | inr e ↦ inr (inr e) ], elim reading [ inl e ↦ ap (λ (s : Ended). s.history) e | inr e ↦ ap (λ (s : Ended). s.history) e ])
       | inr (inl (cause, why, ends)) ↦
           let stop : end.stop ≡ At cause = ap (λ (e : Ended). e.stop) ends in
-          elim (why_unrestored f can.key now.kept can.payloads can.kept cause why) [
-            | inl (m, named, bad) ↦ absurd (open_not_bad (mark_of f can.key) can.payloads (Some can.run) m can.opens bad)
-            | inr (inl (named, elsewhere)) ↦ absurd (open_not_elsewhere (mark_of f can.key) can.payloads (Some can.run) can.opens elsewhere)
-            | inr (inr (inl named)) ↦ inl (inr (inl (is ∙ ap status_of (stop ∙ ap (λ c. At c) named))))
-            | inr (inr (inr named)) ↦ inl (inr (inr (is ∙ ap status_of (stop ∙ ap (λ c. At c) named))))
+          let none : end.history ≡ empty = ap (λ (e : Ended). e.history) ends in
+          elim (why_unrestored f has.key now.kept has.payloads has.told cause why) [
+            | inl (m, named, bad) ↦ absurd (open_not_bad (mark_of f has.key) has.payloads (Some has.run) m has.opens bad)
+            | inr (inl (named, elsewhere)) ↦ absurd (open_not_elsewhere (mark_of f has.key) has.payloads (Some has.run) has.opens elsewhere)
+            | inr (inr (inl named)) ↦ inl (inr (inl (is ∙ ap status_of (stop ∙ ap (λ c. At c) named))), none)
+            | inr (inr (inr named)) ↦ inl (inr (inr (is ∙ ap status_of (stop ∙ ap (λ c. At c) named))), none)
           ]
       | inr (inr (run, restores, goes)) ↦
-          let same : run ≡ can.run = (opens_once (mark_of f can.key) (mark_of f can.key) can.payloads run can.run (of_told f can.key now.kept can.payloads can.kept _ restores.1) can.opens).1 in
-          inr (subst (λ r. GoesOnFrom f can.key r can.number can.lines now end) same goes)
+          let same : run ≡ has.run = (opens_once (mark_of f has.key) (mark_of f has.key) has.payloads run has.run (of_told f has.key now.kept has.payloads has.told _ restores.1) has.opens).1 in
+          inr (subst (λ r. GoesOnFrom f has.key r has.number has.lines now end) same goes)
     ]
 
     module _ (told : last.told ≡ end.outside.told) where
@@ -421,26 +470,39 @@ module _ (f : KeyedFn) (laws : IsKeyedFn f) (bytes : List ℕ) (now last : Outsi
 
       honest_after : IsFree f end.key end.history → status ≤ 7
       honest_after free = elim goes_or_not [
-        | inl early ↦ elim early [ inl e ↦ omega (arith, e) | inr (inl e) ↦ omega (arith, e) | inr (inr e) ↦ omega (arith, e) ]
+        | inl early ↦ elim early.0 [ inl e ↦ omega (arith, e) | inr (inl e) ↦ omega (arith, e) | inr (inr e) ↦ omega (arith, e) ]
         | inr goes ↦
             subst (λ n. n ≤ 7) (sym is)
-            (rejoined_status f laws can.key can.run updates can.next can.before can.taken (length can.run.later) can.number can.lines within kept_at
-            (first_of_last f can.key can.run) (update_frames can.run) can.opens.kept.1 can.within.0 can.within.1 now end
-            (rejoins f can.key can.run updates can.opens.kept can.number can.lines now end goes) can.state over_link free)
+            (rejoined_status f laws has.key has.run updates has.next can.before has.taken (length has.run.later) has.number has.lines within kept_at
+            (first_of_last f has.key has.run) (update_frames has.run) has.opens.kept.1 has.within.0 has.within.1 near now end
+            (rejoins f has.key has.run updates has.opens.kept has.number has.lines now end goes) can.state over_link free)
       ]
 
-      headline_after : Ends end last → IsFree f (meaning_after can.key can.run can.number can.lines).key (meaning_after can.key can.run can.number can.lines).history → IsUndisturbed status
-          → Rejoined f can.taken.start can.key can.run can.next (meaning_after can.key can.run can.number can.lines) now last status can.state
+      left_after : IsFree f end.key end.history → LeavesServer f end.key end.history can.state
+      left_after free = elim goes_or_not [
+        | inl early ↦ subst (λ h. LeavesServer f end.key h can.state) (sym early.1) (unset end.key)
+        | inr goes ↦
+            rejoined_leaves f laws has.key has.run updates has.next can.before has.taken (length has.run.later) has.number has.lines within kept_at
+            (first_of_last f has.key has.run) (update_frames has.run) has.opens.kept.1 has.within.0 has.within.1 near now end
+            (rejoins f has.key has.run updates has.opens.kept has.number has.lines now end goes) can.state over_link free
+      ]
+        where
+          unset : (key : Option (List ℕ)) → LeavesServer f key empty can.state
+          unset None = tt
+          unset (Some key) = tt
+
+      headline_after : Ends end last → IsFree f (meaning_after has.key has.run has.number has.lines).key (meaning_after has.key has.run has.number has.lines).history → IsUndisturbed status
+          → Rejoined f has.taken.start has.key has.run has.next (meaning_after has.key has.run has.number has.lines) now last status can.state
       headline_after ends free calm =
-          let m = meaning_after can.key can.run can.number can.lines in
+          let m = meaning_after has.key has.run has.number has.lines in
           elim goes_or_not [
-            | inl early ↦ absurd (elim early [ inl e ↦ calm.source e | inr (inl e) ↦ calm.disk e | inr (inr e) ↦ calm.memory e ])
+            | inl early ↦ absurd (elim early.0 [ inl e ↦ calm.source e | inr (inl e) ↦ calm.disk e | inr (inr e) ↦ calm.memory e ])
             | inr goes ↦
-                subst (λ n. Rejoined f can.taken.start can.key can.run can.next m now last n can.state) (sym is)
-                (rejoined f laws can.key can.run updates can.next can.before can.taken (length can.run.later) can.number can.lines within kept_at
-                (first_of_last f can.key can.run) (update_frames can.run) can.opens.kept.1 can.within.0 can.within.1 now end
-                (rejoins f can.key can.run updates can.opens.kept can.number can.lines now end goes) can.state over_link last ends
-                (subst (λ k. IsFree f k m.history) (follow-key (at_run can.key [] can.run) can.number can.lines false) free) (subst IsUndisturbed is calm))
+                subst (λ n. Rejoined f has.taken.start has.key has.run has.next m now last n can.state) (sym is)
+                (rejoined f laws has.key has.run updates has.next can.before has.taken (length has.run.later) has.number has.lines within kept_at
+                (first_of_last f has.key has.run) (update_frames has.run) has.opens.kept.1 has.within.0 has.within.1 near now end
+                (rejoins f has.key has.run updates has.opens.kept has.number has.lines now end goes) can.state over_link last ends
+                (subst (λ k. IsFree f k m.history) (follow-key (at_run has.key [] has.run) has.number has.lines false) free) (subst IsUndisturbed is calm))
           ]
 
   -- all that is said of it
@@ -462,6 +524,7 @@ module _ (f : KeyedFn) (laws : IsKeyedFn f) (bytes : List ℕ) (now last : Outsi
       unsent = stops_unsent;
       recorded = recorded_after;
       honest = λ can free. honest_after can told free;
+      left = λ can free. left_after can told free;
       headline = λ can free calm. headline_after can told ends free calm;
     }
 
@@ -475,18 +538,43 @@ can_go_on f laws start between state script bytes key run now last now' last' st
     let kept : IsKept (Some run) = subst IsKept run_is (meaning_is_kept script).0 in
     let alone : update_frames (updates_of run) ≡ update_frames run = count_alone f key run in
     record {
-      key = key;
-      number = number;
-      lines = lines;
-      found = found;
-      payloads = records_in f key (Some run);
-      kept = same ∙ ap (λ (k : Kept). k.records) headline.kept ∙ (λ i. option_map (λ told. told ++ records_with f (key_is i) (run_is i)) (none i));
-      run = updates_of run;
-      opens = opened_by f key run laws kept;
-      next = update_frames run;
       before = between;
-      taken = took_all f key run laws start between kept free expects (headline.stored ∙ (λ i. (steps f start (frames_with f (key_is i) (run_is i))).0));
-      within = (omega (arith, alone), omega (arith, alone));
+      resumes = record {
+        key = key;
+        number = number;
+        lines = lines;
+        found = found;
+        payloads = records_in f key (Some run);
+        told = same ∙ ap (λ (k : Kept). k.records) headline.kept ∙ (λ i. option_map (λ told. told ++ records_with f (key_is i) (run_is i)) (none i));
+        run = updates_of run;
+        opens = opened_by f key run laws kept;
+        next = update_frames run;
+        taken = took_all f key run laws start between kept free expects (headline.stored ∙ (λ i. (steps f start (frames_with f (key_is i) (run_is i))).0));
+        within = (omega (arith, alone), omega (arith, alone));
+      };
       state = state;
       honest = honest;
     }
+
+-- Behind any run.
+
+-- a server that such a run left is within the last command of the updates
+within_left : (f : KeyedFn) (key : List ℕ) (run : Run) (state : ServerState) → (left : LeavesTaken f key run state) → IsWithin f key (updates_of run) left.next
+within_left f key run state left = let most = left.most in (omega (arith, most, length-last_frames f key (updates_of run)), left.taken.within)
+
+-- what a run left whose records were all taken, is what one supposes that goes on under its key: whatever stopped it, over an honest link
+pub can_resume : (f : KeyedFn) → IsKeyedFn f → (bytes key : List ℕ) (number : ℕ) (lines : List (Option Line)) (run : Run) (kept : Kept) (state : ServerState)
+    → kept.records ≡ Some (records_in f key (Some run)) → IsKept (Some run) → LeavesServer f (Some key) (Some run) state → key_line 1 (script_lines bytes) ≡ Keyed key number lines → CanResume f bytes kept state
+can_resume f laws bytes key number lines run kept state told is_kept left found = record {
+  key = key;
+  number = number;
+  lines = lines;
+  found = found;
+  payloads = records_in f key (Some run);
+  told = told;
+  run = updates_of run;
+  opens = opened_by f key run laws is_kept;
+  next = left.next;
+  taken = left.taken;
+  within = within_left f key run state left;
+}

@@ -125,7 +125,7 @@ has_begun f laws None now last status f0 f2 s0 s2 runs line = tt
 has_begun f laws (Some bytes) now last status f0 f2 s0 s2 run line = record {
   run = run;
   simulated = run-simulated f bytes now last status run;
-  recorded = run-recorded f bytes now last status run;
+  recorded = run-recorded f laws bytes now last status run;
   honest = record { run = run; stopped = λ before state expects honest free. run-honest f laws bytes now last status before state run expects honest free };
   headline = λ before state expects honest free calm. run-headline f laws bytes now last status before state run expects honest free calm;
   line = line;

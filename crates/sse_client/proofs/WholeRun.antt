@@ -8,6 +8,7 @@ use Rattle.keyed_fn.specs.KeyedFn.{KeyedFn, IsKeyedFn}
 use Rattle.server_core.specs.State.{ServerState}
 use Rattle.sse_agreement.specs.Taking.{Expects}
 use Rattle.script_meaning.proofs.Headline.{honest_status, headline}
+use Rattle.script_meaning.proofs.Leaving.{run_leaves}
 use Rattle.script_meaning.proofs.Recorded.{recorded}
 use Rattle.script_meaning.specs.Recorded.{KeepsFirst, records_with}
 use Rattle.script_meaning.specs.Lines.{script_lines}
@@ -118,8 +119,8 @@ run-simulated f bytes now last status run = record {
 }
 
 -- and of the history up to its stop the records were kept, but for the command in hand at most
-pub run-recorded : (f : KeyedFn) (bytes : List ℕ) (now last : Outside) (status : ℕ) → HasRun f bytes now last status → HasRecordedRun f bytes now last status
-run-recorded f bytes now last status run =
+pub run-recorded : (f : KeyedFn) → IsKeyedFn f → (bytes : List ℕ) (now last : Outside) (status : ℕ) → HasRun f bytes now last status → HasRecordedRun f bytes now last status
+run-recorded f laws bytes now last status run =
     let r = recorded f 1 (script_lines bytes) now run.end run.opens in record {
       run = run;
       recorded = record {
@@ -134,6 +135,7 @@ run-recorded f bytes now last status run =
         sent = r.sent;
         whole = λ disk memory clash. r.whole (λ e. disk (run.status_is ∙ e)) (λ e. memory (run.status_is ∙ e)) (λ e. clash (run.status_is ∙ e));
       };
+      left = λ before state expects honest free. run_leaves f laws bytes now run.end run.opens before state expects (over_link f laws bytes now last status before state run honest) free;
     }
 
 -- what follows from each of a known list of bytes

@@ -8,10 +8,12 @@ use Rattle.client_registry.specs.Run.{Run}
 use Rattle.keyed_fn.specs.KeyFormulas.{mark_of}
 use Rattle.keyed_fn.specs.KeyedFn.{KeyedFn}
 use Rattle.server_core.specs.State.{ServerState}
+use Rattle.sse_outside.specs.Kept.{Kept}
 use Rattle.sse_script.specs.Shown.{BadLine, BadRecord, WrongKey}
 use Rattle.script_meaning.specs.Carries.{Outside}
 use Rattle.script_meaning.specs.Continues.{at_run}
 use Rattle.script_meaning.specs.Headline.{IsOverHonest, IsUndisturbed}
+use Rattle.script_meaning.specs.Joined.{LeavesServer}
 use Rattle.script_meaning.specs.Lines.{Line, script_lines}
 use Rattle.script_meaning.specs.Meaning.{Meaning, follow}
 use Rattle.script_meaning.specs.Rejoins.{HasTaken, IsRecordedBehind, Rejoined}
@@ -20,21 +22,25 @@ use Rattle.script_meaning.specs.Session.{IsFree}
 use Rattle.script_meaning.specs.Stops.{At}
 use Rattle.sse_client.specs.KeyLines.{Keyed, Missing, key_line}
 
--- the script has a key line; the records open to one history under its key; and what passed is honest from a server that took the first
--- frames of that history, all but at most some of its last command's
-pub record CanGoOn (f : KeyedFn) (bytes : List ℕ) (now last : Outside) : Type 0 where
+-- the script has a key line; the records open to one history under its key; and a server in this state was sent the first frames of that
+-- history, all but at most some of its last command's
+pub record CanResume (f : KeyedFn) (bytes : List ℕ) (kept : Kept) (before : ServerState) : Type 0 where
   pub key : List ℕ
   pub number : ℕ
   pub lines : List (Option Line)
   pub found : key_line 1 (script_lines bytes) ≡ Keyed key number lines
   pub payloads : List (List ℕ)
-  pub kept : now.kept.records ≡ Some payloads
+  pub told : kept.records ≡ Some payloads
   pub run : Run
   pub opens : Opens (mark_of f key) payloads run
   pub next : ℕ
-  pub before : ServerState
   pub taken : HasTaken f key run next before
   pub within : IsWithin f key run next
+
+-- so it is between these two moments, and what passed is honest from that server
+pub record CanGoOn (f : KeyedFn) (bytes : List ℕ) (now last : Outside) : Type 0 where
+  pub before : ServerState
+  pub resumes : CanResume f bytes now.kept before
   pub state : ServerState
   pub honest : IsOverHonest f before now.told last.told state
 
@@ -50,8 +56,13 @@ IsHonestAfter f bytes now last end status = CanGoOn f bytes now last → IsFree 
 abbrev pub HasHeadlineAfter : KeyedFn → List ℕ → Outside → Outside → (status : ℕ) → Type 0
 HasHeadlineAfter f bytes now last status =
     (can : CanGoOn f bytes now last) →
-    let m = meaning_after can.key can.run can.number can.lines in
-    IsFree f m.key m.history → IsUndisturbed status → Rejoined f can.taken.start can.key can.run can.next m now last status can.state
+    let has = can.resumes in
+    let m = meaning_after has.key has.run has.number has.lines in
+    IsFree f m.key m.history → IsUndisturbed status → Rejoined f has.taken.start has.key has.run has.next m now last status can.state
+
+-- and whatever stopped it, it left such a server for the history up to its stop, so that a run can go on again
+abbrev pub LeavesServerAfter : KeyedFn → List ℕ → Outside → Outside → Ended → Type 0
+LeavesServerAfter f bytes now last end = (can : CanGoOn f bytes now last) → IsFree f end.key end.history → LeavesServer f end.key end.history can.state
 
 -- Stops before anything is sent.
 

@@ -17,3 +17,4 @@ pub mod Resuming
 pub mod GoingOn
 pub mod OnDisk
 pub mod CanGoOn
+pub mod OverStore

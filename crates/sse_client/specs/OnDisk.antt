@@ -18,7 +18,7 @@ use Rattle.sse_journal.specs.AnyMoment.{HasSynced, LeavesOnly}
 use Rattle.sse_outside.specs.Causes.{Rose}
 use Rattle.sse_outside.specs.Kept.{Kept}
 use Rattle.sse_recorder.specs.KeepsOn.{GivesFront, LeavesKept}
-use Rattle.sse_client.specs.CanGoOn.{IsRecordedAfter, StopsUnsent, IsHonestAfter, HasHeadlineAfter}
+use Rattle.sse_client.specs.CanGoOn.{IsRecordedAfter, StopsUnsent, IsHonestAfter, LeavesServerAfter, HasHeadlineAfter}
 use Rattle.sse_client.specs.GoingOn.{EndsLine, GoesOnOver}
 use Rattle.sse_client.specs.LastLine.{HasLastLine, HasShortLine, IsWholeOrRose}
 use Rattle.sse_client.specs.Stands.{seen, outside_of, HasRun, HasHonestStatus, HasSimulatedRun, HasRecordedRun, HasHeadline}
@@ -132,4 +132,5 @@ pub record HasGoneOn (f : KeyedFn) (bytes : List ℕ) (now last : Outside) (stat
   pub unsent : StopsUnsent f bytes now end status
   pub recorded : IfSome now.kept.records (λ payloads. IsRecordedAfter f payloads now end)
   pub honest : IsHonestAfter f bytes now last end status
+  pub left : LeavesServerAfter f bytes now last end
   pub headline : HasHeadlineAfter f bytes now last status

@@ -17,6 +17,7 @@ use Rattle.sse_model.specs.Epochs.{keys_under}
 use Rattle.script_meaning.specs.Carries.{Keeps, Outside, keys_at, records_by, with_answers, IsSent, Carries, StopsIn}
 use Rattle.sse_outside.specs.Kept.{Kept}
 use Rattle.script_meaning.specs.Exchange.{Told}
+use Rattle.script_meaning.specs.Joined.{LeavesServer}
 use Rattle.script_meaning.specs.Lines.{Request, script_lines}
 use Rattle.script_meaning.specs.Outcome.{Place, Outcome, outcome, after, shown_by, is_refusal}
 use Rattle.line_documents.specs.Refused.{bad_word}
@@ -149,10 +150,12 @@ pub record HasSimulatedRun (f : KeyedFn) (bytes : List ℕ) (now last : Outside)
   pub sends : SendsSimulated f run.end.key run.end.history now.told last.told
 
 -- a whole run of whose history the records were taken, but for that of the command in hand at most, and of which no frame was sent
--- whose command's record wasn't taken before
+-- whose command's record wasn't taken before; and which left a server that a run can go on with, whatever stopped it, over an honest link
+-- from one that expects a setup's first frame, where its history up to its stop has no collision
 pub record HasRecordedRun (f : KeyedFn) (bytes : List ℕ) (now last : Outside) (status : ℕ) : Type 0 where
   pub run : HasRun f bytes now last status
   pub recorded : IsRecorded f run.end.key run.end.history status now last
+  pub left : (before state : ServerState) → Expects 0 before → IsOverHonest f before now.told last.told state → IsFree f run.end.key run.end.history → LeavesServer f run.end.key run.end.history state
 
 -- where nothing disturbed a run, it did what its script means
 abbrev pub HasHeadline : KeyedFn → List ℕ → Outside → Outside → ℕ → Type 0

@@ -10,6 +10,7 @@ mod going_on;
 mod keeping;
 mod lines;
 mod on_disk;
+mod over_store;
 mod peer_fault;
 mod reply_buffer;
 mod run;
@@ -21,4 +22,5 @@ mod update_fault;
 mod updating;
 
 pub use on_disk::run_on_disk;
+pub use over_store::run_over_store;
 pub use run::{run_in_memory, run_on_bytes, run_over_server, sse_run};

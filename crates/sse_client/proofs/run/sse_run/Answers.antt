@@ -48,10 +48,17 @@ returns-in-Some-Run-clause-simulated g c = λ asked.
 pub returns-in-Some-Run-clause-recorded : goal.returns-in-Some-Run-clause-recorded
 returns-in-Some-Run-clause-recorded g c = λ asked.
     let f = keyed_fn g.K.Keyed.prf g.K.Keyed.pad in
+    let laws : IsKeyedFn f = record {
+      prf_length = g.met.K.Keyed.prf_length;
+      prf_bytes = g.met.K.Keyed.prf_bytes;
+      pad_length = g.met.K.Keyed.pad_length;
+      pad_bytes = g.met.K.Keyed.pad_bytes;
+      pad_prefix = g.met.K.Keyed.pad_prefix;
+    } in
     let now = outside_of (seen (g.L.Link.transcript c.args.link.now) (g.R.Recorder.kept c.args.recorder.now)) (g.W.Sink.written c.args.sink.now) in
     let last = outside_of (seen (g.L.Link.transcript c.whole_run.new.link) (g.R.Recorder.kept c.whole_run.new.recorder)) (g.W.Sink.written c.whole_run.new.sink) in
     IfSome-then (g.S.Source.remaining c.args.source.now) (λ bytes. HasRun f bytes now last c.whole_run.result) (λ bytes. HasRecordedRun f bytes now last c.whole_run.result)
-    (λ bytes run. run-recorded f bytes now last c.whole_run.result run)
+    (λ bytes run. run-recorded f laws bytes now last c.whole_run.result run)
     c.whole_run.ensures.runs
 
 pub returns-in-None-clause-keeps_on : goal.returns-in-None-clause-keeps_on
