@@ -20,8 +20,6 @@ mod made_up_links;
 #[cfg(test)]
 mod opened_journals;
 #[cfg(test)]
-mod over_stores;
-#[cfg(test)]
 mod planned_records;
 #[cfg(test)]
 mod printed;
