@@ -17,6 +17,7 @@ pub mod KeyLineRead
 pub mod RunGoesOn
 pub mod WholeRun
 pub mod LastLine
+pub mod Devices
 pub mod InMemory
 pub mod GoingOn
 pub mod RunRejoins

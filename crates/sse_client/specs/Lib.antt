@@ -12,6 +12,7 @@ pub mod Keeping
 pub mod Turns
 pub mod OverServer
 pub mod LastLine
+pub mod Devices
 pub mod KeyLines
 pub mod Resuming
 pub mod GoingOn

@@ -6,6 +6,7 @@ use Rattle.script_meaning.specs.Carries.{Outside}
 use Rattle.script_meaning.specs.Outcome.{Place}
 use Rattle.script_meaning.specs.Runs.{Ended, Moment, moment, RunsFrom}
 use Rattle.script_meaning.specs.Stops as ends
+use Rattle.sse_script.specs.TextLines.{lines_left}
 use Rattle.sse_client.specs.Stands.{IsAt, stop_view, has_refused, EndsFrom}
 use Rattle.sse_client.specs.declared.lines.Refusals.{Refusals}
 use Rattle.sse_client.specs.declared.lines.Session.{Session}
@@ -25,16 +26,18 @@ abbrev pub ending : Result Refusals StopCause → ends.Stop
 ending (Ok refusals) = ends.AtEnd (has_refused refusals)
 ending (Err stop) = stop_view stop
 
--- what a turn leads to from this moment: a session that stands after one line more, or the end of the run
-abbrev pub LeadsTo : KeyedFn → Moment → (number : ℕ) (left : Option (List (List ℕ))) (now : Outside) → Result Turn StopCause → Type 0
-LeadsTo f start number left now (Ok (Next next)) = IsThere f start next.stage number left (has_refused next.refusals) now
-LeadsTo f start number left now (Ok (End refusals)) = EndsFrom f start now (ends.AtEnd (has_refused refusals))
-LeadsTo f start number left now (Err stop) = EndsFrom f start now (stop_view stop)
+-- what a turn leads to from this moment: a session that stands after one line more, or the end of the run. Of the source, what
+-- is left of it behind the turn
+abbrev pub LeadsTo : KeyedFn → Moment → (remaining : Option (List ℕ)) (now : Outside) → Result Turn StopCause → Type 0
+LeadsTo f start remaining now (Ok (Next next)) = IsThere f start next.stage next.input.number (lines_left next.input.pending remaining) (has_refused next.refusals) now
+LeadsTo f start remaining now (Ok (End refusals)) = EndsFrom f start now (ends.AtEnd (has_refused refusals))
+LeadsTo f start remaining now (Err stop) = EndsFrom f start now (stop_view stop)
 
 -- a turn leads there wherever the session may stand before it
-abbrev pub Turns : KeyedFn → Session → (number : ℕ) (left : Option (List (List ℕ))) (old : Outside) (number' : ℕ) (left' : Option (List (List ℕ))) (new : Outside) → Result Turn StopCause → Type 0
-Turns f session number left old number' left' new result =
-    (place : Place) → IsAt f session.stage place → LeadsTo f (moment place (number + 1) left (has_refused session.refusals) old) number' left' new result
+abbrev pub Turns : KeyedFn → Session → (remaining : Option (List ℕ)) (old : Outside) (remaining' : Option (List ℕ)) (new : Outside) → Result Turn StopCause → Type 0
+Turns f session remaining old remaining' new result =
+    (place : Place) → IsAt f session.stage place
+    → LeadsTo f (moment place (session.input.number + 1) (lines_left session.input.pending remaining) (has_refused session.refusals) old) remaining' new result
 
 -- what holds of the session where a turn leads to one more
 abbrev pub IfNext : Turn → (Session → Type 0) → Type 0

@@ -10,38 +10,39 @@ ghost use Rattle.keyed_fn.specs.KeyedFn.{KeyedFn, keyed_fn};
 ghost use Rattle.run_texts.specs.Causes.{CommandCause, KeepCommandCause, KeepsRecorder, KeepsSink, KeepsSource, LinkCause, RecorderCause, SourceCause};
 ghost use Rattle.run_texts.specs.Stops.{command_cause};
 ghost use Rattle.sse_client.specs.Calls.{shows, KeepsLink};
+ghost use Rattle.sse_client.specs.Devices.{TellsDevices};
 ghost use Rattle.sse_client.specs.GoingOn.{HasEndedAfter, HasResent, Restores, ResumesTo, StopsResending};
 ghost use Rattle.sse_client.specs.Keeping.{StaysWhole, WholeAtStop};
 ghost use Rattle.sse_client.specs.Resuming.{stop_of_resume};
 ghost use Rattle.sse_client.specs.Stages.{hash_keys_under};
 ghost use Rattle.sse_client.specs.Stands.{seen, outside_of};
 ghost use Rattle.sse_client.specs.Turns.{ending};
-ghost use Rattle.sse_outside.specs.Causes.{Rose};
 ghost use Rattle.sse_recorder.specs.KeepsOn.{KeepsOn};
 ghost use Rattle.sse_script.specs.TextLines.{bytes_to_come, lines_left};
 
 use crate::exchange::hello;
 use crate::lines::{Refusals, Session, run_lines};
 use crate::reply_buffer::ReplyBuffer;
+use crate::run::finish_run;
 use crate::sending::catch_up;
 use crate::session::Stage;
 use crate::tools::Tools;
 use client_core::{Client, Ready, ResumeFault, Resumed};
 use client_rebuild::Last;
 use keyed_fn::Keyed;
-use run_texts::{CommandStop, Input, PeerStop, PlanStop, StopCause, finish};
+use run_texts::{CommandStop, Input, PeerStop, PlanStop, StopCause};
 use sse_link::Link;
 use sse_outside::{Sink, Source};
 use sse_recorder::Recorder;
 use sse_script::{Shown, print};
-use std::alloc::Global;
-use word_keys::PreparedMaster;
 
-/// What a run goes on from: the client of a history that was rebuilt from records, and its master key, prepared.
+/// What a run goes on from: its tools, the client of a history that was rebuilt from records, and what of the source was read
+/// ahead of the lines behind the key line.
 #[derive(Drop)]
-pub(crate) struct Restart<K: Keyed> {
+pub(crate) struct Restart<'a, K: Keyed> {
+    pub(crate) tools: Tools<'a, K>,
     pub(crate) client: Client<Last>,
-    pub(crate) master: PreparedMaster<K>,
+    pub(crate) input: Input,
 }
 
 /// What it means for the run that a client doesn't go on.
@@ -85,8 +86,7 @@ fn lacking(client: &Client<Last>, next: u32) -> Result<u32, CommandStop>
 /// Opens a session with a server that may lack frames of the history's last command, sends these, and answers the client of the
 /// whole history with how many they were.
 fn resend<K: Keyed, L: Link, R: Recorder>(
-    alloc: Global,
-    keyed: &K,
+    tools: &Tools<'_, K>,
     client: Client<Last>,
     link: &mut L,
     recorder: &R,
@@ -102,9 +102,9 @@ fn resend<K: Keyed, L: Link, R: Recorder>(
     ensures keeps { KeepsLink CommandCause (shows (L.transcript link.old) (L.faults link.old) (L.began link.old)) (shows (L.transcript link.new) (L.faults link.new) (L.began link.new)) result }
     ensures unkept { IfErr result (λ stop. (count : ℕ) → KeepCommandCause count count stop) }
 {
-    let next = hello(alloc, link, buffer)?;
+    let next = hello(tools.alloc, link, buffer)?;
     let frames = lacking(&client, next)?;
-    match client.resume(alloc, keyed, next) {
+    match client.resume(tools.alloc, tools.keyed, next) {
         Ok(Resumed::Ready(ready)) => Ok((ready, frames)),
         Ok(Resumed::Behind(behind)) => Ok((catch_up(behind, link, recorder, buffer)?, frames)),
         Err(fault) => Err(stop_of(fault)),
@@ -113,22 +113,19 @@ fn resend<K: Keyed, L: Link, R: Recorder>(
 
 /// Goes on: the server gets the frames that it lacks, and then come the lines that are left.
 fn go_on<K: Keyed, L: Link, R: Recorder, S: Source, W: Sink>(
-    alloc: Global,
-    keyed: &K,
+    restart: Restart<'_, K>,
     link: &mut L,
     recorder: &mut R,
     source: &mut S,
     sink: &mut W,
-    input: &mut Input,
-    restart: Restart<K>,
 ) -> Result<Refusals, StopCause>
     requires restores { (run : Run) × Restores (keyed_fn K.prf K.pad) restart.client.key (R.kept recorder.old) run × Remembers run restart.client.state }
-    requires prepared { restart.master ≡ restart.client.key }
+    requires prepared { restart.tools.master ≡ restart.client.key }
     requires hashed { hash_keys_of restart.client.state ≡ hash_keys_under (keyed_fn K.prf K.pad) restart.client.key }
     requires whole { R.whole recorder.old }
-    requires few { input.old.number + bytes_to_come input.old.pending (S.handed_out source.old) ≤ 2 ^ 63 }
-    ensures ends { (run : Run) → Remembers run restart.client.state →
-        ResumesTo (keyed_fn K.prf K.pad) restart.client.key run (input.old.number + 1) (lines_left input.old.pending (S.remaining source.old))
+    requires few { restart.input.number + bytes_to_come restart.input.pending (S.handed_out source.old) ≤ 2 ^ 63 }
+    ensures ends { (run : Run) → Remembers run restart.entry.client.state →
+        ResumesTo (keyed_fn K.prf K.pad) restart.entry.client.key run (restart.entry.input.number + 1) (lines_left restart.entry.input.pending (S.remaining source.old))
         (outside_of (seen (L.transcript link.old) (R.kept recorder.old)) (W.written sink.old)) (outside_of (seen (L.transcript link.new) (R.kept recorder.new)) (W.written sink.new)) (ending result) }
     ensures at_end { OnOk result (IsAtEnd (S.remaining source.new)) }
     ensures source { KeepsSource SourceCause (S.faults source.old) (S.faults source.new) result }
@@ -138,60 +135,47 @@ fn go_on<K: Keyed, L: Link, R: Recorder, S: Source, W: Sink>(
     ensures whole_after { StaysWhole WholeAtStop (R.whole recorder.new) result }
     ensures recorder { KeepsRecorder RecorderCause (R.faults recorder.old) (R.faults recorder.new) result }
 {
-    let Restart { client, master } = restart;
-    let mut buffer = ReplyBuffer::new(alloc)?;
-    let (ready, frames) = resend(alloc, keyed, client, link, &*recorder, &mut buffer)?;
-    print(alloc, sink, &Shown::Resumed { frames })?;
-    let tools = Tools {
-        alloc,
-        keyed,
-        master,
-    };
+    let Restart {
+        tools,
+        client,
+        input,
+    } = restart;
+    let mut buffer = ReplyBuffer::new(tools.alloc)?;
+    let (ready, frames) = resend(&tools, client, link, &*recorder, &mut buffer)?;
+    print(tools.alloc, sink, &Shown::Resumed { frames })?;
     let session = Session {
         stage: Stage::Searching(ready),
         refusals: Refusals::None,
+        input,
         buffer,
     };
-    run_lines(&tools, link, recorder, source, sink, input, session)
+    run_lines(&tools, link, recorder, source, sink, session)
 }
 
 /// Goes on, prints the last line where it stopped, and answers the run's status.
 pub(crate) fn gone_on<K: Keyed, L: Link, R: Recorder, S: Source, W: Sink>(
-    alloc: Global,
-    keyed: &K,
+    restart: Restart<'_, K>,
     link: &mut L,
     recorder: &mut R,
     source: &mut S,
     sink: &mut W,
-    input: &mut Input,
-    restart: Restart<K>,
 ) -> u8
     requires restores { (run : Run) × Restores (keyed_fn K.prf K.pad) restart.client.key (R.kept recorder.old) run × Remembers run restart.client.state }
-    requires prepared { restart.master ≡ restart.client.key }
+    requires prepared { restart.tools.master ≡ restart.client.key }
     requires hashed { hash_keys_of restart.client.state ≡ hash_keys_under (keyed_fn K.prf K.pad) restart.client.key }
     requires whole { R.whole recorder.old }
-    requires few { input.old.number + bytes_to_come input.old.pending (S.handed_out source.old) ≤ 2 ^ 63 }
-    ensures gone_on { (run : Run) → Remembers run restart.client.state →
-        HasEndedAfter (keyed_fn K.prf K.pad) restart.client.key run (input.old.number + 1) (lines_left input.old.pending (S.remaining source.old))
+    requires few { restart.input.number + bytes_to_come restart.input.pending (S.handed_out source.old) ≤ 2 ^ 63 }
+    ensures gone_on { (run : Run) → Remembers run restart.entry.client.state →
+        HasEndedAfter (keyed_fn K.prf K.pad) restart.entry.client.key run (restart.entry.input.number + 1) (lines_left restart.entry.input.pending (S.remaining source.old))
         (outside_of (seen (L.transcript link.old) (R.kept recorder.old)) (W.written sink.old)) (outside_of (seen (L.transcript link.new) (R.kept recorder.new)) (W.written sink.new)) result
         (W.faults sink.old) (W.faults sink.new) (W.shortages sink.old) (W.shortages sink.new) }
-    ensures at_end { result ≤ 1 → IsAtEnd (S.remaining source.new) }
-    ensures source_failed { result ≡ 3 → Rose (S.faults source.old) (S.faults source.new) }
-    ensures source_steady { result ≢ 3 → S.faults source.new ≡ S.faults source.old }
-    ensures sink_failed { result ≡ 4 → Rose (W.faults sink.old) (W.faults sink.new) }
-    ensures sink_steady { result ≤ 1 → W.faults sink.new ≡ W.faults sink.old }
-    ensures link_failed { result ≡ 5 → Rose (L.faults link.old) (L.faults link.new) }
-    ensures link_steady { result ≢ 5 → L.faults link.new ≡ L.faults link.old }
+    ensures devices { TellsDevices (S.faults source.old) (S.faults source.new) (W.faults sink.old) (W.faults sink.new) (L.faults link.old) (L.faults link.new)
+        (R.faults recorder.old) (R.faults recorder.new) (IsAtEnd (S.remaining source.new)) result }
     ensures began { L.began link.new ≡ L.began link.old }
-    ensures recorder_failed { result ≡ 6 → Rose (R.faults recorder.old) (R.faults recorder.new) }
-    ensures recorder_steady { result ≢ 6 → R.faults recorder.new ≡ R.faults recorder.old }
     ensures keeps_on { KeepsOn R.kept R.moment R.left_since recorder.old recorder.new }
     ensures lasts { result ≢ 6 → result ≢ 7 → R.whole recorder.new }
     ensures known { result ≤ 9 }
 {
-    match go_on(alloc, keyed, link, recorder, source, sink, input, restart) {
-        Ok(Refusals::None) => 0,
-        Ok(Refusals::Some) => 1,
-        Err(stop) => finish(sink, stop),
-    }
+    let ran = go_on(restart, link, recorder, source, sink);
+    finish_run(ran, sink)
 }

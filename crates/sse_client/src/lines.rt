@@ -1,4 +1,4 @@
-ghost use Rattle.std.specs.Prelude.{◌≡◌, ◌≤◌, ◌<◌, ◌+◌, ◌^◌, ◌||◌, IfOk, OnOk};
+ghost use Rattle.std.specs.Prelude.{◌≡◌, ◌≤◌, ◌<◌, ◌+◌, ◌^◌, ◌||◌, IfOk};
 ghost use Rattle.std.specs.Io.KnownBytes.{IsAtEnd};
 ghost use Rattle.keyed_fn.specs.KeyedFn.{keyed_fn};
 ghost use Rattle.run_texts.specs.Causes.{KeepsRecorder, KeepsSink, KeepsSource, LinkCause, RecorderCause, SourceCause};
@@ -38,11 +38,13 @@ impl Refusals {
     }
 }
 
-/// A session between two lines: how far it is, whether a command was refused, and the memory for replies.
+/// A session between two lines: how far it is, whether a command was refused, what of the source was read ahead, and the memory
+/// for replies.
 #[derive(Drop)]
 pub(crate) struct Session {
     pub(crate) stage: Stage,
     pub(crate) refusals: Refusals,
+    pub(crate) input: Input,
     pub(crate) buffer: ReplyBuffer,
 }
 
@@ -62,14 +64,13 @@ pub(crate) fn run_lines<K: Keyed, L: Link, R: Recorder, S: Source, W: Sink>(
     recorder: &mut R,
     source: &mut S,
     sink: &mut W,
-    input: &mut Input,
     mut session: Session,
 ) -> Result<Refusals, StopCause>
     requires prepared { tools.now.master ≡ key_of session.stage }
     requires whole { R.whole recorder.old }
-    requires few { input.old.number + bytes_to_come input.old.pending (S.handed_out source.old) ≤ 2 ^ 63 }
+    requires few { session.input.number + bytes_to_come session.input.pending (S.handed_out source.old) ≤ 2 ^ 63 }
     ensures ends { (place : Place) → IsAt (keyed_fn K.prf K.pad) session.stage place →
-        EndsFrom (keyed_fn K.prf K.pad) (moment place (input.old.number + 1) (lines_left input.old.pending (S.remaining source.old)) (has_refused session.refusals) (outside_of (seen (L.transcript link.old) (R.kept recorder.old)) (W.written sink.old)))
+        EndsFrom (keyed_fn K.prf K.pad) (moment place (session.input.number + 1) (lines_left session.input.pending (S.remaining source.old)) (has_refused session.refusals) (outside_of (seen (L.transcript link.old) (R.kept recorder.old)) (W.written sink.old)))
         (outside_of (seen (L.transcript link.new) (R.kept recorder.new)) (W.written sink.new)) (ending result) }
     ensures at_end { IfOk result (λ _. IsAtEnd (S.remaining source.new)) }
     ensures source { KeepsSource SourceCause (S.faults source.old) (S.faults source.new) result }
@@ -80,7 +81,7 @@ pub(crate) fn run_lines<K: Keyed, L: Link, R: Recorder, S: Source, W: Sink>(
     ensures recorder { KeepsRecorder RecorderCause (R.faults recorder.old) (R.faults recorder.new) result }
 {
     'lines: loop {
-        match take_turn(tools, link, recorder, source, sink, input, session)? {
+        match take_turn(tools, link, recorder, source, sink, session)? {
             Turn::Next(next) => session = next,
             Turn::End(refusals) => return Ok(refusals),
         }
@@ -94,18 +95,17 @@ fn take_turn<K: Keyed, L: Link, R: Recorder, S: Source, W: Sink>(
     recorder: &mut R,
     source: &mut S,
     sink: &mut W,
-    input: &mut Input,
     session: Session,
 ) -> Result<Turn, StopCause>
     requires prepared { tools.now.master ≡ key_of session.stage }
     requires whole { R.whole recorder.old }
-    requires few { input.old.number + bytes_to_come input.old.pending (S.handed_out source.old) ≤ 2 ^ 63 }
-    ensures turns { Turns (keyed_fn K.prf K.pad) session input.old.number (lines_left input.old.pending (S.remaining source.old)) (outside_of (seen (L.transcript link.old) (R.kept recorder.old)) (W.written sink.old))
-        input.new.number (lines_left input.new.pending (S.remaining source.new)) (outside_of (seen (L.transcript link.new) (R.kept recorder.new)) (W.written sink.new)) result }
+    requires few { session.input.number + bytes_to_come session.input.pending (S.handed_out source.old) ≤ 2 ^ 63 }
+    ensures turns { Turns (keyed_fn K.prf K.pad) session (S.remaining source.old) (outside_of (seen (L.transcript link.old) (R.kept recorder.old)) (W.written sink.old))
+        (S.remaining source.new) (outside_of (seen (L.transcript link.new) (R.kept recorder.new)) (W.written sink.new)) result }
     ensures same_key { IfOk result (λ turn. IfNext turn (λ next. key_of next.stage ≡ key_of session.stage)) }
-    ensures counted { IfOk result (λ turn. IfNext turn (λ _. input.new.number ≡ input.old.number + 1)) }
-    ensures less { IfOk result (λ turn. IfNext turn (λ _.
-        bytes_to_come input.new.pending (S.handed_out source.new) < bytes_to_come input.old.pending (S.handed_out source.old))) }
+    ensures counted { IfOk result (λ turn. IfNext turn (λ next. next.input.number ≡ session.input.number + 1)) }
+    ensures less { IfOk result (λ turn. IfNext turn (λ next.
+        bytes_to_come next.input.pending (S.handed_out source.new) < bytes_to_come session.input.pending (S.handed_out source.old))) }
     ensures at_end { IfOk result (λ turn. OnEnd turn (IsAtEnd (S.remaining source.new))) }
     ensures source { KeepsSource SourceCause (S.faults source.old) (S.faults source.new) result }
     ensures sink { KeepsSink (W.faults sink.old) (W.faults sink.new) (W.shortages sink.old) (W.shortages sink.new) result }
@@ -117,6 +117,7 @@ fn take_turn<K: Keyed, L: Link, R: Recorder, S: Source, W: Sink>(
     let Session {
         stage,
         refusals,
+        mut input,
         mut buffer,
     } = session;
     if !input.advance(source)? {
@@ -126,6 +127,7 @@ fn take_turn<K: Keyed, L: Link, R: Recorder, S: Source, W: Sink>(
         Line::Empty => Ok(Turn::Next(Session {
             stage,
             refusals,
+            input,
             buffer,
         })),
         Line::Key(_) => Err(StopCause::Input(InputStop::Line(input.number()))),
@@ -136,6 +138,7 @@ fn take_turn<K: Keyed, L: Link, R: Recorder, S: Source, W: Sink>(
             Ok(Turn::Next(Session {
                 stage: next,
                 refusals,
+                input,
                 buffer,
             }))
         }

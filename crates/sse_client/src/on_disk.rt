@@ -8,6 +8,7 @@ ghost use Rattle.keyed_fn.specs.KeyedFn.{keyed_fn};
 ghost use Rattle.run_texts.specs.Causes.{KeepsRecorder, KeepsSource};
 ghost use Rattle.run_texts.specs.Words as asks;
 ghost use Rattle.script_meaning.specs.Exchange.{Told};
+ghost use Rattle.sse_client.specs.Devices.{TellsDevices};
 ghost use Rattle.sse_client.specs.GoingOn.{GoesOnTo, Restores};
 ghost use Rattle.sse_client.specs.KeyLines.{FindsKey};
 ghost use Rattle.sse_client.specs.OnDisk.{HasBegun, HasGoneOn, HeldCause, HeldSource, IsNotBegun, IsNotReopened, IsUnopened, KeepsOnDisk, KeepsOnStarted, Lasts, LeavesAsBefore, held_stop, kept_on, seen_with};
@@ -23,6 +24,7 @@ ghost use Rattle.sse_script.specs.Texts.{text_of};
 
 use crate::going_on::{Restart, gone_on};
 use crate::run::{key_line, whole_run};
+use crate::tools::Tools;
 use client_core::Restored;
 use client_journal::{begin, rebuild, reopen};
 use keyed_fn::Keyed;
@@ -75,21 +77,28 @@ impl From<AllocError> for HeldUp {
     }
 }
 
+/// A disk with its journal, whose records were found.
+#[derive(Drop)]
+struct Opened<D: Disk> {
+    journal: Journal,
+    disk: D,
+}
+
 /// Reads the key line, and rebuilds the client of the journal's records under its key.
-fn restored<K: Keyed, D: Disk, S: Source>(
+fn restored<'a, K: Keyed, D: Disk, S: Source>(
     alloc: Global,
-    keyed: &K,
+    keyed: &'a K,
     journal: &Journal,
     disk: &mut D,
     source: &mut S,
-) -> Result<(Restart<K>, Input), HeldUp>
+) -> Result<Restart<'a, K>, HeldUp>
     requires holds { IfSome (D.content disk.old) (λ file. IsOfRecords journal.now (D.content disk.old) (D.images disk.old)) }
     requires some { 0 < records_of journal.now }
-    ensures restored { IfOk result (λ done. (run : Run) × Restores (keyed_fn K.prf K.pad) done.0.client.key (kept_on (D.content disk.old)) run × Remembers run done.0.client.state) }
-    ensures found { IfOk result (λ done. FindsKey 1 (lines_left [] (S.remaining source.old)) done.0.client.key (done.1.number + 1) (lines_left done.1.pending (S.remaining source.new))) }
-    ensures few_left { IfOk result (λ done. done.1.number + bytes_to_come done.1.pending (S.handed_out source.new) ≤ 2 ^ 63) }
-    ensures prepared { IfOk result (λ done. done.0.master ≡ done.0.client.key) }
-    ensures hashed { IfOk result (λ done. hash_keys_of done.0.client.state ≡ hash_keys_under (keyed_fn K.prf K.pad) done.0.client.key) }
+    ensures restored { IfOk result (λ restart. (run : Run) × Restores (keyed_fn K.prf K.pad) restart.client.key (kept_on (D.content disk.old)) run × Remembers run restart.client.state) }
+    ensures found { IfOk result (λ restart. FindsKey 1 (lines_left [] (S.remaining source.old)) restart.client.key (restart.input.number + 1) (lines_left restart.input.pending (S.remaining source.new))) }
+    ensures few_left { IfOk result (λ restart. restart.input.number + bytes_to_come restart.input.pending (S.handed_out source.new) ≤ 2 ^ 63) }
+    ensures prepared { IfOk result (λ restart. restart.tools.master ≡ restart.client.key) }
+    ensures hashed { IfOk result (λ restart. hash_keys_of restart.client.state ≡ hash_keys_under (keyed_fn K.prf K.pad) restart.client.key) }
     ensures stopped { IfErr result (λ stop. (told : Told) (written : Option (List ℕ)) →
         GoesOnTo (keyed_fn K.prf K.pad) (lines_left [] (S.remaining source.old)) (seen_with told (D.content disk.old) written) (seen_with told (D.content disk.old) written) (held_stop stop)) }
     ensures kept { D.content disk.new ≡ D.content disk.old }
@@ -103,7 +112,18 @@ fn restored<K: Keyed, D: Disk, S: Source>(
     let master = key.prepare(keyed);
     let rebuilt = rebuild(alloc, keyed, key, journal, disk)?;
     match Restored::of(rebuilt) {
-        Restored::Recorded(client) => Ok((Restart { client, master }, input)),
+        Restored::Recorded(client) => {
+            let tools = Tools {
+                alloc,
+                keyed,
+                master,
+            };
+            Ok(Restart {
+                tools,
+                client,
+                input,
+            })
+        }
         Restored::Fresh(_) => Err(HeldUp::Journal(JournalStop::NoJournal)),
     }
 }
@@ -183,16 +203,9 @@ fn begin_run<K: Keyed, L: Link, D: Disk, S: Source, W: Sink>(
         HasBegun (keyed_fn K.prf K.pad) bytes (seen_with (L.transcript link.old) (D.content disk) (W.written sink.old)) (outside_of (seen (L.transcript link.new) kept) (W.written sink.new)) result.0
         (W.faults sink.old) (W.faults sink.new) (W.shortages sink.old) (W.shortages sink.new))) }
     ensures refused { IfSome (D.content disk) (λ file. GivesSome file ⊎ IsNoJournal file → result.0 ≢ 6 → result.0 ≢ 7 → result.0 ≡ 10) }
-    ensures at_end { result.0 ≤ 1 → IsAtEnd (S.remaining source.new) }
-    ensures source_failed { result.0 ≡ 3 → Rose (S.faults source.old) (S.faults source.new) }
-    ensures source_steady { result.0 ≢ 3 → S.faults source.new ≡ S.faults source.old }
-    ensures sink_failed { result.0 ≡ 4 → Rose (W.faults sink.old) (W.faults sink.new) }
-    ensures sink_steady { result.0 ≤ 1 → W.faults sink.new ≡ W.faults sink.old }
-    ensures link_failed { result.0 ≡ 5 → Rose (L.faults link.old) (L.faults link.new) }
-    ensures link_steady { result.0 ≢ 5 → L.faults link.new ≡ L.faults link.old }
+    ensures devices { TellsDevices (S.faults source.old) (S.faults source.new) (W.faults sink.old) (W.faults sink.new) (L.faults link.old) (L.faults link.new)
+        (D.faults disk) (D.faults result.1) (IsAtEnd (S.remaining source.new)) result.0 }
     ensures began { L.began link.new ≡ L.began link.old }
-    ensures disk_failed { result.0 ≡ 6 → Rose (D.faults disk) (D.faults result.1) }
-    ensures disk_steady { result.0 ≢ 6 → D.faults result.1 ≡ D.faults disk }
     ensures lasts { result.0 ≢ 6 → result.0 ≢ 7 → result.0 ≢ 10 → Lasts (D.content result.1) (D.images result.1) }
     ensures known { result.0 ≤ 10 }
 {
@@ -225,22 +238,15 @@ fn more<K: Keyed, L: Link, D: Disk, S: Source, W: Sink>(
         HasGoneOn (keyed_fn K.prf K.pad) bytes (seen_with (L.transcript link.old) (D.content disk) (W.written sink.old)) (outside_of (seen (L.transcript link.new) kept) (W.written sink.new)) result.0
         (W.faults sink.old) (W.faults sink.new) (W.shortages sink.old) (W.shortages sink.new)))) }
     ensures refused { IfSome (D.content disk) (λ file. HasNoRecord file → result.0 ≢ 6 → result.0 ≢ 7 → result.0 ≡ 10) }
-    ensures at_end { result.0 ≤ 1 → IsAtEnd (S.remaining source.new) }
-    ensures source_failed { result.0 ≡ 3 → Rose (S.faults source.old) (S.faults source.new) }
-    ensures source_steady { result.0 ≢ 3 → S.faults source.new ≡ S.faults source.old }
-    ensures sink_failed { result.0 ≡ 4 → Rose (W.faults sink.old) (W.faults sink.new) }
-    ensures sink_steady { result.0 ≤ 1 → W.faults sink.new ≡ W.faults sink.old }
-    ensures link_failed { result.0 ≡ 5 → Rose (L.faults link.old) (L.faults link.new) }
-    ensures link_steady { result.0 ≢ 5 → L.faults link.new ≡ L.faults link.old }
+    ensures devices { TellsDevices (S.faults source.old) (S.faults source.new) (W.faults sink.old) (W.faults sink.new) (L.faults link.old) (L.faults link.new)
+        (D.faults disk) (D.faults result.1) (IsAtEnd (S.remaining source.new)) result.0 }
     ensures began { L.began link.new ≡ L.began link.old }
-    ensures disk_failed { result.0 ≡ 6 → Rose (D.faults disk) (D.faults result.1) }
-    ensures disk_steady { result.0 ≢ 6 → D.faults result.1 ≡ D.faults disk }
     ensures lasts { result.0 ≢ 6 → result.0 ≢ 7 → result.0 ≢ 10 → Lasts (D.content result.1) (D.images result.1) }
     ensures known { result.0 ≤ 11 }
 {
     let mut disk = disk;
     match reopen(alloc, &mut disk) {
-        Ok(journal) => go_on_from(alloc, keyed, link, journal, disk, source, sink),
+        Ok(journal) => go_on_from(alloc, keyed, link, Opened { journal, disk }, source, sink),
         Err(stop) => (finish_unopened(sink, stop), disk),
     }
 }
@@ -250,44 +256,27 @@ fn go_on_from<K: Keyed, L: Link, D: Disk, S: Source, W: Sink>(
     alloc: Global,
     keyed: &K,
     link: &mut L,
-    journal: Journal,
-    disk: D,
+    opened: Opened<D>,
     source: &mut S,
     sink: &mut W,
 ) -> (u8, D)
-    requires holds { IfSome (D.content disk) (λ file. IsOfRecords journal (D.content disk) (D.images disk)) }
-    requires some { 0 < records_of journal }
-    requires unbroken { broken_by journal ≡ None }
-    ensures gone_on { KeepsOnStarted D.content D.images D.moment D.left_since disk result.1 (λ kept. IfSome (S.remaining source.old) (λ bytes.
-        HasGoneOn (keyed_fn K.prf K.pad) bytes (seen_with (L.transcript link.old) (D.content disk) (W.written sink.old)) (outside_of (seen (L.transcript link.new) kept) (W.written sink.new)) result.0
+    requires holds { IfSome (D.content opened.disk) (λ file. IsOfRecords opened.journal (D.content opened.disk) (D.images opened.disk)) }
+    requires some { 0 < records_of opened.journal }
+    requires unbroken { broken_by opened.journal ≡ None }
+    ensures gone_on { KeepsOnStarted D.content D.images D.moment D.left_since opened.disk result.1 (λ kept. IfSome (S.remaining source.old) (λ bytes.
+        HasGoneOn (keyed_fn K.prf K.pad) bytes (seen_with (L.transcript link.old) (D.content opened.disk) (W.written sink.old)) (outside_of (seen (L.transcript link.new) kept) (W.written sink.new)) result.0
         (W.faults sink.old) (W.faults sink.new) (W.shortages sink.old) (W.shortages sink.new))) }
-    ensures at_end { result.0 ≤ 1 → IsAtEnd (S.remaining source.new) }
-    ensures source_failed { result.0 ≡ 3 → Rose (S.faults source.old) (S.faults source.new) }
-    ensures source_steady { result.0 ≢ 3 → S.faults source.new ≡ S.faults source.old }
-    ensures sink_failed { result.0 ≡ 4 → Rose (W.faults sink.old) (W.faults sink.new) }
-    ensures sink_steady { result.0 ≤ 1 → W.faults sink.new ≡ W.faults sink.old }
-    ensures link_failed { result.0 ≡ 5 → Rose (L.faults link.old) (L.faults link.new) }
-    ensures link_steady { result.0 ≢ 5 → L.faults link.new ≡ L.faults link.old }
+    ensures devices { TellsDevices (S.faults source.old) (S.faults source.new) (W.faults sink.old) (W.faults sink.new) (L.faults link.old) (L.faults link.new)
+        (D.faults opened.disk) (D.faults result.1) (IsAtEnd (S.remaining source.new)) result.0 }
     ensures began { L.began link.new ≡ L.began link.old }
-    ensures disk_failed { result.0 ≡ 6 → Rose (D.faults disk) (D.faults result.1) }
-    ensures disk_steady { result.0 ≢ 6 → D.faults result.1 ≡ D.faults disk }
     ensures lasts { result.0 ≢ 6 → result.0 ≢ 7 → Lasts (D.content result.1) (D.images result.1) }
     ensures known { result.0 ≤ 11 }
 {
-    let mut disk = disk;
+    let Opened { journal, mut disk } = opened;
     match restored(alloc, keyed, &journal, &mut disk, source) {
-        Ok((restart, mut input)) => {
+        Ok(restart) => {
             let mut recorder = JournalRecorder::new(journal, disk);
-            let status = gone_on(
-                alloc,
-                keyed,
-                link,
-                &mut recorder,
-                source,
-                sink,
-                &mut input,
-                restart,
-            );
+            let status = gone_on(restart, link, &mut recorder, source, sink);
             (status, recorder.into_disk())
         }
         Err(HeldUp::Journal(stop)) => (finish_unopened(sink, stop), disk),

@@ -13,8 +13,10 @@ ghost use Rattle.script_meaning.specs.Meaning.{meaning};
 ghost use Rattle.script_meaning.specs.Runs.{Ended, ended, OpensFrom, OpensAtKey};
 ghost use Rattle.script_meaning.specs.Session.{IsFree};
 ghost use Rattle.script_meaning.specs.Stops as ends;
+ghost use Rattle.script_meaning.specs.Stops.{status_of, stop_text};
 ghost use Rattle.server_core.specs.State.{at_first};
 ghost use Rattle.sse_client.specs.Calls.{shows, KeepsLink};
+ghost use Rattle.sse_client.specs.Devices.{TellsDevices};
 ghost use Rattle.sse_client.specs.Keeping.{StaysWhole, WholeAtStop};
 ghost use Rattle.sse_client.specs.KeyLines as keys;
 ghost use Rattle.sse_client.specs.LastLine.{HasLastLine, HasShortLine, IsWholeOrRose};
@@ -117,21 +119,27 @@ pub(crate) fn whole_run<K: Keyed, L: Link, R: Recorder, S: Source, W: Sink>(
         (IfSome (S.remaining source.old) (λ bytes. HasLastLine (keyed_fn K.prf K.pad) bytes (outside_of (seen (L.transcript link.old) (R.kept recorder.old)) (W.written sink.old)) (outside_of (seen (L.transcript link.new) (R.kept recorder.new)) (W.written sink.new)) result))
         (IfSome (S.remaining source.old) (λ bytes. HasShortLine (keyed_fn K.prf K.pad) bytes (outside_of (seen (L.transcript link.old) (R.kept recorder.old)) (W.written sink.old)) (outside_of (seen (L.transcript link.new) (R.kept recorder.new)) (W.written sink.new)) result))
         result (W.faults sink.old) (W.faults sink.new) (W.shortages sink.old) (W.shortages sink.new) }
-    ensures at_end { result ≤ 1 → IsAtEnd (S.remaining source.new) }
-    ensures source_failed { result ≡ 3 → Rose (S.faults source.old) (S.faults source.new) }
-    ensures source_steady { result ≢ 3 → S.faults source.new ≡ S.faults source.old }
-    ensures sink_failed { result ≡ 4 → Rose (W.faults sink.old) (W.faults sink.new) }
-    ensures sink_steady { result ≤ 1 → W.faults sink.new ≡ W.faults sink.old }
-    ensures link_failed { result ≡ 5 → Rose (L.faults link.old) (L.faults link.new) }
-    ensures link_steady { result ≢ 5 → L.faults link.new ≡ L.faults link.old }
+    ensures devices { TellsDevices (S.faults source.old) (S.faults source.new) (W.faults sink.old) (W.faults sink.new) (L.faults link.old) (L.faults link.new)
+        (R.faults recorder.old) (R.faults recorder.new) (IsAtEnd (S.remaining source.new)) result }
     ensures began { L.began link.new ≡ L.began link.old }
-    ensures recorder_failed { result ≡ 6 → Rose (R.faults recorder.old) (R.faults recorder.new) }
-    ensures recorder_steady { result ≢ 6 → R.faults recorder.new ≡ R.faults recorder.old }
     ensures keeps_on { KeepsOn R.kept R.moment R.left_since recorder.old recorder.new }
     ensures lasts { result ≢ 6 → result ≢ 7 → R.whole recorder.new }
     ensures known { result ≤ 9 }
 {
-    match run_script(alloc, keyed, link, recorder, source, sink) {
+    let ran = run_script(alloc, keyed, link, recorder, source, sink);
+    finish_run(ran, sink)
+}
+
+/// Prints the last line of a run that stopped, and answers the status of a run, stopped or not.
+pub(crate) fn finish_run<W: Sink>(ran: Result<Refusals, StopCause>, sink: &mut W) -> u8
+    ensures status { result ≡ status_of (ending ran) }
+    ensures line { TookOrRose (W.written sink.old) (W.written sink.new) (stop_text (ending ran))
+        (W.faults sink.old) (W.faults sink.new) (W.shortages sink.old) (W.shortages sink.new) }
+    ensures steady { OnOk ran (W.faults sink.new ≡ W.faults sink.old) }
+    ensures later { W.faults sink.old ≤ W.faults sink.new }
+    ensures known { result ≤ 9 }
+{
+    match ran {
         Ok(Refusals::None) => 0,
         Ok(Refusals::Some) => 1,
         Err(stop) => finish(sink, stop),
@@ -172,9 +180,10 @@ fn run_script<K: Keyed, L: Link, R: Recorder, S: Source, W: Sink>(
     let session = Session {
         stage: Stage::Collecting(Client::fresh(key), docs),
         refusals: Refusals::None,
+        input,
         buffer,
     };
-    run_lines(&tools, link, recorder, source, sink, &mut input, session)
+    run_lines(&tools, link, recorder, source, sink, session)
 }
 
 /// Reads up to the key line, which is the first that isn't empty.

@@ -28,7 +28,7 @@ use crate::reply_buffer::ReplyBuffer;
 use crate::searching::search;
 use crate::sending::catch_up;
 use crate::tools::Tools;
-use crate::updating::{plan_addition, plan_deletion, send_update};
+use crate::updating::{UpdateInHand, plan_addition, plan_deletion, send_update};
 use client_core::{Client, Fresh, Planned, Ready, SetupFault};
 use client_registry::Docs;
 use keyed_fn::Keyed;
@@ -82,7 +82,14 @@ pub(crate) fn take_line<K: Keyed, L: Link, R: Recorder>(
                 SetupNumbers { b, big, pad },
             )
         }
-        Line::Add { id, words } => add(tools, link, recorder, buffer, stage, id, words),
+        Line::Add { id, words } => add(
+            tools,
+            link,
+            recorder,
+            buffer,
+            stage,
+            Addition { id, words },
+        ),
         Line::Del { id } => delete(tools, link, recorder, buffer, stage, id),
         Line::Find { word } => find(tools, link, buffer, stage, word),
     }
@@ -158,15 +165,14 @@ fn set_up<K: Keyed, L: Link, R: Recorder>(
         Stage::Collecting(client, docs) => {
             let SetupNumbers { b, big, pad } = numbers;
             match client.plan_setup(tools.alloc, tools.keyed, &docs, b, big, pad) {
-                Ok(planned) => Ok(send_setup(
-                    tools.alloc,
-                    client,
-                    planned,
-                    docs,
-                    link,
-                    recorder,
-                    buffer,
-                )?),
+                Ok(planned) => {
+                    let setup = SetupInHand {
+                        client,
+                        planned,
+                        docs,
+                    };
+                    Ok(send_setup(tools.alloc, setup, link, recorder, buffer)?)
+                }
                 Err(fault) => Ok((
                     Stage::Collecting(client, docs),
                     LineResult::Refused(setup_refusal(fault)?),
@@ -180,31 +186,42 @@ fn set_up<K: Keyed, L: Link, R: Recorder>(
     }
 }
 
-/// Keeps the record of a planned setup, commits it and sends it; the counts that are shown are those without dummies.
-fn send_setup<L: Link, R: Recorder>(
-    alloc: Global,
+/// A setup that was planned: of these documents, for this client.
+#[derive(Drop)]
+struct SetupInHand {
     client: Client<Fresh>,
     planned: Planned,
     docs: Docs,
+}
+
+/// Keeps the record of a planned setup, commits it and sends it; the counts that are shown are those without dummies.
+fn send_setup<L: Link, R: Recorder>(
+    alloc: Global,
+    setup: SetupInHand,
     link: &mut L,
     recorder: &mut R,
     buffer: &mut ReplyBuffer,
 ) -> Result<(Stage, LineResult), CommandStop>
-    requires frames { AllByRecursion IsFrame (planned.frames) }
-    requires documents { planned.made_of ≡ docs }
+    requires frames { AllByRecursion IsFrame (setup.planned.frames) }
+    requires documents { setup.planned.made_of ≡ setup.docs }
     requires whole { R.whole recorder.old }
-    ensures sends { (frames : List FrameText) → planned.frames ≡ map frame_bytes frames → AreNumbered 0 frames →
-        SendsKept (setup_payload planned) (seen (L.transcript link.old) (R.kept recorder.old)) (seen (L.transcript link.new) (R.kept recorder.new)) frames result }
-    ensures shown { IfOk result (λ done. line_result_view done.1 ≡ says.SetUp planned.own_words planned.own_blocks ∷ []) }
+    ensures sends { (frames : List FrameText) → setup.planned.frames ≡ map frame_bytes frames → AreNumbered 0 frames →
+        SendsKept (setup_payload setup.planned) (seen (L.transcript link.old) (R.kept recorder.old)) (seen (L.transcript link.new) (R.kept recorder.new)) frames result }
+    ensures shown { IfOk result (λ done. line_result_view done.1 ≡ says.SetUp setup.planned.own_words setup.planned.own_blocks ∷ []) }
     ensures accepted { IfOk result (λ done. refuses done.1 ≡ false) }
-    ensures stands { (f : KeyedFn) → IfOk result (λ done. IsReady f client.key (record { setup = setup_with docs.documents planned.b planned.big planned.pad; later = [] }) done.0) }
-    ensures hash_keys { IfOk result (λ done. hash_keys_of done.0 ≡ docs.keys) }
-    ensures key { IfOk result (λ done. key_of done.0 ≡ client.key) }
+    ensures stands { (f : KeyedFn) → IfOk result (λ done. IsReady f setup.client.key (record { setup = setup_with setup.docs.documents setup.planned.b setup.planned.big setup.planned.pad; later = [] }) done.0) }
+    ensures hash_keys { IfOk result (λ done. hash_keys_of done.0 ≡ setup.docs.keys) }
+    ensures key { IfOk result (λ done. key_of done.0 ≡ setup.client.key) }
     ensures keeps { KeepsLink CommandCause (shows (L.transcript link.old) (L.faults link.old) (L.began link.old)) (shows (L.transcript link.new) (L.faults link.new) (L.began link.new)) result }
     ensures keeps_on { KeepsOn R.kept R.moment R.left_since recorder.old recorder.new }
     ensures whole_after { StaysWhole WholeAt (R.whole recorder.new) result }
     ensures recorder { KeepsRecorder KeepCommandCause (R.faults recorder.old) (R.faults recorder.new) result }
 {
+    let SetupInHand {
+        client,
+        planned,
+        docs,
+    } = setup;
     let (words, blocks) = (planned.own_words(), planned.own_blocks());
     keep_setup(alloc, &planned, &docs, recorder)?;
     let ready = catch_up(
@@ -230,6 +247,13 @@ fn setup_refusal(fault: SetupFault) -> Result<Refusal, PlanStop>
     }
 }
 
+/// What an `add` line names: the identifier and the words of its document.
+#[derive(Drop)]
+struct Addition<'a> {
+    id: u64,
+    words: Fields<'a>,
+}
+
 /// Carries out an `add` line.
 fn add<K: Keyed, L: Link, R: Recorder>(
     tools: &Tools<'_, K>,
@@ -237,15 +261,14 @@ fn add<K: Keyed, L: Link, R: Recorder>(
     recorder: &mut R,
     buffer: &mut ReplyBuffer,
     stage: Stage,
-    id: u64,
-    fields: Fields<'_>,
+    addition: Addition<'_>,
 ) -> Result<(Stage, LineResult), CommandStop>
     requires prepared { tools.now.master ≡ key_of stage }
-    requires words { length fields ≤ 2 ^ 19 }
+    requires words { length addition.words ≤ 2 ^ 19 }
     requires whole { R.whole recorder.old }
-    ensures takes { IfOk result (λ done. Takes (keyed_fn K.prf K.pad) stage (requests.AddLine id fields.entry) (seen (L.transcript link.old) (R.kept recorder.old)) (seen (L.transcript link.new) (R.kept recorder.new)) done.0 done.1) }
-    ensures stops { IfErr result (λ stop. StopsWithin (keyed_fn K.prf K.pad) stage (requests.AddLine id fields.entry) (seen (L.transcript link.old) (R.kept recorder.old)) (seen (L.transcript link.new) (R.kept recorder.new)) (command_cause stop)) }
-    ensures may_stop { OnErr result (MayStop (keyed_fn K.prf K.pad) stage (lines.AddLine id fields.entry)) }
+    ensures takes { IfOk result (λ done. Takes (keyed_fn K.prf K.pad) stage (requests.AddLine addition.entry.id addition.entry.words) (seen (L.transcript link.old) (R.kept recorder.old)) (seen (L.transcript link.new) (R.kept recorder.new)) done.0 done.1) }
+    ensures stops { IfErr result (λ stop. StopsWithin (keyed_fn K.prf K.pad) stage (requests.AddLine addition.entry.id addition.entry.words) (seen (L.transcript link.old) (R.kept recorder.old)) (seen (L.transcript link.new) (R.kept recorder.new)) (command_cause stop)) }
+    ensures may_stop { OnErr result (MayStop (keyed_fn K.prf K.pad) stage (lines.AddLine addition.entry.id addition.entry.words)) }
     ensures same_key { IfOk result (λ done. key_of done.0 ≡ key_of stage) }
     ensures keeps { KeepsLink CommandCause (shows (L.transcript link.old) (L.faults link.old) (L.began link.old)) (shows (L.transcript link.new) (L.faults link.new) (L.began link.new)) result }
     ensures keeps_on { KeepsOn R.kept R.moment R.left_since recorder.old recorder.new }
@@ -258,16 +281,14 @@ fn add<K: Keyed, L: Link, R: Recorder>(
             LineResult::Refused(Refusal::NotSetUp),
         )),
         Stage::Searching(mut client) => {
-            let planned = plan_addition(tools, &mut client, id, fields);
-            send_update(
-                tools.alloc,
+            let Addition { id, words } = addition;
+            let planned = plan_addition(tools, &mut client, id, words);
+            let update = UpdateInHand {
                 client,
                 planned,
-                LineResult::Added { id },
-                link,
-                recorder,
-                buffer,
-            )
+                done: LineResult::Added { id },
+            };
+            send_update(tools.alloc, update, link, recorder, buffer)
         }
     }
 }
@@ -299,15 +320,12 @@ fn delete<K: Keyed, L: Link, R: Recorder>(
         )),
         Stage::Searching(mut client) => {
             let planned = plan_deletion(tools, &mut client, id);
-            send_update(
-                tools.alloc,
+            let update = UpdateInHand {
                 client,
                 planned,
-                LineResult::Deleted { id },
-                link,
-                recorder,
-                buffer,
-            )
+                done: LineResult::Deleted { id },
+            };
+            send_update(tools.alloc, update, link, recorder, buffer)
         }
     }
 }

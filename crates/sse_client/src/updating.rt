@@ -1,4 +1,4 @@
-ghost use Rattle.std.specs.Prelude.{◌≡◌, ◌≤◌, ◌^◌, ◌∷◌, [], ℕ, List, Option, false, None, Err, length, IfErr, IfOk, IfSome, OnErr, OnOk};
+ghost use Rattle.std.specs.Prelude.{◌≡◌, ◌≤◌, ◌^◌, ◌∷◌, [], ℕ, List, Option, false, Err, length, IfErr, IfOk, IfSome, OnErr};
 ghost use Rattle.client_core.specs.StandsFor.{CanCommit};
 ghost use Rattle.client_registry.specs.Command.{Command, Add, Delete};
 ghost use Rattle.keyed_fn.specs.KeyedFn.{KeyedFn, keyed_fn};
@@ -76,33 +76,44 @@ pub(crate) fn plan_deletion<K: Keyed>(
     Ok(client.plan_delete(tools.alloc, tools.keyed, &tools.master, id)?)
 }
 
+/// An update that was planned for this client, or why there is no plan; and its outcome once the server has acknowledged it.
+#[derive(Drop)]
+pub(crate) struct UpdateInHand {
+    pub(crate) client: Client<Ready>,
+    pub(crate) planned: Result<PlannedUpdate, UpdateFault>,
+    pub(crate) done: LineResult,
+}
+
 /// Carries out an update by its plan, or says why there is none, and the session stands where it stood: its record is kept
-/// before anything of it is sent. `done` is its outcome once the server has acknowledged it.
+/// before anything of it is sent.
 pub(crate) fn send_update<L: Link, R: Recorder>(
     alloc: Global,
-    client: Client<Ready>,
-    planned: Result<PlannedUpdate, UpdateFault>,
-    done: LineResult,
+    update: UpdateInHand,
     link: &mut L,
     recorder: &mut R,
     buffer: &mut ReplyBuffer,
 ) -> Result<(Stage, LineResult), CommandStop>
-    requires commits { IfOk planned (CanCommit client.state) }
-    requires frame { IfOk planned (λ planned. IsFrame planned.frame) }
-    requires accepts { refuses done ≡ false }
+    requires commits { IfOk update.planned (CanCommit update.client.state) }
+    requires frame { IfOk update.planned (λ planned. IsFrame planned.frame) }
+    requires accepts { refuses update.done ≡ false }
     requires whole { R.whole recorder.old }
-    ensures goes_on { IfOk result (λ went. (f : KeyedFn) (place : Place) (refusal : Option Reason) (c : Command) (shown : Shown) → IsAt f (Searching client) place → IsUpdatePlan f place refusal c planned → line_result_view done ≡ with_answers [] (shown ∷ []) →
+    ensures goes_on { IfOk result (λ went. (f : KeyedFn) (place : Place) (refusal : Option Reason) (c : Command) (shown : Shown) → IsAt f (Searching update.client) place → IsUpdatePlan f place refusal c update.planned → line_result_view update.done ≡ with_answers [] (shown ∷ []) →
         GoesOn f (seen (L.transcript link.old) (R.kept recorder.old)) (seen (L.transcript link.new) (R.kept recorder.new)) went.0 went.1 place (unless refusal (Does (c ∷ []) shown))) }
-    ensures stops { IfErr result (λ stop. (f : KeyedFn) (place : Place) (refusal : Option Reason) (c : Command) (shown : Shown) → IsAt f (Searching client) place → IsUpdatePlan f place refusal c planned →
+    ensures stops { IfErr result (λ stop. (f : KeyedFn) (place : Place) (refusal : Option Reason) (c : Command) (shown : Shown) → IsAt f (Searching update.client) place → IsUpdatePlan f place refusal c update.planned →
         (written : Option (List ℕ)) → StopsIn f place (unless refusal (Does (c ∷ []) shown)) (outside_of (seen (L.transcript link.old) (R.kept recorder.old)) written) (outside_of (seen (L.transcript link.new) (R.kept recorder.new)) written) (ends.At (command_cause stop))) }
-    ensures may_stop { OnErr result (IsRefused planned → ⊥) }
-    ensures as_planned { (stop : WhyUnsent) → planned ≡ Err (UpdateFault.Stopped stop) → result ≡ Err (CommandStop.Planning stop) }
-    ensures same_key { IfOk result (λ went. key_of went.0 ≡ client.key) }
+    ensures may_stop { OnErr result (IsRefused update.planned → ⊥) }
+    ensures as_planned { (stop : WhyUnsent) → update.planned ≡ Err (UpdateFault.Stopped stop) → result ≡ Err (CommandStop.Planning stop) }
+    ensures same_key { IfOk result (λ went. key_of went.0 ≡ update.client.key) }
     ensures keeps { KeepsLink CommandCause (shows (L.transcript link.old) (L.faults link.old) (L.began link.old)) (shows (L.transcript link.new) (L.faults link.new) (L.began link.new)) result }
     ensures keeps_on { KeepsOn R.kept R.moment R.left_since recorder.old recorder.new }
     ensures whole_after { StaysWhole WholeAt (R.whole recorder.new) result }
     ensures recorder { KeepsRecorder KeepCommandCause (R.faults recorder.old) (R.faults recorder.new) result }
 {
+    let UpdateInHand {
+        client,
+        planned,
+        done,
+    } = update;
     match planned {
         Ok(planned) => {
             keep_update(alloc, &planned, recorder)?;

@@ -27,7 +27,7 @@ lines-init g c = record {
   keeps_on = keeps-same g.R.Recorder.kept g.R.Recorder.moment g.R.Recorder.left_since c.args.recorder.now (g.met.R.Recorder.at_rest c.args.recorder.now c.requires.whole);
   recorder = refl;
   link = refl;
-  there = λ place at. there-start (keyed_fn g.K.Keyed.prf g.K.Keyed.pad) place c.args.session.stage c.args.input.now.number _ (has_refused c.args.session.refusals) _ at;
+  there = λ place at. there-start (keyed_fn g.K.Keyed.prf g.K.Keyed.pad) place c.args.session.stage c.args.session.input.number _ (has_refused c.args.session.refusals) _ at;
 }
 
 pub lines-preserved : goal.lines-preserved
@@ -36,9 +36,9 @@ lines-preserved g c =
     let is = c.in-Next.is in
     let next = c.in-Next.next in
     let key : key_of next.stage ≡ key_of c.lines.session.stage = subst (λ (t : Turn). IfNext t (λ s. key_of s.stage ≡ key_of c.lines.session.stage)) is c.in_ok-next.ensures.same_key in
-    let counted : c.take_turn.new.input.number ≡ c.lines.input.number + 1 = subst (λ (t : Turn). IfNext t (λ s. c.take_turn.new.input.number ≡ c.lines.input.number + 1)) is c.in_ok-next.ensures.counted in
-    let less : bytes_to_come c.take_turn.new.input.pending (g.S.Source.handed_out c.take_turn.new.source) < bytes_to_come c.lines.input.pending (g.S.Source.handed_out c.lines.source) =
-    subst (λ (t : Turn). IfNext t (λ s. bytes_to_come c.take_turn.new.input.pending (g.S.Source.handed_out c.take_turn.new.source) < bytes_to_come c.lines.input.pending (g.S.Source.handed_out c.lines.source))) is c.in_ok-next.ensures.less in
+    let counted : next.input.number ≡ c.lines.session.input.number + 1 = subst (λ (t : Turn). IfNext t (λ s. s.input.number ≡ c.lines.session.input.number + 1)) is c.in_ok-next.ensures.counted in
+    let less : bytes_to_come next.input.pending (g.S.Source.handed_out c.take_turn.new.source) < bytes_to_come c.lines.session.input.pending (g.S.Source.handed_out c.lines.source) =
+    subst (λ (t : Turn). IfNext t (λ s. bytes_to_come s.input.pending (g.S.Source.handed_out c.take_turn.new.source) < bytes_to_come c.lines.session.input.pending (g.S.Source.handed_out c.lines.source))) is c.in_ok-next.ensures.less in
     record {
       prepared = c.lines.invariant.prepared ∙ sym key;
       few = omega (arith, c.lines.invariant.few, counted, less);
@@ -53,27 +53,27 @@ lines-preserved g c =
       link = c.in_ok-next.ensures.link.steady ∙ c.lines.invariant.link;
       there = λ place at.
           let s = c.lines.invariant.there place at in
-          there-joined f _ c.lines.session.stage c.lines.input.number _ (has_refused c.lines.session.refusals) _ s next.stage c.take_turn.new.input.number (lines_left c.take_turn.new.input.pending (g.S.Source.remaining c.take_turn.new.source)) (has_refused next.refusals) (outside_of (seen (g.L.Link.transcript c.take_turn.new.link) (g.R.Recorder.kept c.take_turn.new.recorder)) (g.W.Sink.written c.take_turn.new.sink)) (subst (λ (t : Turn). LeadsTo f (moment s.place (c.lines.input.number + 1) (lines_left c.lines.input.pending (g.S.Source.remaining c.lines.source)) (has_refused c.lines.session.refusals) (outside_of (seen (g.L.Link.transcript c.lines.link) (g.R.Recorder.kept c.lines.recorder)) (g.W.Sink.written c.lines.sink))) c.take_turn.new.input.number (lines_left c.take_turn.new.input.pending (g.S.Source.remaining c.take_turn.new.source)) (outside_of (seen (g.L.Link.transcript c.take_turn.new.link) (g.R.Recorder.kept c.take_turn.new.recorder)) (g.W.Sink.written c.take_turn.new.sink)) (Ok t)) is (c.in_ok-next.ensures.turns s.place s.at));
+          there-joined f _ c.lines.session.stage c.lines.session.input.number _ (has_refused c.lines.session.refusals) _ s next.stage next.input.number (lines_left next.input.pending (g.S.Source.remaining c.take_turn.new.source)) (has_refused next.refusals) (outside_of (seen (g.L.Link.transcript c.take_turn.new.link) (g.R.Recorder.kept c.take_turn.new.recorder)) (g.W.Sink.written c.take_turn.new.sink)) (subst (λ (t : Turn). LeadsTo f (moment s.place (c.lines.session.input.number + 1) (lines_left c.lines.session.input.pending (g.S.Source.remaining c.lines.source)) (has_refused c.lines.session.refusals) (outside_of (seen (g.L.Link.transcript c.lines.link) (g.R.Recorder.kept c.lines.recorder)) (g.W.Sink.written c.lines.sink))) (g.S.Source.remaining c.take_turn.new.source) (outside_of (seen (g.L.Link.transcript c.take_turn.new.link) (g.R.Recorder.kept c.take_turn.new.recorder)) (g.W.Sink.written c.take_turn.new.sink)) (Ok t)) is (c.in_ok-next.ensures.turns s.place s.at));
     }
 
 pub lines-smaller : goal.lines-smaller
 lines-smaller g c =
-    subst (λ (t : Turn). IfNext t (λ s. bytes_to_come c.take_turn.new.input.pending (g.S.Source.handed_out c.take_turn.new.source) < bytes_to_come c.lines.input.pending (g.S.Source.handed_out c.lines.source))) c.in-Next.is c.in_ok-next.ensures.less
+    subst (λ (t : Turn). IfNext t (λ s. bytes_to_come s.input.pending (g.S.Source.handed_out c.take_turn.new.source) < bytes_to_come c.lines.session.input.pending (g.S.Source.handed_out c.lines.source))) c.in-Next.is c.in_ok-next.ensures.less
 
 pub returns-in_err-next-clause-ends : goal.returns-in_err-next-clause-ends
 returns-in_err-next-clause-ends g c = λ place at.
     let f = keyed_fn g.K.Keyed.prf g.K.Keyed.pad in
     let s = c.lines.invariant.there place at in
     let stop = c.in_err-next.field-0.0 in
-    let start = moment place (c.args.input.now.number + 1) (lines_left c.args.input.now.pending (g.S.Source.remaining c.args.source.now)) (has_refused c.args.session.refusals) (outside_of (seen (g.L.Link.transcript c.args.link.now) (g.R.Recorder.kept c.args.recorder.now)) (g.W.Sink.written c.args.sink.now)) in
+    let start = moment place (c.args.session.input.number + 1) (lines_left c.args.session.input.pending (g.S.Source.remaining c.args.source.now)) (has_refused c.args.session.refusals) (outside_of (seen (g.L.Link.transcript c.args.link.now) (g.R.Recorder.kept c.args.recorder.now)) (g.W.Sink.written c.args.sink.now)) in
     ends-stopped_so f start (outside_of (seen (g.L.Link.transcript c.take_turn.new.link) (g.R.Recorder.kept c.take_turn.new.recorder)) (g.W.Sink.written c.take_turn.new.sink)) c.from_residual.result stop c.from_residual.ensures.1
-    (ends-joined f _ c.lines.session.stage c.lines.input.number _ (has_refused c.lines.session.refusals) _ s (outside_of (seen (g.L.Link.transcript c.take_turn.new.link) (g.R.Recorder.kept c.take_turn.new.recorder)) (g.W.Sink.written c.take_turn.new.sink)) (stop_view stop) (c.in_err-next.ensures.turns s.place s.at))
+    (ends-joined f _ c.lines.session.stage c.lines.session.input.number _ (has_refused c.lines.session.refusals) _ s (outside_of (seen (g.L.Link.transcript c.take_turn.new.link) (g.R.Recorder.kept c.take_turn.new.recorder)) (g.W.Sink.written c.take_turn.new.sink)) (stop_view stop) (c.in_err-next.ensures.turns s.place s.at))
 
 pub returns-in-End-clause-ends : goal.returns-in-End-clause-ends
 returns-in-End-clause-ends g c = λ place at.
     let f = keyed_fn g.K.Keyed.prf g.K.Keyed.pad in
     let s = c.lines.invariant.there place at in
-    ends-joined f _ c.lines.session.stage c.lines.input.number _ (has_refused c.lines.session.refusals) _ s (outside_of (seen (g.L.Link.transcript c.take_turn.new.link) (g.R.Recorder.kept c.take_turn.new.recorder)) (g.W.Sink.written c.take_turn.new.sink)) (ends.AtEnd (has_refused c.in-End.refusals)) (subst (λ (t : Turn). LeadsTo f (moment s.place (c.lines.input.number + 1) (lines_left c.lines.input.pending (g.S.Source.remaining c.lines.source)) (has_refused c.lines.session.refusals) (outside_of (seen (g.L.Link.transcript c.lines.link) (g.R.Recorder.kept c.lines.recorder)) (g.W.Sink.written c.lines.sink))) c.take_turn.new.input.number (lines_left c.take_turn.new.input.pending (g.S.Source.remaining c.take_turn.new.source)) (outside_of (seen (g.L.Link.transcript c.take_turn.new.link) (g.R.Recorder.kept c.take_turn.new.recorder)) (g.W.Sink.written c.take_turn.new.sink)) (Ok t)) c.in-End.is (c.in_ok-next.ensures.turns s.place s.at))
+    ends-joined f _ c.lines.session.stage c.lines.session.input.number _ (has_refused c.lines.session.refusals) _ s (outside_of (seen (g.L.Link.transcript c.take_turn.new.link) (g.R.Recorder.kept c.take_turn.new.recorder)) (g.W.Sink.written c.take_turn.new.sink)) (ends.AtEnd (has_refused c.in-End.refusals)) (subst (λ (t : Turn). LeadsTo f (moment s.place (c.lines.session.input.number + 1) (lines_left c.lines.session.input.pending (g.S.Source.remaining c.lines.source)) (has_refused c.lines.session.refusals) (outside_of (seen (g.L.Link.transcript c.lines.link) (g.R.Recorder.kept c.lines.recorder)) (g.W.Sink.written c.lines.sink))) (g.S.Source.remaining c.take_turn.new.source) (outside_of (seen (g.L.Link.transcript c.take_turn.new.link) (g.R.Recorder.kept c.take_turn.new.recorder)) (g.W.Sink.written c.take_turn.new.sink)) (Ok t)) c.in-End.is (c.in_ok-next.ensures.turns s.place s.at))
 
 pub returns-in-End-clause-at_end : goal.returns-in-End-clause-at_end
 returns-in-End-clause-at_end g c = subst (λ (t : Turn). OnEnd t (IsAtEnd (g.S.Source.remaining c.take_turn.new.source))) c.in-End.is c.in_ok-next.ensures.at_end

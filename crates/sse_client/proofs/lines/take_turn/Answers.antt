@@ -21,35 +21,35 @@ pub returns-in_err-advance-clause-turns : goal.returns-in_err-advance-clause-tur
 returns-in_err-advance-clause-turns g c = λ place at.
     let f = keyed_fn g.K.Keyed.prf g.K.Keyed.pad in
     let stop = c.in_err-advance.field-0.0 in
-    leads-stopped f _ _ _ _ c.from_residual.result (stops.Input stop) c.from_residual.ensures.1
-    (ends-input f _ c.args.session.stage c.args.input.now.number _ (has_refused c.args.session.refusals) _ (there-start f place c.args.session.stage c.args.input.now.number _ (has_refused c.args.session.refusals) _ at) _ stop
+    leads-stopped f _ _ _ c.from_residual.result (stops.Input stop) c.from_residual.ensures.1
+    (ends-input f _ c.args.session.stage c.args.session.input.number _ (has_refused c.args.session.refusals) _ (there-start f place c.args.session.stage c.args.session.input.number _ (has_refused c.args.session.refusals) _ at) _ stop
     (λ m e. c.in_err-advance.ensures.too_long m (search e)) (λ m e. let n = c.in_err-advance.ensures.counted_long m (search e) in omega (arith, n, c.requires.few)))
 
 pub returns-then-not-branch-clause-turns : goal.returns-then-not-branch-clause-turns
 returns-then-not-branch-clause-turns g c = λ place at.
     let f = keyed_fn g.K.Keyed.prf g.K.Keyed.pad in
-    ends-end f _ c.args.session.stage c.args.input.now.number _ (has_refused c.args.session.refusals) _ (there-start f place c.args.session.stage c.args.input.now.number _ (has_refused c.args.session.refusals) _ at) (c.in_ok-advance.ensures.end (search rules))
+    ends-end f _ c.args.session.stage c.args.session.input.number _ (has_refused c.args.session.refusals) _ (there-start f place c.args.session.stage c.args.session.input.number _ (has_refused c.args.session.refusals) _ at) (c.in_ok-advance.ensures.end (search rules))
 
 pub returns-in_err-line-clause-turns : goal.returns-in_err-line-clause-turns
 returns-in_err-line-clause-turns g c = λ place at.
     let f = keyed_fn g.K.Keyed.prf g.K.Keyed.pad in
     let text = c.advance.new.self.line in
-    leads-bad f _ _ _ _ c.from_residual-in_err-line.result c.in_err-line.field-0.0 c.advance.new.self.number c.from_residual-in_err-line.ensures.1 c.in_err-line.ensures.bad
-    (ends-bad f _ c.args.session.stage c.args.input.now.number _ (has_refused c.args.session.refusals) _ (there-start f place c.args.session.stage c.args.input.now.number _ (has_refused c.args.session.refusals) _ at) _ text c.advance.new.self.number (c.in_ok-advance.ensures.line (search rules))
+    leads-bad f _ _ _ c.from_residual-in_err-line.result c.in_err-line.field-0.0 c.advance.new.self.number c.from_residual-in_err-line.ensures.1 c.in_err-line.ensures.bad
+    (ends-bad f _ c.args.session.stage c.args.session.input.number _ (has_refused c.args.session.refusals) _ (there-start f place c.args.session.stage c.args.session.input.number _ (has_refused c.args.session.refusals) _ at) _ text c.advance.new.self.number (c.in_ok-advance.ensures.line (search rules))
     (subst IsBad (sym (line_in-none text (sym c.in_err-line.ensures.read))) tt) (omega (arith, c.in_ok-advance.ensures.counted, c.requires.few)))
 
 pub returns-in-Empty-clause-turns : goal.returns-in-Empty-clause-turns
 returns-in-Empty-clause-turns g c = λ place at.
     let f = keyed_fn g.K.Keyed.prf g.K.Keyed.pad in
     let text = c.advance.new.self.line in
-    there-empty f _ c.args.session.stage c.args.input.now.number _ (has_refused c.args.session.refusals) _ (there-start f place c.args.session.stage c.args.input.now.number _ (has_refused c.args.session.refusals) _ at) _ text c.advance.new.self.number (c.in_ok-advance.ensures.line (search rules))
+    there-empty f _ c.args.session.stage c.args.session.input.number _ (has_refused c.args.session.refusals) _ (there-start f place c.args.session.stage c.args.session.input.number _ (has_refused c.args.session.refusals) _ at) _ text c.advance.new.self.number (c.in_ok-advance.ensures.line (search rules))
     (line_in-read c.in_ok-line.line text c.in_ok-line.ensures.read ∙ ap (λ (line : Line). Some (line_read (line_view line))) c.in-Empty.is) (omega (arith, c.in_ok-advance.ensures.counted, c.requires.few))
 
 pub returns-in-Key-clause-turns : goal.returns-in-Key-clause-turns
 returns-in-Key-clause-turns g c = λ place at.
     let f = keyed_fn g.K.Keyed.prf g.K.Keyed.pad in
     let text = c.advance.new.self.line in
-    ends-bad f _ c.args.session.stage c.args.input.now.number _ (has_refused c.args.session.refusals) _ (there-start f place c.args.session.stage c.args.input.now.number _ (has_refused c.args.session.refusals) _ at) _ text c.number.result (c.in_ok-advance.ensures.line (search rules))
+    ends-bad f _ c.args.session.stage c.args.session.input.number _ (has_refused c.args.session.refusals) _ (there-start f place c.args.session.stage c.args.session.input.number _ (has_refused c.args.session.refusals) _ at) _ text c.number.result (c.in_ok-advance.ensures.line (search rules))
     (subst IsBad (sym (line_in-read c.in_ok-line.line text c.in_ok-line.ensures.read ∙ ap (λ (line : Line). Some (line_read (line_view line))) c.in-Key.is)) tt)
     (omega (arith, c.in_ok-advance.ensures.counted, c.requires.few, c.number.ensures))
 
@@ -59,8 +59,8 @@ returns-in_err-next-in_default-clause-turns g c = λ place at.
     let f = keyed_fn g.K.Keyed.prf g.K.Keyed.pad in
     let text = c.advance.new.self.line in
     let command = command_of c.in_ok-line.line c.in_default.not-Empty c.in_default.not-Key in
-    leads-stopped f _ _ _ _ c.from_residual-in_err-next-in_default.result (stops.Command c.in_err-next-in_default.field-0.0) c.from_residual-in_err-next-in_default.ensures.1
-    (ends-stopped f _ c.args.session.stage c.args.input.now.number _ (has_refused c.args.session.refusals) _ (there-start f place c.args.session.stage c.args.input.now.number _ (has_refused c.args.session.refusals) _ at) _ text command.0 _ _ (c.in_ok-advance.ensures.line (search rules))
+    leads-stopped f _ _ _ c.from_residual-in_err-next-in_default.result (stops.Command c.in_err-next-in_default.field-0.0) c.from_residual-in_err-next-in_default.ensures.1
+    (ends-stopped f _ c.args.session.stage c.args.session.input.number _ (has_refused c.args.session.refusals) _ (there-start f place c.args.session.stage c.args.session.input.number _ (has_refused c.args.session.refusals) _ at) _ text command.0 _ _ (c.in_ok-advance.ensures.line (search rules))
     (line_in-read c.in_ok-line.line text c.in_ok-line.ensures.read ∙ ap (λ line. Some line) command.1)
     (λ spot standing. c.in_err-next-in_default.ensures.stops command.0 command.1 spot standing (g.W.Sink.written c.args.sink.now)))
 
@@ -71,8 +71,8 @@ returns-in_err-print-in_default-clause-turns g c = λ place at.
     let text = c.advance.new.self.line in
     let command = command_of c.in_ok-line.line c.in_default.not-Empty c.in_default.not-Key in
     let fault = c.in_err-print-in_default.field-0.0 in
-    leads-stopped f _ _ _ _ c.from_residual-in_err-print-in_default.result (stop_of_sink fault) c.from_residual-in_err-print-in_default.ensures.1
-    (ends-stopped f _ c.args.session.stage c.args.input.now.number _ (has_refused c.args.session.refusals) _ (there-start f place c.args.session.stage c.args.input.now.number _ (has_refused c.args.session.refusals) _ at) _ text command.0 _ _ (c.in_ok-advance.ensures.line (search rules))
+    leads-stopped f _ _ _ c.from_residual-in_err-print-in_default.result (stop_of_sink fault) c.from_residual-in_err-print-in_default.ensures.1
+    (ends-stopped f _ c.args.session.stage c.args.session.input.number _ (has_refused c.args.session.refusals) _ (there-start f place c.args.session.stage c.args.session.input.number _ (has_refused c.args.session.refusals) _ at) _ text command.0 _ _ (c.in_ok-advance.ensures.line (search rules))
     (line_in-read c.in_ok-line.line text c.in_ok-line.ensures.read ∙ ap (λ line. Some line) command.1)
     (stops-unprinted f c.args.session.stage c.in_ok-next-in_default.next c.in_ok-next-in_default.outcome command.0 (seen (g.L.Link.transcript c.args.link.now) (g.R.Recorder.kept c.args.recorder.now)) (seen (g.L.Link.transcript c.take_line.new.link) (g.R.Recorder.kept c.take_line.new.recorder)) (g.W.Sink.written c.args.sink.now)
     (g.W.Sink.written c.print.new.sink) (c.in_ok-next-in_default.ensures.takes command.0 command.1) fault c.in_err-print-in_default.ensures.front))
@@ -83,7 +83,7 @@ returns-in_ok-print-in_default-clause-turns g c = λ place at.
     let f = keyed_fn g.K.Keyed.prf g.K.Keyed.pad in
     let text = c.advance.new.self.line in
     let command = command_of c.in_ok-line.line c.in_default.not-Empty c.in_default.not-Key in
-    there-next f _ c.args.session.stage c.args.input.now.number _ (has_refused c.args.session.refusals) _ (there-start f place c.args.session.stage c.args.input.now.number _ (has_refused c.args.session.refusals) _ at) _ text command.0 c.advance.new.self.number _ c.in_ok-next-in_default.next _ (has_refused c.or-refusals.result)
+    there-next f _ c.args.session.stage c.args.session.input.number _ (has_refused c.args.session.refusals) _ (there-start f place c.args.session.stage c.args.session.input.number _ (has_refused c.args.session.refusals) _ at) _ text command.0 c.advance.new.self.number _ c.in_ok-next-in_default.next _ (has_refused c.or-refusals.result)
     (c.in_ok-advance.ensures.line (search rules)) (line_in-read c.in_ok-line.line text c.in_ok-line.ensures.read ∙ ap (λ line. Some line) command.1) (omega (arith, c.in_ok-advance.ensures.counted, c.requires.few))
     (carries-printed f c.args.session.stage c.in_ok-next-in_default.next c.in_ok-next-in_default.outcome command.0 (seen (g.L.Link.transcript c.args.link.now) (g.R.Recorder.kept c.args.recorder.now)) (seen (g.L.Link.transcript c.take_line.new.link) (g.R.Recorder.kept c.take_line.new.recorder)) (g.W.Sink.written c.args.sink.now)
     (g.W.Sink.written c.print.new.sink) (c.in_ok-next-in_default.ensures.takes command.0 command.1) c.in_ok-print-in_default.ensures.all)

@@ -1,4 +1,4 @@
-use Rattle.std.proofs.Common.{◌≡◌, [], ◌∷◌, inl, inr, ap, sym, subst, ◌∙◌, arith}
+use Rattle.std.proofs.Common.{◌≡◌, [], ◌∷◌, inl, inr, refl, ap, sym, subst, ◌∙◌, arith}
 use Rattle.std.proofs.lemmas.Bool.{true≢false}
 use Rattle.std.specs.Option.{option_map_or}
 use Rattle.std.specs.Prelude.{IfSome}
@@ -6,6 +6,9 @@ use Rattle.keyed_fn.specs.KeyedFn.{IsKeyedFn, keyed_fn}
 use Rattle.sse_journal.specs.FileRecords.{records_counted}
 use Rattle.sse_outside.specs.Kept.{Kept}
 use Rattle.sse_recorder.specs.declared.journal_recorder.JournalRecorder.{JournalRecorder}
+use Rattle.run_texts.specs.Stops.{journal_status}
+use Rattle.run_texts.specs.declared.journal_stop.JournalStop.TheVariants as journals
+use Rattle.sse_client.proofs.Devices.{devices-on, devices-unopened}
 use Rattle.sse_client.proofs.KeptOnDisk.{behind_start, gives_own, kept_at_start, kept_on_disk}
 use Rattle.sse_client.proofs.RecordsLast.{takes_lasts}
 use Rattle.sse_client.proofs.RunsOnDisk.{has_begun, not_begun, unopened}
@@ -78,3 +81,18 @@ returns-in-Err-clause-lasts g c = λ disk memory other. elim c.finish_unopened.e
   | inr (inr (inl ten)) ↦ absurd (other ten)
   | inr (inr (inr eleven)) ↦ absurd (let e = c.finish_unopened.ensures.key eleven in c.in-Err.ensures.never_key (search e))
 ]
+
+pub returns-in-Ok-clause-devices : goal.returns-in-Ok-clause-devices
+returns-in-Ok-clause-devices g c =
+    let ran = c.whole_run-status in
+    devices-on (g.S.Source.faults c.args.source.now) (g.S.Source.faults ran.new.source) (g.W.Sink.faults c.args.sink.now) (g.W.Sink.faults ran.new.sink) (g.L.Link.faults c.args.link.now) (g.L.Link.faults ran.new.link)
+    (g.D.Disk.faults c.new-recorder.result.disk) (g.D.Disk.faults ran.new.recorder.disk) (g.S.Source.faults c.args.source.now) (g.D.Disk.faults c.args.disk) (g.D.Disk.faults c.into_disk.result) ran.result _
+    refl (ap g.D.Disk.faults c.new-recorder.ensures.disk ∙ c.in-Ok.ensures.steady (λ e. absurd (cc))) (ap g.D.Disk.faults (sym c.into_disk.ensures)) ran.ensures.devices
+
+pub returns-in-Err-clause-devices : goal.returns-in-Err-clause-devices
+returns-in-Err-clause-devices g c =
+    let stop = c.in-Err.stop in
+    devices-unopened (g.S.Source.faults c.args.source.now) (g.S.Source.faults c.args.source.now) (g.W.Sink.faults c.args.sink.now) (g.W.Sink.faults c.args.sink.now) (g.W.Sink.faults c.finish_unopened.new.sink) 0 0 (g.L.Link.faults c.args.link.now) (g.L.Link.faults c.args.link.now)
+    (g.D.Disk.faults c.args.disk) (g.D.Disk.faults c.begin.new.disk) c.finish_unopened.result _ c.finish_unopened.ensures.known refl refl
+    (λ six. let e = c.finish_unopened.ensures.disk six in c.in-Err.ensures.failed (search e))
+    (λ other. c.in-Err.ensures.steady (λ e. other (c.finish_unopened.ensures.status ∙ ap (λ s. journal_status s) (let same : stop ≡ journals.Disk = cc in same))))

@@ -5,17 +5,18 @@ use Rattle.keyed_fn.specs.KeyedFn.{IsKeyedFn, keyed_fn}
 use Rattle.run_texts.specs.Stops.{input_cause, journal_cause, journal_line, journal_status, last_line, stop_status}
 use Rattle.run_texts.specs.declared.stop_cause.StopCause.TheVariants.{Input as input}
 use Rattle.script_meaning.specs.Stops as ends
-use Rattle.script_meaning.specs.Stops.{status_of, stop_text}
+use Rattle.script_meaning.specs.Stops.{status_of}
 use Rattle.sse_outside.specs.Fronts.{TookOrRose}
 use Rattle.sse_script.specs.TextLines.{lines_left}
 use Rattle.sse_journal.specs.FileRecords.{records_counted}
 use Rattle.sse_outside.specs.Kept.{Kept}
 use Rattle.sse_recorder.specs.declared.journal_recorder.JournalRecorder.{JournalRecorder}
+use Rattle.sse_client.proofs.Devices.{devices-on, devices-stopped, devices-unopened, journal_same}
 use Rattle.sse_client.proofs.KeptOnDisk.{behind_reading, kept_at_start, kept_on_disk, kept_still}
 use Rattle.sse_client.proofs.LastLine.{ends_line}
 use Rattle.sse_client.proofs.RunsOnDisk.{has_gone_on, has_gone_on-held}
 use Rattle.sse_client.specs.GoingOn.{GoesOnTo, HasEndedAfter, Restores}
-use Rattle.sse_client.specs.OnDisk.{HasGoneOn, Lasts, held_stop, kept_on, seen_with}
+use Rattle.sse_client.specs.OnDisk.{HasGoneOn, HeldCause, HeldSource, JournalCause, Lasts, held_stop, kept_on, seen_with}
 use Rattle.sse_client.proofs.RecordsLast.{takes_lasts}
 use Rattle.sse_client.specs.Stands.{outside_of, seen}
 use Rattle.sse_client.proofs.on_disk.go_on_from.Goals as goal
@@ -35,8 +36,8 @@ returns-in-Ok-clause-gone_on g c =
     let had = c.in-Ok.ensures.restored in
     let told = g.L.Link.transcript c.args.link.now in
     let written = g.W.Sink.written c.args.sink.now in
-    let next = c.in-Ok.input.number + 1 in
-    let behind = lines_left c.in-Ok.input.pending (g.S.Source.remaining c.restored.new.source) in
+    let next = c.in-Ok.restart.input.number + 1 in
+    let behind = lines_left c.in-Ok.restart.input.pending (g.S.Source.remaining c.restored.new.source) in
     let status = c.gone_on-status.result in
     let told' = g.L.Link.transcript c.gone_on-status.new.link in
     let written' = g.W.Sink.written c.gone_on-status.new.sink in
@@ -51,13 +52,13 @@ returns-in-Ok-clause-gone_on g c =
     ap (λ refused. record { records = records_counted recorder.journal (g.D.Disk.content recorder.disk); refused = option_map_or (λ payload. payload.items ∷ []) refused [] }) c.new-recorder.ensures.none
     ∙ kept_at_start recorder.journal (g.D.Disk.content recorder.disk) (g.D.Disk.images recorder.disk) c.new-recorder.ensures.whole
     ∙ ap (λ d. kept_on (g.D.Disk.content d)) c.new-recorder.ensures.disk in
-    let P = λ (k : Kept). IfSome remaining (λ bytes. HasGoneOn f bytes (seen_with told (g.D.Disk.content c.args.disk) written) (outside_of (seen told' k) written') status f0 f2 s0 s2) in
+    let P = λ (k : Kept). IfSome remaining (λ bytes. HasGoneOn f bytes (seen_with told (g.D.Disk.content c.args.opened.disk) written) (outside_of (seen told' k) written') status f0 f2 s0 s2) in
     let has : P (kept c.gone_on-status.new.recorder) =
-    has_gone_on f laws remaining key had.0 next behind (seen_with told (g.D.Disk.content c.args.disk) written) (outside_of (seen told' (kept c.gone_on-status.new.recorder)) written') status
+    has_gone_on f laws remaining key had.0 next behind (seen_with told (g.D.Disk.content c.args.opened.disk) written) (outside_of (seen told' (kept c.gone_on-status.new.recorder)) written') status
     f0 f2 s0 s2 c.in-Ok.ensures.found had.1
     (subst (λ k. HasEndedAfter f key had.0 next behind (outside_of (seen told k) written) (outside_of (seen told' (kept c.gone_on-status.new.recorder)) written') status f0 f2 s0 s2)
     (first ∙ ap kept_on c.in-Ok.ensures.kept) (c.gone_on-status.ensures.gone_on had.0 had.2)) in
-    behind_reading g.D.Disk.content g.D.Disk.images g.D.Disk.moment g.D.Disk.left_since c.args.disk read c.into_disk.result P c.args.journal c.requires.holds c.in-Ok.ensures.kept c.in-Ok.ensures.quiet
+    behind_reading g.D.Disk.content g.D.Disk.images g.D.Disk.moment g.D.Disk.left_since c.args.opened.disk read c.into_disk.result P c.args.opened.journal c.requires.holds c.in-Ok.ensures.kept c.in-Ok.ensures.quiet
     (kept_on_disk g.D.Disk.content g.D.Disk.images g.D.Disk.moment g.D.Disk.left_since (λ r. r.disk) kept recorder c.gone_on-status.new.recorder read c.into_disk.result P
     c.new-recorder.ensures.disk c.into_disk.ensures first (λ image is. g.met.D.Disk.counts_now c.gone_on-status.new.recorder.disk (g.D.Disk.moment c.gone_on-status.new.recorder.disk) image (omega arith) is)
     c.gone_on-status.ensures.keeps_on has)
@@ -74,7 +75,7 @@ returns-in-Err-Journal-clause-gone_on g c =
     } in
     let remaining = g.S.Source.remaining c.args.source.now in
     let told = g.L.Link.transcript c.args.link.now in
-    let old = g.D.Disk.content c.args.disk in
+    let old = g.D.Disk.content c.args.opened.disk in
     let written = g.W.Sink.written c.args.sink.now in
     let now = seen_with told old written in
     let stop = ends.At (journal_cause c.in-Err-Journal.stop) in
@@ -83,7 +84,7 @@ returns-in-Err-Journal-clause-gone_on g c =
     let line = subst (λ s. TookOrRose written (g.W.Sink.written c.finish_unopened.new.sink) (journal_line s) (g.W.Sink.faults c.args.sink.now) (g.W.Sink.faults c.finish_unopened.new.sink) (g.W.Sink.shortages c.args.sink.now) (g.W.Sink.shortages c.finish_unopened.new.sink))
     c.in-Err-Journal.stop-is c.finish_unopened.ensures.line in
     let goes = subst (λ s. GoesOnTo f (lines_left [] remaining) now now (held_stop s)) c.in-Err-Journal.field-0-is (c.in-Err-Journal.ensures.stopped told written) in
-    kept_still g.D.Disk.content g.D.Disk.images g.D.Disk.moment g.D.Disk.left_since c.args.disk c.restored.new.disk _ c.args.journal c.requires.holds c.in-Err-Journal.ensures.holds c.in-Err-Journal.ensures.kept c.in-Err-Journal.ensures.quiet
+    kept_still g.D.Disk.content g.D.Disk.images g.D.Disk.moment g.D.Disk.left_since c.args.opened.disk c.restored.new.disk _ c.args.opened.journal c.requires.holds c.in-Err-Journal.ensures.holds c.in-Err-Journal.ensures.kept c.in-Err-Journal.ensures.quiet
     (has_gone_on-held f laws remaining now (outside_of (seen told (kept_on old)) (g.W.Sink.written c.finish_unopened.new.sink)) stop status (g.W.Sink.faults c.args.sink.now) (g.W.Sink.faults c.finish_unopened.new.sink)
     (g.W.Sink.shortages c.args.sink.now) (g.W.Sink.shortages c.finish_unopened.new.sink) goes refl refl
     (ends_line stop written (g.W.Sink.written c.finish_unopened.new.sink) status (g.W.Sink.faults c.args.sink.now) (g.W.Sink.faults c.args.sink.now) (g.W.Sink.faults c.finish_unopened.new.sink)
@@ -101,7 +102,7 @@ returns-clause-gone_on g c =
     } in
     let remaining = g.S.Source.remaining c.args.source.now in
     let told = g.L.Link.transcript c.args.link.now in
-    let old = g.D.Disk.content c.args.disk in
+    let old = g.D.Disk.content c.args.opened.disk in
     let written = g.W.Sink.written c.args.sink.now in
     let now = seen_with told old written in
     let stop = ends.At (input_cause c.in-Err-Input.stop) in
@@ -110,7 +111,7 @@ returns-clause-gone_on g c =
     let line = subst (λ s. TookOrRose written (g.W.Sink.written c.finish.new.sink) (last_line (input s)) (g.W.Sink.faults c.args.sink.now) (g.W.Sink.faults c.finish.new.sink) (g.W.Sink.shortages c.args.sink.now) (g.W.Sink.shortages c.finish.new.sink))
     c.in-Err-Input.stop-is c.finish.ensures.line in
     let goes = subst (λ s. GoesOnTo f (lines_left [] remaining) now now (held_stop s)) c.in-Err-Input.field-0-is (c.in-Err-Input.ensures.stopped told written) in
-    kept_still g.D.Disk.content g.D.Disk.images g.D.Disk.moment g.D.Disk.left_since c.args.disk c.restored.new.disk _ c.args.journal c.requires.holds c.in-Err-Input.ensures.holds c.in-Err-Input.ensures.kept c.in-Err-Input.ensures.quiet
+    kept_still g.D.Disk.content g.D.Disk.images g.D.Disk.moment g.D.Disk.left_since c.args.opened.disk c.restored.new.disk _ c.args.opened.journal c.requires.holds c.in-Err-Input.ensures.holds c.in-Err-Input.ensures.kept c.in-Err-Input.ensures.quiet
     (has_gone_on-held f laws remaining now (outside_of (seen told (kept_on old)) (g.W.Sink.written c.finish.new.sink)) stop status (g.W.Sink.faults c.args.sink.now) (g.W.Sink.faults c.finish.new.sink)
     (g.W.Sink.shortages c.args.sink.now) (g.W.Sink.shortages c.finish.new.sink) goes refl refl
     (ends_line stop written (g.W.Sink.written c.finish.new.sink) status (g.W.Sink.faults c.args.sink.now) (g.W.Sink.faults c.args.sink.now) (g.W.Sink.faults c.finish.new.sink)
@@ -123,11 +124,11 @@ returns-in-Ok-clause-lasts g c = λ disk memory.
 
 pub returns-in-Err-Journal-clause-lasts : goal.returns-in-Err-Journal-clause-lasts
 returns-in-Err-Journal-clause-lasts g c = λ disk memory.
-    takes_lasts c.args.journal (g.D.Disk.content c.restored.new.disk) (g.D.Disk.images c.restored.new.disk) (record { unbroken = c.requires.unbroken; holds = c.in-Err-Journal.ensures.holds })
+    takes_lasts c.args.opened.journal (g.D.Disk.content c.restored.new.disk) (g.D.Disk.images c.restored.new.disk) (record { unbroken = c.requires.unbroken; holds = c.in-Err-Journal.ensures.holds })
 
 pub returns-clause-lasts : goal.returns-clause-lasts
 returns-clause-lasts g c = λ disk memory.
-    takes_lasts c.args.journal (g.D.Disk.content c.restored.new.disk) (g.D.Disk.images c.restored.new.disk) (record { unbroken = c.requires.unbroken; holds = c.in-Err-Input.ensures.holds })
+    takes_lasts c.args.opened.journal (g.D.Disk.content c.restored.new.disk) (g.D.Disk.images c.restored.new.disk) (record { unbroken = c.requires.unbroken; holds = c.in-Err-Input.ensures.holds })
 
 pub gone_on-status-requires-clause-restores : goal.gone_on-status-requires-clause-restores
 gone_on-status-requires-clause-restores g c =
@@ -135,9 +136,39 @@ gone_on-status-requires-clause-restores g c =
     let had = c.in-Ok.ensures.restored in
     let recorder = c.new-recorder.result in
     let kept : JournalRecorder g.row.D.Denot → Kept = λ r. record { records = records_counted r.journal (g.D.Disk.content r.disk); refused = option_map_or (λ payload. payload.items ∷ []) r.refused [] } in
-    let first : kept recorder ≡ kept_on (g.D.Disk.content c.args.disk) =
+    let first : kept recorder ≡ kept_on (g.D.Disk.content c.args.opened.disk) =
     ap (λ refused. record { records = records_counted recorder.journal (g.D.Disk.content recorder.disk); refused = option_map_or (λ payload. payload.items ∷ []) refused [] }) c.new-recorder.ensures.none
     ∙ kept_at_start recorder.journal (g.D.Disk.content recorder.disk) (g.D.Disk.images recorder.disk) c.new-recorder.ensures.whole
     ∙ ap (λ d. kept_on (g.D.Disk.content d)) c.new-recorder.ensures.disk
     ∙ ap kept_on c.in-Ok.ensures.kept in
     (had.0, subst (λ k. Restores f c.in-Ok.restart.client.key k had.0) (sym first) had.1, had.2)
+
+pub returns-in-Ok-clause-devices : goal.returns-in-Ok-clause-devices
+returns-in-Ok-clause-devices g c =
+    let ran = c.gone_on-status in
+    devices-on (g.S.Source.faults c.restored.new.source) (g.S.Source.faults ran.new.source) (g.W.Sink.faults c.args.sink.now) (g.W.Sink.faults ran.new.sink) (g.L.Link.faults c.args.link.now) (g.L.Link.faults ran.new.link)
+    (g.D.Disk.faults c.new-recorder.result.disk) (g.D.Disk.faults ran.new.recorder.disk) (g.S.Source.faults c.args.source.now) (g.D.Disk.faults c.args.opened.disk) (g.D.Disk.faults c.into_disk.result) ran.result _
+    c.in-Ok.ensures.source.steady (ap g.D.Disk.faults c.new-recorder.ensures.disk ∙ c.in-Ok.ensures.disk.steady) (ap g.D.Disk.faults (sym c.into_disk.ensures)) ran.ensures.devices
+
+pub returns-in-Err-Journal-clause-devices : goal.returns-in-Err-Journal-clause-devices
+returns-in-Err-Journal-clause-devices g c =
+    let stop = c.in-Err-Journal.stop in
+    let before = g.D.Disk.faults c.args.opened.disk in
+    let now = g.D.Disk.faults c.restored.new.disk in
+    let same = subst (HeldSource (g.S.Source.faults c.args.source.now) (g.S.Source.faults c.restored.new.source)) c.in-Err-Journal.field-0-is c.in-Err-Journal.ensures.source.cause in
+    let cause : JournalCause before now stop = subst (HeldCause before now) c.in-Err-Journal.field-0-is c.in-Err-Journal.ensures.disk.cause in
+    let is : c.finish_unopened.result ≡ journal_status stop = c.finish_unopened.ensures.status ∙ ap (λ s. journal_status s) c.in-Err-Journal.stop-is in
+    devices-unopened (g.S.Source.faults c.args.source.now) (g.S.Source.faults c.restored.new.source) (g.W.Sink.faults c.args.sink.now) (g.W.Sink.faults c.args.sink.now) (g.W.Sink.faults c.finish_unopened.new.sink) 0 0 (g.L.Link.faults c.args.link.now) (g.L.Link.faults c.args.link.now)
+    before now c.finish_unopened.result _ c.finish_unopened.ensures.known same refl
+    (λ six. subst (JournalCause before now) (sym c.in-Err-Journal.stop-is ∙ c.finish_unopened.ensures.disk six) cause)
+    (λ other. journal_same before now stop cause (λ e. other (is ∙ ap (λ s. journal_status s) e)))
+
+pub returns-clause-devices : goal.returns-clause-devices
+returns-clause-devices g c =
+    let stop = c.in-Err-Input.stop in
+    let before = g.D.Disk.faults c.args.opened.disk in
+    let now = g.D.Disk.faults c.restored.new.disk in
+    devices-stopped (g.S.Source.faults c.args.source.now) (g.S.Source.faults c.restored.new.source) (g.W.Sink.faults c.args.sink.now) (g.W.Sink.faults c.args.sink.now) (g.W.Sink.faults c.finish.new.sink) 0 0 (g.L.Link.faults c.args.link.now) (g.L.Link.faults c.args.link.now)
+    before now c.finish.result _ (input stop) (c.finish.ensures.status ∙ ap (λ s. stop_status (input s)) c.in-Err-Input.stop-is)
+    (subst (HeldSource (g.S.Source.faults c.args.source.now) (g.S.Source.faults c.restored.new.source)) c.in-Err-Input.field-0-is c.in-Err-Input.ensures.source.cause)
+    refl c.finish.ensures.later refl (subst (HeldCause before now) c.in-Err-Input.field-0-is c.in-Err-Input.ensures.disk.cause)

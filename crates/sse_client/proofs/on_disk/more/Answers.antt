@@ -1,9 +1,10 @@
-use Rattle.std.proofs.Common.{◌≡◌, ◌∙◌, [], ap, inl, inr, subst, sym}
+use Rattle.std.proofs.Common.{◌≡◌, ◌∙◌, [], refl, ap, inl, inr, subst, sym}
 use Rattle.std.proofs.lemmas.Bool.{true≢false}
 use Rattle.std.specs.Prelude.{IfSome}
 use Rattle.keyed_fn.specs.KeyedFn.{keyed_fn}
 use Rattle.run_texts.specs.Stops.{journal_status}
 use Rattle.run_texts.specs.declared.journal_stop.JournalStop.TheVariants as journals
+use Rattle.sse_client.proofs.Devices.{devices-on, devices-unopened}
 use Rattle.sse_client.proofs.GoingOn.{for_all}
 use Rattle.sse_client.proofs.KeptOnDisk.{behind_start, gives_own}
 use Rattle.sse_client.proofs.RunsOnDisk.{not_reopened, unopened}
@@ -82,3 +83,18 @@ returns-in-Err-clause-accepted g c =
     let ok = goes some
     (λ e. disk (c.finish_unopened.ensures.status ∙ ap (λ s. journal_status s) (let same : stop ≡ journals.Disk = cc in same)))
     (λ e. memory (c.finish_unopened.ensures.status ∙ ap (λ s. journal_status s) (let same : stop ≡ journals.Memory = cc in same))) in cc)) c.in-Err.ensures.accepted
+
+pub returns-in-Ok-clause-devices : goal.returns-in-Ok-clause-devices
+returns-in-Ok-clause-devices g c =
+    let ran = c.go_on_from in
+    devices-on (g.S.Source.faults c.args.source.now) (g.S.Source.faults ran.new.source) (g.W.Sink.faults c.args.sink.now) (g.W.Sink.faults ran.new.sink) (g.L.Link.faults c.args.link.now) (g.L.Link.faults ran.new.link)
+    (g.D.Disk.faults c.reopen.new.disk) (g.D.Disk.faults ran.result.1) (g.S.Source.faults c.args.source.now) (g.D.Disk.faults c.args.disk) (g.D.Disk.faults ran.result.1) ran.result.0 _
+    refl (c.in-Ok.ensures.steady (λ e. absurd (cc))) refl ran.ensures.devices
+
+pub returns-in-Err-clause-devices : goal.returns-in-Err-clause-devices
+returns-in-Err-clause-devices g c =
+    let stop = c.in-Err.stop in
+    devices-unopened (g.S.Source.faults c.args.source.now) (g.S.Source.faults c.args.source.now) (g.W.Sink.faults c.args.sink.now) (g.W.Sink.faults c.args.sink.now) (g.W.Sink.faults c.finish_unopened.new.sink) 0 0 (g.L.Link.faults c.args.link.now) (g.L.Link.faults c.args.link.now)
+    (g.D.Disk.faults c.args.disk) (g.D.Disk.faults c.reopen.new.disk) c.finish_unopened.result _ c.finish_unopened.ensures.known refl refl
+    (λ six. let e = c.finish_unopened.ensures.disk six in c.in-Err.ensures.failed (search e))
+    (λ other. c.in-Err.ensures.steady (λ e. other (c.finish_unopened.ensures.status ∙ ap (λ s. journal_status s) (let same : stop ≡ journals.Disk = cc in same))))

@@ -80,8 +80,8 @@ pub returns-in-Recorded-clause-holds : goal.returns-in-Recorded-clause-holds
 returns-in-Recorded-clause-holds g c =
     holds_on c.args.journal.now (g.D.Disk.content c.args.disk.now) (g.D.Disk.content c.rebuild.new.disk) (g.D.Disk.images c.args.disk.now) (g.D.Disk.images c.rebuild.new.disk) c.rebuild.ensures.kept c.rebuild.ensures.holds c.requires.holds
 
-pub returns-in-Fresh-clause-stopped : goal.returns-in-Fresh-clause-stopped
-returns-in-Fresh-clause-stopped g c = λ told written.
+pub returns-clause-stopped : goal.returns-clause-stopped
+returns-clause-stopped g c = λ told written.
     let f = keyed_fn g.K.Keyed.prf g.K.Keyed.pad in
     let remaining = g.S.Source.remaining c.args.source.now in
     let content = g.D.Disk.content c.args.disk.now in
@@ -93,6 +93,6 @@ returns-in-Fresh-clause-stopped g c = λ told written.
     (found_from_start c.in_ok-input.input.number c.in_ok-input.input.pending remaining c.in_ok-input.ensures.number c.in_ok-input.ensures.pending key next behind c.in_ok-key.ensures.found)
     (unrestored-fresh f key c.args.journal.now content (g.D.Disk.images c.args.disk.now) c.requires.holds c.in_ok-rebuilt.rebuilt c.in-Fresh.field-0 w (c.in-Fresh.ensures.restored w.payloads w.taken) c.requires.some)
 
-pub returns-in-Fresh-clause-holds : goal.returns-in-Fresh-clause-holds
-returns-in-Fresh-clause-holds g c =
+pub returns-clause-holds : goal.returns-clause-holds
+returns-clause-holds g c =
     holds_on c.args.journal.now (g.D.Disk.content c.args.disk.now) (g.D.Disk.content c.rebuild.new.disk) (g.D.Disk.images c.args.disk.now) (g.D.Disk.images c.rebuild.new.disk) c.rebuild.ensures.kept c.rebuild.ensures.holds c.requires.holds

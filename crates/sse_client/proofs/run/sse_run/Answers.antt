@@ -63,3 +63,30 @@ returns-in-Some-Run-clause-recorded g c = λ asked.
 
 pub returns-in-None-clause-keeps_on : goal.returns-in-None-clause-keeps_on
 returns-in-None-clause-keeps_on g c = keeps-same g.R.Recorder.kept g.R.Recorder.moment g.R.Recorder.left_since c.args.recorder.now (g.met.R.Recorder.at_rest c.args.recorder.now c.requires.whole)
+
+pub returns-in-Some-Run-clause-at_end : goal.returns-in-Some-Run-clause-at_end
+returns-in-Some-Run-clause-at_end g c = c.whole_run.ensures.devices.at_end
+
+pub returns-in-Some-Run-clause-source_failed : goal.returns-in-Some-Run-clause-source_failed
+returns-in-Some-Run-clause-source_failed g c = c.whole_run.ensures.devices.source_failed
+
+pub returns-in-Some-Run-clause-source_steady : goal.returns-in-Some-Run-clause-source_steady
+returns-in-Some-Run-clause-source_steady g c = c.whole_run.ensures.devices.source_steady
+
+pub returns-in-Some-Run-clause-sink_failed : goal.returns-in-Some-Run-clause-sink_failed
+returns-in-Some-Run-clause-sink_failed g c = c.whole_run.ensures.devices.sink_failed
+
+pub returns-in-Some-Run-clause-sink_steady : goal.returns-in-Some-Run-clause-sink_steady
+returns-in-Some-Run-clause-sink_steady g c = c.whole_run.ensures.devices.sink_steady
+
+pub returns-in-Some-Run-clause-link_failed : goal.returns-in-Some-Run-clause-link_failed
+returns-in-Some-Run-clause-link_failed g c = c.whole_run.ensures.devices.link_failed
+
+pub returns-in-Some-Run-clause-link_steady : goal.returns-in-Some-Run-clause-link_steady
+returns-in-Some-Run-clause-link_steady g c = c.whole_run.ensures.devices.link_steady
+
+pub returns-in-Some-Run-clause-recorder_failed : goal.returns-in-Some-Run-clause-recorder_failed
+returns-in-Some-Run-clause-recorder_failed g c = c.whole_run.ensures.devices.disk_failed
+
+pub returns-in-Some-Run-clause-recorder_steady : goal.returns-in-Some-Run-clause-recorder_steady
+returns-in-Some-Run-clause-recorder_steady g c = c.whole_run.ensures.devices.disk_steady

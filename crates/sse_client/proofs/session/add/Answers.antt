@@ -19,7 +19,7 @@ pub returns-in-Collecting-clause-takes : goal.returns-in-Collecting-clause-takes
 returns-in-Collecting-clause-takes g c = λ place a.
     let f = keyed_fn g.K.Keyed.prf g.K.Keyed.pad in
     let here : IsAt f (Collecting c.in-Collecting.client c.in-Collecting.docs) place = subst (λ (s : Stage). IsAt f s place) c.in-Collecting.is a in
-    takes-not_set_up f _ _ _ place (requests.AddLine c.args.id c.args.fields) refl here.stands.1 refl refl here
+    takes-not_set_up f _ _ _ place (requests.AddLine c.args.addition.id c.args.addition.words) refl here.stands.1 refl refl here
 
 pub returns-in-Searching-clause-takes : goal.returns-in-Searching-clause-takes
 returns-in-Searching-clause-takes g c =
@@ -29,8 +29,8 @@ returns-in-Searching-clause-takes g c =
     let new = seen (g.L.Link.transcript c.send_update.new.link) (g.R.Recorder.kept c.send_update.new.recorder) in
     of_good c.send_update.result _ _ (λ done goes place a.
     let here : IsAt f (Searching client) place = subst (λ (s : Stage). IsAt f s place) c.in-Searching.is a in
-    subst (GoesOn f old new done.0 done.1 place) (sym (behind place (requests.AddLine c.args.id c.args.fields) (is_up f client place here)))
-    (goes f place (add_refusal place.history (document c.args.id c.args.fields)) (Add (document c.args.id c.args.fields)) (says.Added c.args.id) (c.plan_addition-planned.ensures.stands place here) (c.plan_addition-planned.ensures.plan place here) refl))
+    subst (GoesOn f old new done.0 done.1 place) (sym (behind place (requests.AddLine c.args.addition.id c.args.addition.words) (is_up f client place here)))
+    (goes f place (add_refusal place.history (document c.args.addition.id c.args.addition.words)) (Add (document c.args.addition.id c.args.addition.words)) (says.Added c.args.addition.id) (c.plan_addition-planned.ensures.stands place here) (c.plan_addition-planned.ensures.plan place here) refl))
     c.send_update.ensures.goes_on
 
 pub returns-in-Searching-clause-stops : goal.returns-in-Searching-clause-stops
@@ -41,14 +41,14 @@ returns-in-Searching-clause-stops g c =
     let new = seen (g.L.Link.transcript c.send_update.new.link) (g.R.Recorder.kept c.send_update.new.recorder) in
     of_fault c.send_update.result _ _ (λ stop stops place a written.
     let here : IsAt f (Searching client) place = subst (λ (s : Stage). IsAt f s place) c.in-Searching.is a in
-    stops_as f place old new written (command_cause stop) (sym (behind place (requests.AddLine c.args.id c.args.fields) (is_up f client place here)))
-    (stops f place (add_refusal place.history (document c.args.id c.args.fields)) (Add (document c.args.id c.args.fields)) (says.Added c.args.id) (c.plan_addition-planned.ensures.stands place here) (c.plan_addition-planned.ensures.plan place here) written))
+    stops_as f place old new written (command_cause stop) (sym (behind place (requests.AddLine c.args.addition.id c.args.addition.words) (is_up f client place here)))
+    (stops f place (add_refusal place.history (document c.args.addition.id c.args.addition.words)) (Add (document c.args.addition.id c.args.addition.words)) (says.Added c.args.addition.id) (c.plan_addition-planned.ensures.stands place here) (c.plan_addition-planned.ensures.plan place here) written))
     c.send_update.ensures.stops
 
 pub returns-in-Searching-clause-may_stop : goal.returns-in-Searching-clause-may_stop
 returns-in-Searching-clause-may_stop g c =
     let f = keyed_fn g.K.Keyed.prf g.K.Keyed.pad in
-    of_stop c.send_update.result _ _ (λ unrefused. subst (λ s. MayStop f s (lines.AddLine c.args.id c.args.fields)) (sym c.in-Searching.is) (λ zero. unrefused (_, c.plan_addition-planned.ensures.zero zero))) c.send_update.ensures.may_stop
+    of_stop c.send_update.result _ _ (λ unrefused. subst (λ s. MayStop f s (lines.AddLine c.args.addition.id c.args.addition.words)) (sym c.in-Searching.is) (λ zero. unrefused (_, c.plan_addition-planned.ensures.zero zero))) c.send_update.ensures.may_stop
 
 pub returns-in-Collecting-clause-keeps_on : goal.returns-in-Collecting-clause-keeps_on
 returns-in-Collecting-clause-keeps_on g c = keeps-same g.R.Recorder.kept g.R.Recorder.moment g.R.Recorder.left_since c.args.recorder.now (g.met.R.Recorder.at_rest c.args.recorder.now c.requires.whole)

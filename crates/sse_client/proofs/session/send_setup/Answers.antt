@@ -21,18 +21,18 @@ returns-clause-sends g c = λ frames planned numbered. (
 
 pub returns-in_err-keep_setup-clause-sends : goal.returns-in_err-keep_setup-clause-sends
 returns-in_err-keep_setup-clause-sends g c = λ frames planned numbered.
-    SendsKept-err (setup_payload c.args.planned) (seen (g.L.Link.transcript c.args.link.now) (g.R.Recorder.kept c.args.recorder.now)) (seen (g.L.Link.transcript c.args.link.now) (g.R.Recorder.kept c.keep_setup.new.recorder)) frames
+    SendsKept-err (setup_payload c.args.setup.planned) (seen (g.L.Link.transcript c.args.link.now) (g.R.Recorder.kept c.args.recorder.now)) (seen (g.L.Link.transcript c.args.link.now) (g.R.Recorder.kept c.keep_setup.new.recorder)) frames
     c.from_residual.result (Keeping c.in_err-keep_setup.field-0.0) c.from_residual.ensures.1 (refl, c.in_err-keep_setup.ensures.kept)
 
 pub returns-clause-stands : goal.returns-clause-stands
 returns-clause-stands g c = λ f.
-    let run : Run = record { setup = setup_with c.args.docs.documents c.args.planned.b c.args.planned.big c.args.planned.pad; later = [] } in
-    let keys = keys_under c.args.client.key (Some run) in
+    let run : Run = record { setup = setup_with c.args.setup.docs.documents c.args.setup.planned.b c.args.setup.planned.big c.args.setup.planned.pad; later = [] } in
+    let keys = keys_under c.args.setup.client.key (Some run) in
     subst (StandsFor f keys at_first run) (sym c.in_ok-ready.ensures.ready) (c.commit.ensures.stands f keys)
 
 pub returns-in_err-ready-clause-sends : goal.returns-in_err-ready-clause-sends
 returns-in_err-ready-clause-sends g c = λ frames planned numbered.
-    SendsKept-err (setup_payload c.args.planned) (seen (g.L.Link.transcript c.args.link.now) (g.R.Recorder.kept c.args.recorder.now)) (seen (g.L.Link.transcript c.catch_up.new.link) (g.R.Recorder.kept c.keep_setup.new.recorder)) frames
+    SendsKept-err (setup_payload c.args.setup.planned) (seen (g.L.Link.transcript c.args.link.now) (g.R.Recorder.kept c.args.recorder.now)) (seen (g.L.Link.transcript c.catch_up.new.link) (g.R.Recorder.kept c.keep_setup.new.recorder)) frames
     c.from_residual-in_err-ready.result (Exchange c.in_err-ready.field-0.0) c.from_residual-in_err-ready.ensures.1 (
       c.in_ok-keep_setup.ensures.kept,
       c.in_err-ready.ensures.sends frames (c.commit.ensures.owed ∙ planned) (subst (λ n. AreNumbered n frames) (sym c.commit.ensures.first) numbered),
@@ -43,4 +43,4 @@ returns-clause-hash_keys g c = ap (λ (r : Ready). r.registry.keys) c.in_ok-read
 
 pub catch_up-requires-clause-recorded : goal.catch_up-requires-clause-recorded
 catch_up-requires-clause-recorded g c =
-    owes-taken (g.R.Recorder.kept c.args.recorder.now) (g.R.Recorder.kept c.keep_setup.new.recorder) (setup_payload c.args.planned) c.commit.result.state c.in_ok-keep_setup.ensures.kept (λ records ends. inl (c.args.planned, ends, c.commit.ensures.owed))
+    owes-taken (g.R.Recorder.kept c.args.recorder.now) (g.R.Recorder.kept c.keep_setup.new.recorder) (setup_payload c.args.setup.planned) c.commit.result.state c.in_ok-keep_setup.ensures.kept (λ records ends. inl (c.args.setup.planned, ends, c.commit.ensures.owed))
