@@ -58,12 +58,23 @@ impl Kept {
     }
 }
 
-/// A document of these words.
-fn document(alloc: Global, id: u64, words: &[&[u8]]) -> Option<Doc> {
+/// One word more.
+fn put(read: &mut Vec<Word>, word: &[u8]) -> Option<()> {
+    read.push(Word::read(word).ok()?).ok()
+}
+
+/// The words of these bytes.
+fn words_of(alloc: Global, words: &[&[u8]]) -> Option<Vec<Word>> {
     let mut read = Vec::new(alloc);
     for word in words {
-        read.push(Word::read(word).ok()?).ok()?;
+        put(&mut read, word)?;
     }
+    Some(read)
+}
+
+/// A document of these words.
+fn document(alloc: Global, id: u64, words: &[&[u8]]) -> Option<Doc> {
+    let read = words_of(alloc, words)?;
     Doc::new(alloc, DocId::new(id).ok()?, read).ok()
 }
 
