@@ -1,3 +1,6 @@
+ghost use Rattle.std.specs.Prelude.{◌≡◌};
+ghost use Rattle.journal_records.specs.Statuses.{status_of};
+
 use sse_journal::{AppendFault, ReadFault, StartFault};
 use sse_outside::{DeviceFault, Sink, print_all};
 use std::alloc::{AllocError, Global};
@@ -23,7 +26,9 @@ pub enum Stop {
 
 impl Stop {
     /// The status that the program ends with.
-    pub fn status(self) -> u8 {
+    pub fn status(self) -> u8
+        ensures { result ≡ status_of self }
+    {
         match self {
             Stop::Words => 2,
             Stop::Output(DeviceFault::Failed) => 4,
