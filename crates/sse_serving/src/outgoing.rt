@@ -14,6 +14,8 @@ impl Outgoing {
     pub fn new(reply: Vec<u8>, page: Vec<u64>) -> Outgoing
         requires reply { length reply.items ≡ 65544 }
         requires page { length page.items ≡ 8192 }
+        ensures reply { result.reply ≡ reply }
+        ensures page { result.page ≡ page }
     {
         Outgoing { reply, page }
     }
