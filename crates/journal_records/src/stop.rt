@@ -1,13 +1,18 @@
-ghost use Rattle.std.specs.Prelude.{◌≡◌};
+ghost use Rattle.std.specs.Prelude.{◌≡◌, IsErrOf, OnErr, OnOk};
+ghost use Rattle.std.specs.Io.KnownBytes.{append_known};
+ghost use Rattle.journal_records.specs.Lines.{stop_line};
 ghost use Rattle.journal_records.specs.Statuses.{status_of};
+ghost use Rattle.sse_outside.specs.Causes.{Rose};
+ghost use Rattle.sse_outside.specs.Fronts.{TookFront};
 
 use sse_journal::{AppendFault, ReadFault, StartFault};
 use sse_outside::{DeviceFault, Sink, print_all};
 use std::alloc::{AllocError, Global};
+use std::fmt;
 
 /// Why a task was not done.
 #[derive(Clone, Copy, Debug, PartialEq, Eq)]
-pub enum Stop {
+pub(crate) enum Stop {
     /// The words of the command line name no task.
     Words,
     /// The file can't be opened for reading and writing.
@@ -26,7 +31,7 @@ pub enum Stop {
 
 impl Stop {
     /// The status that the program ends with.
-    pub fn status(self) -> u8
+    pub(crate) fn status(self) -> u8
         ensures { result ≡ status_of self }
     {
         match self {
@@ -41,20 +46,36 @@ impl Stop {
         }
     }
 
-    /// Prints the cause in a line.
-    pub fn print<W: Sink>(self, alloc: Global, sink: &mut W) -> Result<(), DeviceFault> {
-        let line = match self {
-            Stop::Words => "usage: journal_records FILE [count | append COUNT SIZE]\n".to_string(
-                alloc,
-            ),
-            Stop::NotOpened => "the file can't be opened\n".to_string(alloc),
-            Stop::Start(fault) => format!(in alloc; "{fault}\n"),
-            Stop::Append(fault) => format!(in alloc; "{fault}\n"),
-            Stop::Read(fault) => format!(in alloc; "{fault}\n"),
-            Stop::Output(fault) => format!(in alloc; "{fault}\n"),
-            Stop::NoMemory => "out of memory\n".to_string(alloc),
-        };
-        print_all(sink, line?.as_bytes())
+    /// Prints the cause in a line. After an error the sink has taken a proper front of it: with `DeviceFault::Failed` its count of
+    /// faults rose, and with `DeviceFault::NoMemory`, which may come before anything is written, that count stays.
+    pub(crate) fn print<W: Sink>(self, alloc: Global, sink: &mut W) -> Result<(), DeviceFault>
+        ensures all { OnOk result (W.written sink.new ≡ append_known (W.written sink.old) (stop_line self)) }
+        ensures front { OnErr result (TookFront (W.written sink.old) (W.written sink.new) (stop_line self)) }
+        ensures failed { IsErrOf result DeviceFault.Failed → Rose (W.faults sink.old) (W.faults sink.new) }
+        ensures steady { OnOk result (W.faults sink.new ≡ W.faults sink.old) }
+        ensures no_memory { IsErrOf result DeviceFault.NoMemory → W.faults sink.new ≡ W.faults sink.old }
+    {
+        let line = format!(in alloc; "{self}\n")?;
+        print_all(sink, line.as_bytes())
+    }
+}
+
+impl fmt::Display for Stop {
+    ghost use Rattle.std.specs.Prelude.{Some};
+    ghost use Rattle.journal_records.specs.Lines.{stop_text};
+
+    ghost output = { λ stop. Some (stop_text stop) };
+
+    fn fmt<W: fmt::Write>(&self, f: &mut fmt::Formatter<W>) -> fmt::Result {
+        match self {
+            Stop::Words => f.write_str("usage: journal_records FILE [count | append COUNT SIZE]"),
+            Stop::NotOpened => f.write_str("the file can't be opened"),
+            Stop::Start(fault) => write!(f, "{fault}"),
+            Stop::Append(fault) => write!(f, "{fault}"),
+            Stop::Read(fault) => write!(f, "{fault}"),
+            Stop::Output(fault) => write!(f, "{fault}"),
+            Stop::NoMemory => f.write_str("out of memory"),
+        }
     }
 }
 

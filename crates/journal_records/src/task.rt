@@ -10,7 +10,7 @@ const PART: usize = 4096;
 
 /// What is done with a journal.
 #[derive(Clone, Copy, Debug, PartialEq, Eq)]
-pub enum Task {
+pub(crate) enum Task {
     /// Its records are printed.
     Print,
     /// The number of its records is printed.
@@ -21,7 +21,7 @@ pub enum Task {
 
 impl Task {
     /// The task that the words after the file's name say.
-    pub fn of(words: &[String]) -> Option<Task> {
+    pub(crate) fn of(words: &[String]) -> Option<Task> {
         match words {
             [] => Some(Task::Print),
             [word] if word.as_str() == "count" => Some(Task::Count),
@@ -34,7 +34,7 @@ impl Task {
     }
 
     /// Starts the journal of a disk and does the task.
-    pub fn run<W: Sink>(
+    pub(crate) fn run<W: Sink>(
         self,
         alloc: Global,
         disk: &mut FileDisk,
