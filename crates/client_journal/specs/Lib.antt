@@ -1,3 +1,3 @@
-pub mod Stops
+pub mod Faults
 pub mod Openings
 pub mod Recordings

@@ -6,10 +6,9 @@ ghost use Rattle.sse_journal.specs.Files.{Gives, GivesAs};
 ghost use Rattle.sse_journal.specs.Holds.{IsAllOf};
 ghost use Rattle.sse_journal.specs.JournalView.{IsJournalFrom, IsJournalOf, broken_by, end_of, records_of};
 ghost use Rattle.client_journal.specs.Openings.{GivesSome, HasNoRecord, IsBegun, IsNoJournal, IsOfRecords, IsReopened};
-ghost use Rattle.client_journal.specs.Stops.{EndsFor, GoesOn};
+ghost use Rattle.client_journal.specs.Faults.{EndsFor, GoesOn};
 
-use crate::stops::stop_of_start;
-use run_texts::JournalStop;
+use crate::faults::{BeginFault, ReopenFault};
 use sse_journal::Journal;
 use sse_outside::Disk;
 use std::alloc::Global;
@@ -17,7 +16,7 @@ use std::alloc::Global;
 /// Starts the journal of a disk, as `Journal::start`.
 ///
 /// `NoJournal` where the file is no journal, `Disk` where the disk failed, `Memory` from the disk.
-fn started<D: Disk>(alloc: Global, disk: &mut D) -> Result<Journal, JournalStop>
+fn started<D: Disk>(alloc: Global, disk: &mut D) -> Result<Journal, ReopenFault>
     ensures started { IfOk result (λ journal. IfSome (D.content disk.old) (λ bytes. IsJournalFrom bytes journal (D.content disk.new) (D.images disk.new))) }
     ensures whole { IfOk result (λ journal. broken_by journal ≡ None) }
     ensures within { IfOk result (λ journal. IfSome (D.content disk.new) (λ bytes. end_of journal + 1 ≤ length bytes)) }
@@ -26,21 +25,18 @@ fn started<D: Disk>(alloc: Global, disk: &mut D) -> Result<Journal, JournalStop>
         ⊎ ((IsErr result) × LeavesOnly D.moment D.left_since disk.old disk.new (D.images disk.old)) }
 
     // Why it isn't.
-    ensures no_journal { result ≡ Err JournalStop.NoJournal → IfSome (D.content disk.old) (λ bytes. IsNoJournal bytes × IsAllOf bytes (D.content disk.new) (D.images disk.new)) }
-    ensures no_journal_refused { IfSome (D.content disk.old) (λ bytes. IsNoJournal bytes → EndsFor JournalStop.NoJournal result) }
-    ensures accepted { IfSome (D.content disk.old) (λ bytes. (payloads : List (List ℕ)) → Gives payloads bytes → GoesOn result) }
-    ensures never_records { result ≢ Err JournalStop.HasRecords }
-    ensures never_bad { (number : ℕ) → result ≢ Err (JournalStop.BadRecord number) }
-    ensures never_key { result ≢ Err JournalStop.WrongKey }
+    ensures no_journal { result ≡ Err ReopenFault.NoJournal → IfSome (D.content disk.old) (λ bytes. IsNoJournal bytes × IsAllOf bytes (D.content disk.new) (D.images disk.new)) }
+    ensures no_journal_refused { IfSome (D.content disk.old) (λ bytes. IsNoJournal bytes → EndsFor ReopenFault.Disk ReopenFault.Memory ReopenFault.NoJournal result) }
+    ensures accepted { IfSome (D.content disk.old) (λ bytes. (payloads : List (List ℕ)) → Gives payloads bytes → GoesOn ReopenFault.Disk ReopenFault.Memory result) }
 
     // The count of faults.
     ensures later { D.faults disk.old ≤ D.faults disk.new }
-    ensures failed { result ≡ Err JournalStop.Disk → Rose (D.faults disk.old) (D.faults disk.new) }
-    ensures steady { result ≢ Err JournalStop.Disk → D.faults disk.new ≡ D.faults disk.old }
+    ensures failed { result ≡ Err ReopenFault.Disk → Rose (D.faults disk.old) (D.faults disk.new) }
+    ensures steady { result ≢ Err ReopenFault.Disk → D.faults disk.new ≡ D.faults disk.old }
 {
     match Journal::start(alloc, disk) {
         Ok(journal) => Ok(journal),
-        Err(fault) => Err(stop_of_start(fault)),
+        Err(fault) => Err(ReopenFault::from(fault)),
     }
 }
 
@@ -51,7 +47,7 @@ fn started<D: Disk>(alloc: Global, disk: &mut D) -> Result<Journal, JournalStop>
 /// gives the same records. Errors: `HasRecords` exactly where the file gives records; `NoJournal` exactly where it is no journal, which
 /// stays as it was; each unless one of the others comes first: `Disk` where the disk failed, with its count of faults risen, and `Memory`
 /// from the disk.
-pub fn begin<D: Disk>(alloc: Global, disk: &mut D) -> Result<Journal, JournalStop>
+pub fn begin<D: Disk>(alloc: Global, disk: &mut D) -> Result<Journal, BeginFault>
     ensures begun { IfOk result (λ journal. IfSome (D.content disk.old) (λ bytes. IsBegun bytes journal (D.content disk.new) (D.images disk.new))) }
     ensures holds { IfOk result (λ journal. IfSome (D.content disk.new) (λ bytes. IsJournalOf [] journal (D.content disk.new) (D.images disk.new))) }
     ensures no_records { OnOk result (IfSome (D.content disk.old) (λ bytes. records_in_file bytes ≡ [])) }
@@ -64,23 +60,21 @@ pub fn begin<D: Disk>(alloc: Global, disk: &mut D) -> Result<Journal, JournalSto
         ⊎ ((IsErr result) × LeavesOnly D.moment D.left_since disk.old disk.new (D.images disk.old)) }
 
     // Why it doesn't begin.
-    ensures has_records { result ≡ Err JournalStop.HasRecords → IfSome (D.content disk.old) (λ bytes. GivesSome bytes) }
-    ensures has_records_refused { IfSome (D.content disk.old) (λ bytes. GivesSome bytes → EndsFor JournalStop.HasRecords result) }
-    ensures no_journal { result ≡ Err JournalStop.NoJournal → IfSome (D.content disk.old) (λ bytes. IsNoJournal bytes × IsAllOf bytes (D.content disk.new) (D.images disk.new)) }
-    ensures no_journal_refused { IfSome (D.content disk.old) (λ bytes. IsNoJournal bytes → EndsFor JournalStop.NoJournal result) }
-    ensures accepted { IfSome (D.content disk.old) (λ bytes. Gives [] bytes → GoesOn result) }
-    ensures same_refused { OnErr result (result ≢ Err JournalStop.Disk → result ≢ Err JournalStop.Memory → option_map records_in_file (D.content disk.new) ≡ option_map records_in_file (D.content disk.old)) }
-    ensures never_bad { (number : ℕ) → result ≢ Err (JournalStop.BadRecord number) }
-    ensures never_key { result ≢ Err JournalStop.WrongKey }
+    ensures has_records { result ≡ Err BeginFault.HasRecords → IfSome (D.content disk.old) (λ bytes. GivesSome bytes) }
+    ensures has_records_refused { IfSome (D.content disk.old) (λ bytes. GivesSome bytes → EndsFor BeginFault.Disk BeginFault.Memory BeginFault.HasRecords result) }
+    ensures no_journal { result ≡ Err BeginFault.NoJournal → IfSome (D.content disk.old) (λ bytes. IsNoJournal bytes × IsAllOf bytes (D.content disk.new) (D.images disk.new)) }
+    ensures no_journal_refused { IfSome (D.content disk.old) (λ bytes. IsNoJournal bytes → EndsFor BeginFault.Disk BeginFault.Memory BeginFault.NoJournal result) }
+    ensures accepted { IfSome (D.content disk.old) (λ bytes. Gives [] bytes → GoesOn BeginFault.Disk BeginFault.Memory result) }
+    ensures same_refused { OnErr result (result ≢ Err BeginFault.Disk → result ≢ Err BeginFault.Memory → option_map records_in_file (D.content disk.new) ≡ option_map records_in_file (D.content disk.old)) }
 
     // The count of faults.
     ensures later { D.faults disk.old ≤ D.faults disk.new }
-    ensures failed { result ≡ Err JournalStop.Disk → Rose (D.faults disk.old) (D.faults disk.new) }
-    ensures steady { result ≢ Err JournalStop.Disk → D.faults disk.new ≡ D.faults disk.old }
+    ensures failed { result ≡ Err BeginFault.Disk → Rose (D.faults disk.old) (D.faults disk.new) }
+    ensures steady { result ≢ Err BeginFault.Disk → D.faults disk.new ≡ D.faults disk.old }
 {
     let journal = started(alloc, disk)?;
     if journal.records() != 0 {
-        return Err(JournalStop::HasRecords);
+        return Err(BeginFault::HasRecords);
     }
     Ok(journal)
 }
@@ -91,7 +85,7 @@ pub fn begin<D: Disk>(alloc: Global, disk: &mut D) -> Result<Journal, JournalSto
 /// gives the same records. Errors: `NoJournal` exactly where the file is no journal or gives no record, a file of less than nine bytes
 /// among these, unless one of the others comes first: `Disk` where the disk failed, with its count of faults risen, and `Memory` from the
 /// disk.
-pub fn reopen<D: Disk>(alloc: Global, disk: &mut D) -> Result<Journal, JournalStop>
+pub fn reopen<D: Disk>(alloc: Global, disk: &mut D) -> Result<Journal, ReopenFault>
     ensures reopened { IfOk result (λ journal. IfSome (D.content disk.old) (λ bytes. IsReopened bytes journal (D.content disk.new) (D.images disk.new))) }
     ensures holds { IfOk result (λ journal. IfSome (D.content disk.new) (λ bytes. IsOfRecords journal (D.content disk.new) (D.images disk.new))) }
     ensures same_records { OnOk result (option_map records_in_file (D.content disk.new) ≡ option_map records_in_file (D.content disk.old)) }
@@ -103,23 +97,20 @@ pub fn reopen<D: Disk>(alloc: Global, disk: &mut D) -> Result<Journal, JournalSt
         ⊎ ((IsErr result) × LeavesOnly D.moment D.left_since disk.old disk.new (D.images disk.old)) }
 
     // Why it isn't gone on with.
-    ensures no_journal { result ≡ Err JournalStop.NoJournal → IfSome (D.content disk.old) (λ bytes. HasNoRecord bytes) }
-    ensures no_journal_refused { IfSome (D.content disk.old) (λ bytes. HasNoRecord bytes → EndsFor JournalStop.NoJournal result) }
-    ensures accepted { IfSome (D.content disk.old) (λ bytes. GivesSome bytes → GoesOn result) }
-    ensures same_refused { OnErr result (result ≢ Err JournalStop.Disk → result ≢ Err JournalStop.Memory → option_map records_in_file (D.content disk.new) ≡ option_map records_in_file (D.content disk.old)) }
-    ensures no_journal_stays { result ≡ Err JournalStop.NoJournal → IfSome (D.content disk.old) (λ bytes. IsNoJournal bytes → IsAllOf bytes (D.content disk.new) (D.images disk.new)) }
-    ensures never_records { result ≢ Err JournalStop.HasRecords }
-    ensures never_bad { (number : ℕ) → result ≢ Err (JournalStop.BadRecord number) }
-    ensures never_key { result ≢ Err JournalStop.WrongKey }
+    ensures no_journal { result ≡ Err ReopenFault.NoJournal → IfSome (D.content disk.old) (λ bytes. HasNoRecord bytes) }
+    ensures no_journal_refused { IfSome (D.content disk.old) (λ bytes. HasNoRecord bytes → EndsFor ReopenFault.Disk ReopenFault.Memory ReopenFault.NoJournal result) }
+    ensures accepted { IfSome (D.content disk.old) (λ bytes. GivesSome bytes → GoesOn ReopenFault.Disk ReopenFault.Memory result) }
+    ensures same_refused { OnErr result (result ≢ Err ReopenFault.Disk → result ≢ Err ReopenFault.Memory → option_map records_in_file (D.content disk.new) ≡ option_map records_in_file (D.content disk.old)) }
+    ensures no_journal_stays { result ≡ Err ReopenFault.NoJournal → IfSome (D.content disk.old) (λ bytes. IsNoJournal bytes → IsAllOf bytes (D.content disk.new) (D.images disk.new)) }
 
     // The count of faults.
     ensures later { D.faults disk.old ≤ D.faults disk.new }
-    ensures failed { result ≡ Err JournalStop.Disk → Rose (D.faults disk.old) (D.faults disk.new) }
-    ensures steady { result ≢ Err JournalStop.Disk → D.faults disk.new ≡ D.faults disk.old }
+    ensures failed { result ≡ Err ReopenFault.Disk → Rose (D.faults disk.old) (D.faults disk.new) }
+    ensures steady { result ≢ Err ReopenFault.Disk → D.faults disk.new ≡ D.faults disk.old }
 {
     let journal = started(alloc, disk)?;
     if journal.records() == 0 {
-        return Err(JournalStop::NoJournal);
+        return Err(ReopenFault::NoJournal);
     }
     Ok(journal)
 }

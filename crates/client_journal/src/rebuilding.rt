@@ -1,6 +1,6 @@
 ghost use Rattle.std.specs.Prelude.{◌≡◌, ◌≢◌, ◌<◌, ◌≤◌, ℕ, List, [], Err, IfOk, IfSome, length, take};
 ghost use Rattle.client_journal.specs.Recordings.{IsBadUnder, IsRebuiltFrom, TakesAll, TakesNext};
-ghost use Rattle.client_journal.specs.Stops.{EndsFor, GoesOn};
+ghost use Rattle.client_journal.specs.Faults.{EndsFor, GoesOn};
 ghost use Rattle.client_rebuild.specs.Rebuilds.{Rebuilds};
 ghost use Rattle.client_records.specs.Openings.{Opens, OpensElsewhere};
 ghost use Rattle.client_registry.specs.HashNumbers.{hash_numbers};
@@ -13,10 +13,9 @@ ghost use Rattle.sse_outside.specs.Causes.{Rose};
 ghost use Rattle.sse_outside.specs.Images.{NoOther};
 ghost use Rattle.word_keys.specs.HashNumbers.{numbers_of_key};
 
-use crate::stops::{stop_of_read, stop_of_take};
+use crate::faults::RecordsFault;
 use client_rebuild::Rebuild;
 use keyed_fn::Keyed;
-use run_texts::JournalStop;
 use sse_journal::Journal;
 use sse_outside::Disk;
 use std::alloc::Global;
@@ -30,11 +29,10 @@ fn take_next<D: Disk>(
     at: u64,
     buffer: &mut Vec<u8>,
     rebuilt: &mut Rebuild,
-) -> Result<Option<u64>, JournalStop>
+) -> Result<Option<u64>, RecordsFault>
     ensures takes { (payloads : List (List ℕ)) → Rebuilds payloads rebuilt.old →
         TakesNext (λ all. IsJournalOf all journal.now (D.content disk.old) (D.images disk.old)) rebuilt.old.mark payloads at result rebuilt.new }
     ensures on { IfOk result (λ next. IfSome next (λ place. (at < place) × (at < end_of journal.now))) }
-    ensures never_records { result ≢ Err JournalStop.HasRecords }
 
     // The key stays, and the disk.
     ensures key { rebuilt.new.key ≡ rebuilt.old.key }
@@ -46,16 +44,16 @@ fn take_next<D: Disk>(
 
     // The count of faults.
     ensures later { D.faults disk.old ≤ D.faults disk.new }
-    ensures failed { result ≡ Err JournalStop.Disk → Rose (D.faults disk.old) (D.faults disk.new) }
-    ensures steady { result ≢ Err JournalStop.Disk → D.faults disk.new ≡ D.faults disk.old }
+    ensures failed { result ≡ Err RecordsFault.Disk → Rose (D.faults disk.old) (D.faults disk.new) }
+    ensures steady { result ≢ Err RecordsFault.Disk → D.faults disk.new ≡ D.faults disk.old }
 {
     match journal.read(disk, at, buffer) {
         Ok(None) => Ok(None),
         Ok(Some(next)) => match rebuilt.take(alloc, buffer) {
             Ok(()) => Ok(Some(next)),
-            Err(fault) => Err(stop_of_take(fault)),
+            Err(fault) => Err(RecordsFault::from(fault)),
         },
-        Err(fault) => Err(stop_of_read(fault)),
+        Err(fault) => Err(RecordsFault::from(fault)),
     }
 }
 
@@ -65,10 +63,9 @@ fn take_all<D: Disk>(
     journal: &Journal,
     disk: &mut D,
     rebuilt: &mut Rebuild,
-) -> Result<(), JournalStop>
+) -> Result<(), RecordsFault>
     requires none { Rebuilds [] rebuilt.old }
     ensures takes { TakesAll (λ all. IsJournalOf all journal.now (D.content disk.old) (D.images disk.old)) rebuilt.old.mark result rebuilt.new }
-    ensures never_records { result ≢ Err JournalStop.HasRecords }
 
     // The key stays, and the disk.
     ensures key { rebuilt.new.key ≡ rebuilt.old.key }
@@ -80,8 +77,8 @@ fn take_all<D: Disk>(
 
     // The count of faults.
     ensures later { D.faults disk.old ≤ D.faults disk.new }
-    ensures failed { result ≡ Err JournalStop.Disk → Rose (D.faults disk.old) (D.faults disk.new) }
-    ensures steady { result ≢ Err JournalStop.Disk → D.faults disk.new ≡ D.faults disk.old }
+    ensures failed { result ≡ Err RecordsFault.Disk → Rose (D.faults disk.old) (D.faults disk.new) }
+    ensures steady { result ≢ Err RecordsFault.Disk → D.faults disk.new ≡ D.faults disk.old }
 {
     let mut buffer = Vec::new(alloc);
     let mut at = journal.first();
@@ -89,7 +86,7 @@ fn take_all<D: Disk>(
         match take_next(alloc, journal, disk, at, &mut buffer, rebuilt) {
             Ok(Some(next)) => at = next,
             Ok(None) => return Ok(()),
-            Err(stop) => return Err(stop),
+            Err(fault) => return Err(fault),
         }
     }
 }
@@ -107,25 +104,24 @@ pub fn rebuild<K: Keyed, D: Disk>(
     key: MasterKey,
     journal: &Journal,
     disk: &mut D,
-) -> Result<Rebuild, JournalStop>
+) -> Result<Rebuild, RecordsFault>
     ensures rebuilt { IfOk result (λ rebuilt. IsRebuiltFrom (λ payloads. IsJournalOf payloads journal.now (D.content disk.old) (D.images disk.old)) rebuilt) }
     ensures key { IfOk result (λ rebuilt. rebuilt.key ≡ key) }
     ensures mark { IfOk result (λ rebuilt. rebuilt.mark ≡ mark_of (keyed_fn K.prf K.pad) key) }
     ensures hash_keys { IfOk result (λ rebuilt. hash_numbers rebuilt.hash_keys ≡ numbers_of_key (plain_key (keyed_fn K.prf K.pad) key 13)) }
 
     // Why it isn't, over a disk that tells its content.
-    ensures wrong { result ≡ Err JournalStop.WrongKey → (payloads : List (List ℕ)) → IsJournalOf payloads journal.now (D.content disk.old) (D.images disk.old) →
+    ensures wrong { result ≡ Err RecordsFault.WrongKey → (payloads : List (List ℕ)) → IsJournalOf payloads journal.now (D.content disk.old) (D.images disk.old) →
         OpensElsewhere (mark_of (keyed_fn K.prf K.pad) key) (take 1 payloads) }
     ensures wrong_refused { (payloads : List (List ℕ)) → IsJournalOf payloads journal.now (D.content disk.old) (D.images disk.old) →
-        OpensElsewhere (mark_of (keyed_fn K.prf K.pad) key) (take 1 payloads) → EndsFor JournalStop.WrongKey result }
-    ensures bad { (number : ℕ) → result ≡ Err (JournalStop.BadRecord number) → (payloads : List (List ℕ)) → IsJournalOf payloads journal.now (D.content disk.old) (D.images disk.old) →
+        OpensElsewhere (mark_of (keyed_fn K.prf K.pad) key) (take 1 payloads) → EndsFor RecordsFault.Disk RecordsFault.Memory RecordsFault.WrongKey result }
+    ensures bad { (number : ℕ) → result ≡ Err (RecordsFault.BadRecord number) → (payloads : List (List ℕ)) → IsJournalOf payloads journal.now (D.content disk.old) (D.images disk.old) →
         IsBadUnder (mark_of (keyed_fn K.prf K.pad) key) payloads number }
     ensures bad_refused { (payloads : List (List ℕ)) (number : ℕ) → IsJournalOf payloads journal.now (D.content disk.old) (D.images disk.old) →
-        IsBadUnder (mark_of (keyed_fn K.prf K.pad) key) payloads number → EndsFor (JournalStop.BadRecord number) result }
+        IsBadUnder (mark_of (keyed_fn K.prf K.pad) key) payloads number → EndsFor RecordsFault.Disk RecordsFault.Memory (RecordsFault.BadRecord number) result }
     ensures accepted { (payloads : List (List ℕ)) (run : Run) → IsJournalOf payloads journal.now (D.content disk.old) (D.images disk.old) →
-        Opens (mark_of (keyed_fn K.prf K.pad) key) payloads run → GoesOn result }
-    ensures no_journal { (payloads : List (List ℕ)) → IsJournalOf payloads journal.now (D.content disk.old) (D.images disk.old) → result ≢ Err JournalStop.NoJournal }
-    ensures never_records { result ≢ Err JournalStop.HasRecords }
+        Opens (mark_of (keyed_fn K.prf K.pad) key) payloads run → GoesOn RecordsFault.Disk RecordsFault.Memory result }
+    ensures no_journal { (payloads : List (List ℕ)) → IsJournalOf payloads journal.now (D.content disk.old) (D.images disk.old) → result ≢ Err RecordsFault.NoJournal }
 
     // The disk stays.
     ensures holds { (payloads : List (List ℕ)) → IsJournalOf payloads journal.now (D.content disk.old) (D.images disk.old) → IsJournalOf payloads journal.now (D.content disk.new) (D.images disk.new) }
@@ -135,12 +131,12 @@ pub fn rebuild<K: Keyed, D: Disk>(
 
     // The count of faults.
     ensures later { D.faults disk.old ≤ D.faults disk.new }
-    ensures failed { result ≡ Err JournalStop.Disk → Rose (D.faults disk.old) (D.faults disk.new) }
-    ensures steady { result ≢ Err JournalStop.Disk → D.faults disk.new ≡ D.faults disk.old }
+    ensures failed { result ≡ Err RecordsFault.Disk → Rose (D.faults disk.old) (D.faults disk.new) }
+    ensures steady { result ≢ Err RecordsFault.Disk → D.faults disk.new ≡ D.faults disk.old }
 {
     let mut rebuilt = Rebuild::new(keyed, key);
     match take_all(alloc, journal, disk, &mut rebuilt) {
         Ok(()) => Ok(rebuilt),
-        Err(stop) => Err(stop),
+        Err(fault) => Err(fault),
     }
 }

@@ -3,11 +3,13 @@ use Rattle.std.proofs.Common.{◌≡◌, ◌≢◌, ◌≤◌, ℕ, Result, Ok, 
 use Rattle.std.specs.Prelude.{IfErr, OnOk}
 use Rattle.sse_outside.specs.Causes.{Rose}
 use Rattle.sse_outside.specs.declared.device_fault.DeviceFault.TheVariants as devices
+use Rattle.client_journal.specs.Faults.{stop_of_records}
+use Rattle.client_journal.specs.declared.faults.RecordsFault.{RecordsFault}
+use Rattle.client_journal.specs.declared.faults.RecordsFault.TheVariants as records
 use Rattle.run_texts.specs.Causes.{KeepsRecorder, KeepsSink, KeepsSource, LinkCause, RecorderCause, SinkCause, SourceCause}
 use Rattle.run_texts.specs.Stops.{stop_status}
 use Rattle.run_texts.specs.declared.command_stop.CommandStop.TheVariants as commands
 use Rattle.run_texts.specs.declared.input_stop.InputStop.TheVariants as inputs
-use Rattle.run_texts.specs.declared.journal_stop.JournalStop.{JournalStop}
 use Rattle.run_texts.specs.declared.journal_stop.JournalStop.TheVariants as journals
 use Rattle.run_texts.specs.declared.peer_stop.PeerStop.TheVariants as peers
 use Rattle.run_texts.specs.declared.plan_stop.PlanStop.TheVariants as plans
@@ -17,7 +19,7 @@ use Rattle.script_meaning.specs.Stops as ends
 use Rattle.script_meaning.specs.Stops.{status_of}
 use Rattle.sse_client.specs.Devices.{TellsDevices}
 use Rattle.sse_client.specs.Keeping.{StaysWhole, WholeAtStop}
-use Rattle.sse_client.specs.OnDisk.{JournalCause}
+use Rattle.sse_client.specs.OnDisk.{RecordsCause}
 use Rattle.sse_client.specs.Stands.{stop_view}
 use Rattle.sse_client.specs.Turns.{ending}
 use Rattle.sse_client.specs.declared.lines.Refusals.{Refusals}
@@ -142,14 +144,20 @@ devices-on source source' sink sink' link link' disk disk' had_source had_disk h
     subst (λ n. TellsDevices had_source source' sink sink' link link' had_disk n read status) d'
     (subst (λ n. TellsDevices had_source source' sink sink' link link' n disk' read status) d (subst (λ n. TellsDevices n source' sink sink' link link' disk disk' read status) s tells))
 
--- a journal that can't be read on with leaves its disk's count, unless the disk is what failed
-pub journal_same : (before now : ℕ) (stop : JournalStop) → JournalCause before now stop → stop ≢ journals.Disk → now ≡ before
-journal_same before now journals.NoJournal cause other = cause
-journal_same before now journals.HasRecords cause other = cause
-journal_same before now (journals.BadRecord number) cause other = cause
-journal_same before now journals.WrongKey cause other = cause
-journal_same before now journals.Disk cause other = absurd (other refl)
-journal_same before now journals.Memory cause other = cause
+-- records that can't be gone on from leave their disk's count, unless the disk is what failed
+pub records_same : (before now : ℕ) (fault : RecordsFault) → RecordsCause before now fault → stop_of_records fault ≢ journals.Disk → now ≡ before
+records_same before now records.NoJournal cause other = cause
+records_same before now (records.BadRecord number) cause other = cause
+records_same before now records.WrongKey cause other = cause
+records_same before now records.Disk cause other = absurd (other refl)
+records_same before now records.Memory cause other = cause
+
+pub records_rose : (before now : ℕ) (fault : RecordsFault) → RecordsCause before now fault → stop_of_records fault ≡ journals.Disk → Rose before now
+records_rose before now records.NoJournal cause e = absurd (cc)
+records_rose before now (records.BadRecord number) cause e = absurd (cc)
+records_rose before now records.WrongKey cause e = absurd (cc)
+records_rose before now records.Disk cause e = cause
+records_rose before now records.Memory cause e = absurd (cc)
 
 -- the sink's count stayed up to the last line, unless the sink is what failed
 pub sink_kept : (before now shortages shortages_now : ℕ) (ran : Result Refusals StopCause) → KeepsSink before now shortages shortages_now ran → ending ran ≢ ends.SinkFault → now ≡ before

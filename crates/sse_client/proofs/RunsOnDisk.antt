@@ -5,8 +5,15 @@ use Rattle.client_core.specs.Restores.{IsRestored, Remembers}
 use Rattle.client_core.specs.declared.client.Client.{Client}
 use Rattle.client_core.specs.declared.restored.Restored.TheVariants as restored
 use Rattle.client_core.specs.declared.fresh.Fresh.{Fresh}
+use Rattle.client_journal.specs.Faults.{stop_of_begin, stop_of_records, stop_of_reopen}
 use Rattle.client_journal.specs.Openings.{GivesSome, HasNoRecord, IsNoJournal, IsOfRecords}
 use Rattle.client_journal.specs.Recordings.{IsBadUnder, IsRebuiltFrom}
+use Rattle.client_journal.specs.declared.faults.BeginFault.{BeginFault}
+use Rattle.client_journal.specs.declared.faults.BeginFault.TheVariants as begins
+use Rattle.client_journal.specs.declared.faults.RecordsFault.{RecordsFault}
+use Rattle.client_journal.specs.declared.faults.RecordsFault.TheVariants as records
+use Rattle.client_journal.specs.declared.faults.ReopenFault.{ReopenFault}
+use Rattle.client_journal.specs.declared.faults.ReopenFault.TheVariants as reopens
 use Rattle.client_rebuild.specs.declared.last.Last.{Last}
 use Rattle.client_rebuild.specs.declared.rebuild.Rebuild.{Rebuild}
 use Rattle.client_records.specs.Openings.{Opens, OpensElsewhere}
@@ -65,18 +72,17 @@ module _ (f : KeyedFn) (key : List ℕ) (j : Journal) (content : Option (List �
       (is.0, (is.2.kept, over_records (λ payloads. Opens (mark_of f key) payloads is.0) (λ payloads of. subst (λ m. Opens m payloads is.0) mark (subst (λ ps. Opens r.mark ps is.0) (rebuilt.all payloads of) is.1))), is.2)
 
   -- and why there is none
-  pub unrestored : (stop : JournalStop) → ((n : ℕ) → stop ≡ journals.BadRecord n → (payloads : List (List ℕ)) → told payloads → IsBadUnder (mark_of f key) payloads n)
-      → (stop ≡ journals.WrongKey → (payloads : List (List ℕ)) → told payloads → OpensElsewhere (mark_of f key) (take 1 payloads)) → ((payloads : List (List ℕ)) → told payloads → stop ≢ journals.NoJournal) → stop ≢ journals.HasRecords
-      → IsUnrestored f key (kept_on content) (journal_cause stop)
-  unrestored journals.NoJournal bad wrong readable never = over_records (λ payloads. ⊥) (λ payloads of. readable payloads of refl)
-  unrestored journals.HasRecords bad wrong readable never = absurd (never refl)
-  unrestored (journals.BadRecord n) bad wrong readable never = over_records _ (λ payloads of. let is = bad n refl payloads of in ((is.before, is.opened), is.refused))
-  unrestored journals.WrongKey bad wrong readable never = over_records _ (λ payloads of. wrong refl payloads of)
-  unrestored journals.Disk bad wrong readable never = tt
-  unrestored journals.Memory bad wrong readable never = tt
+  pub unrestored : (fault : RecordsFault) → ((n : ℕ) → fault ≡ records.BadRecord n → (payloads : List (List ℕ)) → told payloads → IsBadUnder (mark_of f key) payloads n)
+      → (fault ≡ records.WrongKey → (payloads : List (List ℕ)) → told payloads → OpensElsewhere (mark_of f key) (take 1 payloads)) → ((payloads : List (List ℕ)) → told payloads → fault ≢ records.NoJournal)
+      → IsUnrestored f key (kept_on content) (journal_cause (stop_of_records fault))
+  unrestored records.NoJournal bad wrong readable = over_records (λ payloads. ⊥) (λ payloads of. readable payloads of refl)
+  unrestored (records.BadRecord n) bad wrong readable = over_records _ (λ payloads of. let is = bad n refl payloads of in ((is.before, is.opened), is.refused))
+  unrestored records.WrongKey bad wrong readable = over_records _ (λ payloads of. wrong refl payloads of)
+  unrestored records.Disk bad wrong readable = tt
+  unrestored records.Memory bad wrong readable = tt
 
   -- there is one where there are records
-  pub unrestored-fresh : (r : Rebuild) (client : Client Fresh) (rebuilt : IsRebuiltFrom told r) → IsRestored r.mark rebuilt.payloads (restored.Fresh client) → 0 < records_of j → IsUnrestored f key (kept_on content) (journal_cause journals.NoJournal)
+  pub unrestored-fresh : (r : Rebuild) (client : Client Fresh) (rebuilt : IsRebuiltFrom told r) → IsRestored r.mark rebuilt.payloads (restored.Fresh client) → 0 < records_of j → IsUnrestored f key (kept_on content) (journal_cause (stop_of_records records.NoJournal))
   unrestored-fresh r client rebuilt none some = over_records (λ payloads. ⊥) (λ payloads of. omega (arith, some, of.records_are, ap length (sym (rebuilt.all payloads of) ∙ none)))
 
 -- Before the lines.
@@ -94,12 +100,12 @@ module _ (f : KeyedFn) (left : Option (List (List ℕ))) (now : Outside) where
   goes_on-unread inputs.Memory missing = (None, empty, for_all left (λ texts. GoesOnOver f (lines_in texts) now (ended now None empty (ends.At NoMemory))) (λ texts. inl (inr refl)))
 
   -- or the records stop it behind the key line
-  pub goes_on-unrestored : (key : List ℕ) (next : ℕ) (behind : Option (List (List ℕ))) (stop : JournalStop) → FindsKey 1 left key next behind → IsUnrestored f key now.kept (journal_cause stop) → GoesOnTo f left now now (held_stop (held.Journal stop))
-  goes_on-unrestored key next behind stop finds why = (
+  pub goes_on-unrestored : (key : List ℕ) (next : ℕ) (behind : Option (List (List ℕ))) (fault : RecordsFault) → FindsKey 1 left key next behind → IsUnrestored f key now.kept (journal_cause (stop_of_records fault)) → GoesOnTo f left now now (held_stop (held.Records fault))
+  goes_on-unrestored key next behind fault finds why = (
     Some key,
     empty,
-    IfSome-then left (λ texts. (rest : List (List ℕ)) × (behind ≡ Some rest) × (key_line 1 (lines_in texts) ≡ Keyed key next (lines_in rest))) (λ texts. GoesOnOver f (lines_in texts) now (ended now (Some key) empty (ends.At (journal_cause stop))))
-        (λ texts found. inr (subst (λ k. AtKeyLine f k now (ended now (Some key) empty (ends.At (journal_cause stop)))) (sym found.2) (inl (journal_cause stop, why, refl)))) finds,
+    IfSome-then left (λ texts. (rest : List (List ℕ)) × (behind ≡ Some rest) × (key_line 1 (lines_in texts) ≡ Keyed key next (lines_in rest))) (λ texts. GoesOnOver f (lines_in texts) now (ended now (Some key) empty (ends.At (journal_cause (stop_of_records fault)))))
+        (λ texts found. inr (subst (λ k. AtKeyLine f k now (ended now (Some key) empty (ends.At (journal_cause (stop_of_records fault))))) (sym found.2) (inl (journal_cause (stop_of_records fault), why, refl)))) finds,
   )
 
 -- what a run that goes on comes to, from its key line on
@@ -133,23 +139,42 @@ has_begun f laws (Some bytes) now last status f0 f2 s0 s2 run line = record {
 
 -- A journal that isn't opened.
 
-pub not_begun : (stop : JournalStop) (content : Option (List ℕ)) → (stop ≡ journals.HasRecords → IfSome content GivesSome) → (stop ≡ journals.NoJournal → IfSome content IsNoJournal)
-    → ((n : ℕ) → stop ≢ journals.BadRecord n) → stop ≢ journals.WrongKey → IfSome content (IsNotBegun stop)
-not_begun journals.NoJournal content records journal bad wrong = journal refl
-not_begun journals.HasRecords content records journal bad wrong = records refl
-not_begun (journals.BadRecord n) content records journal bad wrong = absurd (bad n refl)
-not_begun journals.WrongKey content records journal bad wrong = absurd (wrong refl)
-not_begun journals.Disk content records journal bad wrong = for_all content (λ file. Unit {0}) (λ file. tt)
-not_begun journals.Memory content records journal bad wrong = for_all content (λ file. Unit {0}) (λ file. tt)
+pub not_begun : (fault : BeginFault) (content : Option (List ℕ)) → (fault ≡ begins.HasRecords → IfSome content GivesSome) → (fault ≡ begins.NoJournal → IfSome content IsNoJournal) → IfSome content (IsNotBegun (stop_of_begin fault))
+not_begun begins.NoJournal content records journal = journal refl
+not_begun begins.HasRecords content records journal = records refl
+not_begun begins.Disk content records journal = for_all content (λ file. Unit {0}) (λ file. tt)
+not_begun begins.Memory content records journal = for_all content (λ file. Unit {0}) (λ file. tt)
 
-pub not_reopened : (stop : JournalStop) (content : Option (List ℕ)) → (stop ≡ journals.NoJournal → IfSome content HasNoRecord) → stop ≢ journals.HasRecords → ((n : ℕ) → stop ≢ journals.BadRecord n)
-    → stop ≢ journals.WrongKey → IfSome content (IsNotReopened stop)
-not_reopened journals.NoJournal content journal records bad wrong = journal refl
-not_reopened journals.HasRecords content journal records bad wrong = absurd (records refl)
-not_reopened (journals.BadRecord n) content journal records bad wrong = absurd (bad n refl)
-not_reopened journals.WrongKey content journal records bad wrong = absurd (wrong refl)
-not_reopened journals.Disk content journal records bad wrong = for_all content (λ file. Unit {0}) (λ file. tt)
-not_reopened journals.Memory content journal records bad wrong = for_all content (λ file. Unit {0}) (λ file. tt)
+pub not_reopened : (fault : ReopenFault) (content : Option (List ℕ)) → (fault ≡ reopens.NoJournal → IfSome content HasNoRecord) → IfSome content (IsNotReopened (stop_of_reopen fault))
+not_reopened reopens.NoJournal content journal = journal refl
+not_reopened reopens.Disk content journal = for_all content (λ file. Unit {0}) (λ file. tt)
+not_reopened reopens.Memory content journal = for_all content (λ file. Unit {0}) (λ file. tt)
+
+-- the fault of the disk is what a run ends for that ends for its disk, and so is that of memory
+
+pub begin_disk : (fault : BeginFault) → stop_of_begin fault ≡ journals.Disk → fault ≡ begins.Disk
+begin_disk begins.NoJournal e = absurd (cc)
+begin_disk begins.HasRecords e = absurd (cc)
+begin_disk begins.Disk e = refl
+begin_disk begins.Memory e = absurd (cc)
+
+pub reopen_disk : (fault : ReopenFault) → stop_of_reopen fault ≡ journals.Disk → fault ≡ reopens.Disk
+reopen_disk reopens.NoJournal e = absurd (cc)
+reopen_disk reopens.Disk e = refl
+reopen_disk reopens.Memory e = absurd (cc)
+
+-- neither ends for another key
+
+pub begin_key : (fault : BeginFault) → stop_of_begin fault ≢ journals.WrongKey
+begin_key begins.NoJournal e = cc
+begin_key begins.HasRecords e = cc
+begin_key begins.Disk e = cc
+begin_key begins.Memory e = cc
+
+pub reopen_key : (fault : ReopenFault) → stop_of_reopen fault ≢ journals.WrongKey
+reopen_key reopens.NoJournal e = cc
+reopen_key reopens.Disk e = cc
+reopen_key reopens.Memory e = cc
 
 pub unopened : (Why : JournalStop → List ℕ → Type 0) (stop : JournalStop) (told : Told) (content content' written written' : Option (List ℕ)) (status f0 f2 s0 s2 : ℕ) → IfSome content (Why stop)
     → (stop ≢ journals.Disk → stop ≢ journals.Memory → records_on content' ≡ records_on content) → TookOrRose written written' (journal_line stop) f0 f2 s0 s2 → status ≡ journal_status stop

@@ -1,6 +1,9 @@
 -- What a run does that keeps its records in a journal on a disk.
 use Rattle.std.specs.Prelude.{◌≡◌, ◌≢◌, ◌⊎◌, ℕ, List, [], ◌++◌, Option, IfSome, option_map}
+use Rattle.client_journal.specs.Faults.{stop_of_records}
 use Rattle.client_journal.specs.Openings.{GivesSome, HasNoRecord, IsNoJournal}
+use Rattle.client_journal.specs.declared.faults.RecordsFault.{RecordsFault}
+use Rattle.client_journal.specs.declared.faults.RecordsFault.TheVariants as records
 use Rattle.keyed_fn.specs.KeyedFn.{KeyedFn}
 use Rattle.run_texts.specs.Causes.{InputCause}
 use Rattle.run_texts.specs.Stops.{input_cause, journal_cause, journal_status}
@@ -70,20 +73,20 @@ Lasts content images = IfSome content (λ file. (image : List ℕ) → images im
 -- Why a run that goes on doesn't come to its lines.
 
 abbrev pub held_stop : HeldUp → ends.Stop
-held_stop (held.Journal stop) = ends.At (journal_cause stop)
+held_stop (held.Records fault) = ends.At (journal_cause (stop_of_records fault))
 held_stop (held.Input stop) = ends.At (input_cause stop)
 
 -- what the count of a disk's faults shows of it, and what that of the source's
-abbrev pub JournalCause : ℕ → ℕ → JournalStop → Type 0
-JournalCause before now journals.Disk = Rose before now
-JournalCause before now _ = now ≡ before
+abbrev pub RecordsCause : ℕ → ℕ → RecordsFault → Type 0
+RecordsCause before now records.Disk = Rose before now
+RecordsCause before now _ = now ≡ before
 
 abbrev pub HeldCause : ℕ → ℕ → HeldUp → Type 0
-HeldCause before now (held.Journal stop) = JournalCause before now stop
+HeldCause before now (held.Records fault) = RecordsCause before now fault
 HeldCause before now (held.Input stop) = now ≡ before
 
 abbrev pub HeldSource : ℕ → ℕ → HeldUp → Type 0
-HeldSource before now (held.Journal stop) = now ≡ before
+HeldSource before now (held.Records fault) = now ≡ before
 HeldSource before now (held.Input stop) = InputCause before now stop
 
 -- A journal that isn't begun, or not gone on with.

@@ -26,7 +26,7 @@ use crate::going_on::{Restart, gone_on};
 use crate::run::{key_line, whole_run};
 use crate::tools::Tools;
 use client_core::Restored;
-use client_journal::{begin, rebuild, reopen};
+use client_journal::{RecordsFault, begin, rebuild, reopen};
 use keyed_fn::Keyed;
 use run_texts::{
     DiskMode, Input, InputStop, JournalStop, StopCause, disk_mode_of, finish, finish_unopened,
@@ -41,7 +41,7 @@ use std::alloc::{AllocError, Global};
 #[derive(Clone, Copy)]
 pub(crate) enum HeldUp {
     /// The records of its journal make no history under its key, or can't be read.
-    Journal(JournalStop),
+    Records(RecordsFault),
     /// Its key line isn't read.
     Input(InputStop),
 }
@@ -56,13 +56,13 @@ impl From<InputStop> for HeldUp {
     }
 }
 
-impl From<JournalStop> for HeldUp {
-    ghost use Rattle.sse_client.specs.declared.on_disk.HeldUp.TheVariants.{Journal as journal};
+impl From<RecordsFault> for HeldUp {
+    ghost use Rattle.sse_client.specs.declared.on_disk.HeldUp.TheVariants.{Records as records};
 
-    ghost from_gives = { λ stop held. held ≡ journal stop };
+    ghost from_gives = { λ fault held. held ≡ records fault };
 
-    fn from(stop: JournalStop) -> HeldUp {
-        HeldUp::Journal(stop)
+    fn from(fault: RecordsFault) -> HeldUp {
+        HeldUp::Records(fault)
     }
 }
 
@@ -124,7 +124,7 @@ fn restored<'a, K: Keyed, D: Disk, S: Source>(
                 input,
             })
         }
-        Restored::Fresh(_) => Err(HeldUp::Journal(JournalStop::NoJournal)),
+        Restored::Fresh(_) => Err(HeldUp::Records(RecordsFault::NoJournal)),
     }
 }
 
@@ -216,7 +216,7 @@ fn begin_run<K: Keyed, L: Link, D: Disk, S: Source, W: Sink>(
             let status = whole_run(alloc, keyed, link, &mut recorder, source, sink);
             (status, recorder.into_disk())
         }
-        Err(stop) => (finish_unopened(sink, stop), disk),
+        Err(fault) => (finish_unopened(sink, JournalStop::from(fault)), disk),
     }
 }
 
@@ -247,7 +247,7 @@ fn more<K: Keyed, L: Link, D: Disk, S: Source, W: Sink>(
     let mut disk = disk;
     match reopen(alloc, &mut disk) {
         Ok(journal) => go_on_from(alloc, keyed, link, Opened { journal, disk }, source, sink),
-        Err(stop) => (finish_unopened(sink, stop), disk),
+        Err(fault) => (finish_unopened(sink, JournalStop::from(fault)), disk),
     }
 }
 
@@ -279,7 +279,7 @@ fn go_on_from<K: Keyed, L: Link, D: Disk, S: Source, W: Sink>(
             let status = gone_on(restart, link, &mut recorder, source, sink);
             (status, recorder.into_disk())
         }
-        Err(HeldUp::Journal(stop)) => (finish_unopened(sink, stop), disk),
+        Err(HeldUp::Records(fault)) => (finish_unopened(sink, JournalStop::from(fault)), disk),
         Err(HeldUp::Input(stop)) => (finish(sink, StopCause::Input(stop)), disk),
     }
 }

@@ -141,7 +141,7 @@ fn last_line(alloc: Global, stop: JournalStop) -> Result<String, AllocError> {
 fn begun_text(alloc: Global, disk: &mut MemDisk) -> Result<String, AllocError> {
     match begin(alloc, disk) {
         Ok(_) => String::from_str(alloc, "begun\n"),
-        Err(stop) => last_line(alloc, stop),
+        Err(fault) => last_line(alloc, JournalStop::from(fault)),
     }
 }
 

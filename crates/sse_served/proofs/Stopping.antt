@@ -5,13 +5,13 @@ use Rattle.sse_journal.specs.Walks.{IsNoJournalAt}
 use Rattle.sse_server.specs.Records.{HasBadRecord}
 use Rattle.sse_server.specs.declared.open_fault.OpenFault.{OpenFault}
 use Rattle.sse_server.specs.declared.open_fault.OpenFault.TheVariants as opens
-use Rattle.sse_served.specs.declared.stop.Stop.{Stop}
-use Rattle.sse_served.specs.declared.stop.Stop.TheVariants.{NoJournal}
+use Rattle.sse_served.specs.declared.stop.ServiceStop.{ServiceStop}
+use Rattle.sse_served.specs.declared.stop.ServiceStop.TheVariants.{NoJournal}
 use Rattle.sse_served.specs.Services.{IsNoJournal}
 use Rattle.sse_served.specs.Stops.{stop_of_open}
 
 -- a call that stops for a cause, which is that of a fault, stops for no other
-pub cause_is : {A : Type 0} (end : Result A Stop) (stop wanted cause : Stop) → end ≡ Err stop → stop ≡ cause → end ≡ Err wanted → cause ≡ wanted
+pub cause_is : {A : Type 0} (end : Result A ServiceStop) (stop wanted cause : ServiceStop) → end ≡ Err stop → stop ≡ cause → end ≡ Err wanted → cause ≡ wanted
 cause_is end stop wanted cause is same e = cc
 
 -- what is so of a value, where there is one

@@ -5,6 +5,7 @@ use Rattle.sse_served.specs.Counts.{count_of}
 use Rattle.command_words.specs.declared.CommandLine.{CommandLine}
 use Rattle.command_words.specs.declared.CommandLine.TheVariants as lines
 use Rattle.sse_served.specs.declared.asked.Asked.{Asked as AskedBy}
+use Rattle.sse_served.specs.declared.stop.ServiceStop.TheVariants.{Memory}
 use Rattle.sse_served.specs.declared.stop.Stop.{Stop}
 use Rattle.sse_served.specs.declared.stop.Stop.TheVariants as stops
 
@@ -31,7 +32,7 @@ right_words (Some asked) = Ok asked
 abbrev pub asked_by : CommandLine → Result Asked Stop
 asked_by (lines.Words words) = right_words (asked_of (map (λ word. string_bytes word) (drop 1 words.items)))
 asked_by lines.NoText = Err stops.Words
-asked_by lines.NoMemory = Err stops.Memory
+asked_by lines.NoMemory = Err (stops.Service Memory)
 
 -- the code's own value
 abbrev pub asked_view : AskedBy → Asked

@@ -4,41 +4,49 @@ use Rattle.sse_server.specs.declared.open_fault.OpenFault.{OpenFault}
 use Rattle.sse_server.specs.declared.open_fault.OpenFault.TheVariants as opens
 use Rattle.sse_serving.specs.declared.serving.ServeFault.{ServeFault}
 use Rattle.sse_serving.specs.declared.serving.ServeFault.TheVariants as serves
+use Rattle.sse_served.specs.declared.stop.ServiceStop.{ServiceStop}
+use Rattle.sse_served.specs.declared.stop.ServiceStop.TheVariants.{Link, Disk, Memory, NoJournal}
 use Rattle.sse_served.specs.declared.stop.Stop.{Stop}
-use Rattle.sse_served.specs.declared.stop.Stop.TheVariants.{Words, Link, Disk, Memory, NoJournal}
+use Rattle.sse_served.specs.declared.stop.Stop.TheVariants.{Words, Service}
 
 -- the exit status
+abbrev pub status_of_service : ServiceStop → ℕ
+status_of_service Link = 5
+status_of_service Disk = 6
+status_of_service Memory = 7
+status_of_service NoJournal = 10
+
 abbrev pub stop_status : Stop → ℕ
 stop_status Words = 2
-stop_status Link = 5
-stop_status Disk = 6
-stop_status Memory = 7
-stop_status NoJournal = 10
+stop_status (Service stop) = status_of_service stop
 
--- what the last line says of it
-abbrev pub stop_text : Stop → List ℕ
-stop_text Words = codes "words"
-stop_text Link = codes "link"
-stop_text Disk = codes "disk"
-stop_text Memory = codes "memory"
-stop_text NoJournal = codes "no journal"
+-- the last line of this text, with its end
+abbrev pub line_with : List ℕ → List ℕ
+line_with text = codes "stopped: " ++ text ++ 10 ∷ []
 
--- the last line, with its end
+-- the last line, which names the cause
+abbrev pub line_of_service : ServiceStop → List ℕ
+line_of_service Link = line_with (codes "link")
+line_of_service Disk = line_with (codes "disk")
+line_of_service Memory = line_with (codes "memory")
+line_of_service NoJournal = line_with (codes "no journal")
+
 abbrev pub stop_line : Stop → List ℕ
-stop_line stop = codes "stopped: " ++ stop_text stop ++ 10 ∷ []
+stop_line Words = line_with (codes "words")
+stop_line (Service stop) = line_of_service stop
 
 -- what is printed once connections can come
 abbrev pub serving_line : List ℕ
 serving_line = codes "serving" ++ 10 ∷ []
 
 -- why it ends where the store wasn't started
-abbrev pub stop_of_open : OpenFault → Stop
+abbrev pub stop_of_open : OpenFault → ServiceStop
 stop_of_open opens.DiskFault = Disk
 stop_of_open (opens.NotAJournal place) = NoJournal
 stop_of_open (opens.BadRecord number) = NoJournal
 stop_of_open opens.NoMemory = Memory
 
 -- why it ends while it serves
-abbrev pub stop_of_serve : ServeFault → Stop
+abbrev pub stop_of_serve : ServeFault → ServiceStop
 stop_of_serve serves.NoConnection = Link
 stop_of_serve serves.StoreFault = Disk

@@ -8,7 +8,7 @@ ghost use Rattle.sse_served.specs.Stops.{stop_line, stop_status};
 use crate::asked::{Asked, asked_of};
 use crate::places::{listen, open};
 use crate::service::serve_all;
-use crate::stop::Stop;
+use crate::stop::{ServiceStop, Stop};
 use command_words::{CommandLine, behind_name};
 use keyed_fn::Real;
 use sse_outside::{Sink, print_all};
@@ -45,7 +45,8 @@ fn run<W: Sink>(rt: &HostRuntime, given: &CommandLine, sink: &mut W) -> Result<(
     let mut disk = open(rt, asked.path)?;
     let mut conns = listen(rt, asked.address)?;
     say(sink, b"serving\n");
-    serve_all(rt.alloc(), &Real, &mut disk, &mut conns, asked.count)
+    serve_all(rt.alloc(), &Real, &mut disk, &mut conns, asked.count)?;
+    Ok(())
 }
 
 /// Prints a line as far as the sink takes it.
@@ -65,6 +66,6 @@ fn asked_by(given: &CommandLine) -> Result<Asked<'_>, Stop>
             None => Err(Stop::Words),
         },
         CommandLine::NoText => Err(Stop::Words),
-        CommandLine::NoMemory => Err(Stop::Memory),
+        CommandLine::NoMemory => Err(Stop::Service(ServiceStop::Memory)),
     }
 }

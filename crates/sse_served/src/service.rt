@@ -9,7 +9,7 @@ ghost use Rattle.sse_server.specs.Taken.{AreTaken, bodies};
 ghost use Rattle.sse_server.specs.StoreView.{IsStoreFrom, IsWithin};
 ghost use Rattle.sse_served.specs.Services.{HasServed, IsNoJournal};
 
-use crate::stop::Stop;
+use crate::stop::ServiceStop;
 use keyed_fn::Keyed;
 use server_tables::BucketTables;
 use sse_outside::Disk;
@@ -20,23 +20,22 @@ use std::alloc::Global;
 /// Starts a store on the journal of a disk.
 ///
 /// `Disk` where the disk failed; `NoJournal` where the file is no journal of a server; `Memory`.
-fn started<D: Disk>(alloc: Global, disk: &mut D) -> Result<Store<BucketTables>, Stop>
+fn started<D: Disk>(alloc: Global, disk: &mut D) -> Result<Store<BucketTables>, ServiceStop>
     ensures started { IfOk result (λ store. IfSome (D.content disk.old) (λ bytes. IsStoreFrom bytes store (D.content disk.new) (D.images disk.new))) }
     ensures whole { IfOk result (λ store. broken_by store.journal ≡ None) }
     ensures within { IfOk result (λ store. IsWithin store.journal (D.content disk.new)) }
     ensures steady { OnOk result (D.faults disk.new ≡ D.faults disk.old) }
 
     // Why it isn't.
-    ensures disk { result ≡ Err Stop.Disk → Rose (D.faults disk.old) (D.faults disk.new) }
-    ensures no_journal { result ≡ Err Stop.NoJournal → IfSome (D.content disk.old) (λ bytes. IsNoJournal bytes) }
+    ensures disk { result ≡ Err ServiceStop.Disk → Rose (D.faults disk.old) (D.faults disk.new) }
+    ensures no_journal { result ≡ Err ServiceStop.NoJournal → IfSome (D.content disk.old) (λ bytes. IsNoJournal bytes) }
     ensures no_journal_refused { IfSome (D.content disk.old) (λ bytes. IsNoJournal bytes → IsErr result) }
-    ensures journal_taken { IfSome (D.content disk.old) (λ bytes. (frames : List FrameText) → AreTaken at_first frames → Gives (bodies frames) bytes → result ≢ Err Stop.NoJournal) }
-    ensures link { result ≢ Err Stop.Link }
-    ensures words { result ≢ Err Stop.Words }
+    ensures journal_taken { IfSome (D.content disk.old) (λ bytes. (frames : List FrameText) → AreTaken at_first frames → Gives (bodies frames) bytes → result ≢ Err ServiceStop.NoJournal) }
+    ensures link { result ≢ Err ServiceStop.Link }
 {
     match Store::start(alloc, BucketTables::new(alloc), disk) {
         Ok(store) => Ok(store),
-        Err(fault) => Err(Stop::from(fault)),
+        Err(fault) => Err(ServiceStop::from(fault)),
     }
 }
 
@@ -50,23 +49,22 @@ pub(crate) fn serve_all<K: Keyed, D: Disk, C: Conns>(
     disk: &mut D,
     conns: &mut C,
     most: u32,
-) -> Result<(), Stop>
+) -> Result<(), ServiceStop>
     ensures served { OnOk result (HasServed (keyed_fn K.prf K.pad) D.content D.images C.In.remaining C.Out.written disk.old disk.new (C.offered conns.old) (C.offered conns.new) (C.returned conns.old) (C.returned conns.new)) }
     ensures all { OnOk result ((C.given conns.new ≡ C.given conns.old + most) ⊎ (C.ended conns.new ≡ true)) }
     ensures few { C.given conns.new ≤ C.given conns.old + most }
     ensures none_lent { C.lent conns.new ≡ C.lent conns.old }
 
     // Why it ends before.
-    ensures link { result ≡ Err Stop.Link → Rose (C.faults conns.old) (C.faults conns.new) }
-    ensures link_served { result ≡ Err Stop.Link → HasServed (keyed_fn K.prf K.pad) D.content D.images C.In.remaining C.Out.written disk.old disk.new (C.offered conns.old) (C.offered conns.new) (C.returned conns.old) (C.returned conns.new) }
-    ensures disk { result ≡ Err Stop.Disk → Rose (D.faults disk.old) (D.faults disk.new) }
-    ensures no_journal { result ≡ Err Stop.NoJournal → IfSome (D.content disk.old) (λ bytes. IsNoJournal bytes) }
-    ensures no_journal_refused { IfSome (D.content disk.old) (λ bytes. IsNoJournal bytes → (IsErr result) × (result ≢ Err Stop.Link)) }
-    ensures journal_taken { IfSome (D.content disk.old) (λ bytes. (frames : List FrameText) → AreTaken at_first frames → Gives (bodies frames) bytes → result ≢ Err Stop.NoJournal) }
-    ensures words { result ≢ Err Stop.Words }
+    ensures link { result ≡ Err ServiceStop.Link → Rose (C.faults conns.old) (C.faults conns.new) }
+    ensures link_served { result ≡ Err ServiceStop.Link → HasServed (keyed_fn K.prf K.pad) D.content D.images C.In.remaining C.Out.written disk.old disk.new (C.offered conns.old) (C.offered conns.new) (C.returned conns.old) (C.returned conns.new) }
+    ensures disk { result ≡ Err ServiceStop.Disk → Rose (D.faults disk.old) (D.faults disk.new) }
+    ensures no_journal { result ≡ Err ServiceStop.NoJournal → IfSome (D.content disk.old) (λ bytes. IsNoJournal bytes) }
+    ensures no_journal_refused { IfSome (D.content disk.old) (λ bytes. IsNoJournal bytes → (IsErr result) × (result ≢ Err ServiceStop.Link)) }
+    ensures journal_taken { IfSome (D.content disk.old) (λ bytes. (frames : List FrameText) → AreTaken at_first frames → Gives (bodies frames) bytes → result ≢ Err ServiceStop.NoJournal) }
 {
     let Ok(buffers) = Buffers::new(alloc) else {
-        return Err(Stop::Memory);
+        return Err(ServiceStop::Memory);
     };
     let mut incoming = Incoming::new(buffers.frame);
     let mut outgoing = Outgoing::new(buffers.reply, buffers.page);
@@ -81,6 +79,6 @@ pub(crate) fn serve_all<K: Keyed, D: Disk, C: Conns>(
         most,
     ) {
         Ok(()) => Ok(()),
-        Err(fault) => Err(Stop::from(fault)),
+        Err(fault) => Err(ServiceStop::from(fault)),
     }
 }

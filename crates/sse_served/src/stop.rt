@@ -1,14 +1,12 @@
 ghost use Rattle.std.specs.Prelude.{◌≡◌};
-ghost use Rattle.sse_served.specs.Stops.{stop_line, stop_of_open, stop_of_serve, stop_status};
+ghost use Rattle.sse_served.specs.Stops.{line_of_service, status_of_service, stop_line, stop_of_open, stop_of_serve, stop_status};
 
 use sse_server::OpenFault;
 use sse_serving::ServeFault;
 
 /// Why no further connection is served, before there were as many as were asked for.
 #[derive(Clone, Copy)]
-pub(crate) enum Stop {
-    /// The words of the command line aren't right.
-    Words,
+pub(crate) enum ServiceStop {
     /// The address can't be bound, or the listener failed.
     Link,
     /// The file can't be opened, or the disk failed.
@@ -19,6 +17,41 @@ pub(crate) enum Stop {
     NoJournal,
 }
 
+/// Why the program ends before it served as many connections as were asked for.
+#[derive(Clone, Copy)]
+pub(crate) enum Stop {
+    /// The words of the command line aren't right.
+    Words,
+    /// What they ask for ended.
+    Service(ServiceStop),
+}
+
+impl ServiceStop {
+    /// The exit status.
+    fn status(self) -> u8
+        ensures { result ≡ status_of_service self }
+    {
+        match self {
+            ServiceStop::Link => 5,
+            ServiceStop::Disk => 6,
+            ServiceStop::Memory => 7,
+            ServiceStop::NoJournal => 10,
+        }
+    }
+
+    /// The last line that is printed, with its end.
+    fn line(self) -> &'static [u8]
+        ensures { result.now ≡ line_of_service self }
+    {
+        match self {
+            ServiceStop::Link => b"stopped: link\n",
+            ServiceStop::Disk => b"stopped: disk\n",
+            ServiceStop::Memory => b"stopped: memory\n",
+            ServiceStop::NoJournal => b"stopped: no journal\n",
+        }
+    }
+}
+
 impl Stop {
     /// The exit status.
     pub(crate) fn status(self) -> u8
@@ -26,10 +59,7 @@ impl Stop {
     {
         match self {
             Stop::Words => 2,
-            Stop::Link => 5,
-            Stop::Disk => 6,
-            Stop::Memory => 7,
-            Stop::NoJournal => 10,
+            Stop::Service(stop) => stop.status(),
         }
     }
 
@@ -39,34 +69,41 @@ impl Stop {
     {
         match self {
             Stop::Words => b"stopped: words\n",
-            Stop::Link => b"stopped: link\n",
-            Stop::Disk => b"stopped: disk\n",
-            Stop::Memory => b"stopped: memory\n",
-            Stop::NoJournal => b"stopped: no journal\n",
+            Stop::Service(stop) => stop.line(),
         }
     }
 }
 
-impl From<OpenFault> for Stop {
+impl From<ServiceStop> for Stop {
+    ghost use Rattle.sse_served.specs.declared.stop.Stop.TheVariants as stops;
+
+    ghost from_gives = { λ service stop. stop ≡ stops.Service service };
+
+    fn from(stop: ServiceStop) -> Stop {
+        Stop::Service(stop)
+    }
+}
+
+impl From<OpenFault> for ServiceStop {
     ghost from_gives = { λ fault stop. stop ≡ stop_of_open fault };
 
-    fn from(fault: OpenFault) -> Stop {
+    fn from(fault: OpenFault) -> ServiceStop {
         match fault {
-            OpenFault::DiskFault => Stop::Disk,
-            OpenFault::NotAJournal(_) => Stop::NoJournal,
-            OpenFault::BadRecord(_) => Stop::NoJournal,
-            OpenFault::NoMemory => Stop::Memory,
+            OpenFault::DiskFault => ServiceStop::Disk,
+            OpenFault::NotAJournal(_) => ServiceStop::NoJournal,
+            OpenFault::BadRecord(_) => ServiceStop::NoJournal,
+            OpenFault::NoMemory => ServiceStop::Memory,
         }
     }
 }
 
-impl From<ServeFault> for Stop {
+impl From<ServeFault> for ServiceStop {
     ghost from_gives = { λ fault stop. stop ≡ stop_of_serve fault };
 
-    fn from(fault: ServeFault) -> Stop {
+    fn from(fault: ServeFault) -> ServiceStop {
         match fault {
-            ServeFault::NoConnection => Stop::Link,
-            ServeFault::StoreFault => Stop::Disk,
+            ServeFault::NoConnection => ServiceStop::Link,
+            ServeFault::StoreFault => ServiceStop::Disk,
         }
     }
 }

@@ -1,23 +1,17 @@
-use Rattle.std.proofs.Common.{◌≡◌, [], ◌∙◌, sym, subst, rules}
-use Rattle.std.specs.Prelude.{Result}
-use Rattle.sse_journal.specs.declared.journal.Journal.{Journal}
+use Rattle.std.proofs.Common.{[], ◌∙◌, sym}
 use Rattle.sse_journal.proofs.FileRecords.{gives_records}
-use Rattle.client_journal.specs.Stops.{EndsFor, GoesOn}
-use Rattle.client_journal.proofs.Opened.{begun_from, ended_anyway, if_some, no_none_from, no_some_from, records_from, same_records}
-use Rattle.run_texts.specs.declared.journal_stop.JournalStop.{JournalStop}
-use Rattle.run_texts.specs.declared.journal_stop.JournalStop.TheVariants.{HasRecords}
+use Rattle.client_journal.proofs.Opened.{begun_from, if_some, no_none_from, no_some_from, records_from, same_records, unbegun}
 use Rattle.client_journal.proofs.opening.begin.Goals as goal
 
 pub returns-in_err-journal-clause-has_records_refused : goal.returns-in_err-journal-clause-has_records_refused
 returns-in_err-journal-clause-has_records_refused g c =
-    let same : c.from_residual.result ≡ c.started.result = search rules in
-    if_some (g.D.Disk.content c.args.disk.now) c.started.ensures.accepted
-    (λ bytes accepted given. subst (λ (r : Result Journal JournalStop). EndsFor HasRecords r) (sym same) (ended_anyway c.started.result _ HasRecords c.in_err-journal.was (accepted given.payloads given.gives)))
+    if_some (g.D.Disk.content c.args.disk.now) c.started.ensures.accepted (λ bytes accepted given disk memory. absurd (
+    unbegun c.started.result c.in_err-journal.field-0.0 c.from_residual.result c.in_err-journal.was c.from_residual.ensures.1 (accepted given.payloads given.gives) disk memory))
 
 pub returns-in_err-journal-clause-accepted : goal.returns-in_err-journal-clause-accepted
 returns-in_err-journal-clause-accepted g c =
-    let same : c.from_residual.result ≡ c.started.result = search rules in
-    if_some (g.D.Disk.content c.args.disk.now) c.started.ensures.accepted (λ bytes accepted given. subst (λ (r : Result Journal JournalStop). GoesOn r) (sym same) (accepted [] given))
+    if_some (g.D.Disk.content c.args.disk.now) c.started.ensures.accepted (λ bytes accepted given disk memory. absurd (
+    unbegun c.started.result c.in_err-journal.field-0.0 c.from_residual.result c.in_err-journal.was c.from_residual.ensures.1 (accepted [] given) disk memory))
 
 pub returns-then-records-ne0-clause-accepted : goal.returns-then-records-ne0-clause-accepted
 returns-then-records-ne0-clause-accepted g c =

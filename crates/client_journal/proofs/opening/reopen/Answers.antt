@@ -1,15 +1,16 @@
 use Rattle.std.proofs.Common.{◌≡◌, ◌∙◌, inl, inr, sym, subst, rules}
 use Rattle.std.specs.Prelude.{Result}
 use Rattle.sse_journal.specs.declared.journal.Journal.{Journal}
-use Rattle.client_journal.specs.Stops.{GoesOn}
+use Rattle.client_journal.specs.Faults.{GoesOn}
 use Rattle.client_journal.proofs.Opened.{if_some, if_some_both, no_none_from, no_some_from, records_from, same_records}
-use Rattle.run_texts.specs.declared.journal_stop.JournalStop.{JournalStop}
+use Rattle.client_journal.specs.declared.faults.ReopenFault.{ReopenFault}
+use Rattle.client_journal.specs.declared.faults.ReopenFault.TheVariants.{Disk, Memory}
 use Rattle.client_journal.proofs.opening.reopen.Goals as goal
 
 pub returns-in_err-journal-clause-accepted : goal.returns-in_err-journal-clause-accepted
 returns-in_err-journal-clause-accepted g c =
     let same : c.from_residual.result ≡ c.started.result = search rules in
-    if_some (g.D.Disk.content c.args.disk.now) c.started.ensures.accepted (λ bytes accepted given. subst (λ (r : Result Journal JournalStop). GoesOn r) (sym same) (accepted given.payloads given.gives))
+    if_some (g.D.Disk.content c.args.disk.now) c.started.ensures.accepted (λ bytes accepted given. subst (λ (r : Result Journal ReopenFault). GoesOn Disk Memory r) (sym same) (accepted given.payloads given.gives))
 
 pub returns-then-records-eq0-clause-accepted : goal.returns-then-records-eq0-clause-accepted
 returns-then-records-eq0-clause-accepted g c =

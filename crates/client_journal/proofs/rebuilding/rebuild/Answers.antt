@@ -14,12 +14,12 @@ returns-in-Ok-clause-bad_refused g c = λ payloads number is bad.
 
 pub returns-in-Err-clause-wrong_refused : goal.returns-in-Err-clause-wrong_refused
 returns-in-Err-clause-wrong_refused g c = λ payloads is elsewhere.
-    all_wrong_refused {T = Rebuild} _ _ _ c.new-rebuilt.ensures.mark c.take_all.new.rebuilt (Err c.in-Err.stop) c.in-Err.ensures.takes (c.take_all.ensures.mark ∙ c.new-rebuilt.ensures.mark) payloads is elsewhere
+    all_wrong_refused {T = Rebuild} _ _ _ c.new-rebuilt.ensures.mark c.take_all.new.rebuilt (Err c.in-Err.fault) c.in-Err.ensures.takes (c.take_all.ensures.mark ∙ c.new-rebuilt.ensures.mark) payloads is elsewhere
 
 pub returns-in-Err-clause-bad_refused : goal.returns-in-Err-clause-bad_refused
 returns-in-Err-clause-bad_refused g c = λ payloads number is bad.
-    all_bad_refused {T = Rebuild} _ _ _ c.new-rebuilt.ensures.mark c.take_all.new.rebuilt (Err c.in-Err.stop) c.in-Err.ensures.takes (c.take_all.ensures.mark ∙ c.new-rebuilt.ensures.mark) payloads is number bad
+    all_bad_refused {T = Rebuild} _ _ _ c.new-rebuilt.ensures.mark c.take_all.new.rebuilt (Err c.in-Err.fault) c.in-Err.ensures.takes (c.take_all.ensures.mark ∙ c.new-rebuilt.ensures.mark) payloads is number bad
 
 pub returns-in-Err-clause-accepted : goal.returns-in-Err-clause-accepted
 returns-in-Err-clause-accepted g c = λ payloads run is opened.
-    all_accepted {T = Rebuild} _ _ _ c.new-rebuilt.ensures.mark c.take_all.new.rebuilt (Err c.in-Err.stop) c.in-Err.ensures.takes (c.take_all.ensures.mark ∙ c.new-rebuilt.ensures.mark) payloads is run opened
+    all_accepted {T = Rebuild} _ _ _ c.new-rebuilt.ensures.mark c.take_all.new.rebuilt (Err c.in-Err.fault) c.in-Err.ensures.takes (c.take_all.ensures.mark ∙ c.new-rebuilt.ensures.mark) payloads is run opened

@@ -57,7 +57,7 @@ returns-in-Err-clause-takes g c =
     let now = λ (all : List (List ℕ)). IsJournalOf all c.args.journal.now (g.D.Disk.content c.records.disk) (g.D.Disk.images c.records.disk) in
     let here = c.records.invariant.here in
     here_refused told now (λ all is. journal_on all c.args.journal.now (g.D.Disk.content c.args.disk.now) (g.D.Disk.content c.records.disk) (g.D.Disk.images c.args.disk.now) (g.D.Disk.images c.records.disk) is c.records.invariant.kept c.records.invariant.images_kept)
-    c.args.rebuilt.now.mark c.records.rebuilt.mark c.records.invariant.mark c.records.at c.records.rebuilt here c.take_next.new.rebuilt c.records.invariant.mark c.in-Err.stop (c.in-Err.ensures.takes here.payloads here.taken)
+    c.args.rebuilt.now.mark c.records.rebuilt.mark c.records.invariant.mark c.records.at c.records.rebuilt here c.take_next.new.rebuilt c.records.invariant.mark c.in-Err.fault (c.in-Err.ensures.takes here.payloads here.taken)
 
 pub returns-in-Err-clause-quiet : goal.returns-in-Err-clause-quiet
 returns-in-Err-clause-quiet g c =

@@ -2,16 +2,18 @@ use Rattle.std.proofs.Common.{◌≡◌, [], ◌∷◌, inl, inr, refl, ap, sym,
 use Rattle.std.proofs.lemmas.Bool.{true≢false}
 use Rattle.std.specs.Option.{option_map_or}
 use Rattle.std.specs.Prelude.{IfSome}
+use Rattle.client_journal.specs.Faults.{stop_of_begin}
+use Rattle.client_journal.specs.declared.faults.BeginFault.TheVariants as begins
 use Rattle.keyed_fn.specs.KeyedFn.{IsKeyedFn, keyed_fn}
 use Rattle.sse_journal.specs.FileRecords.{records_counted}
 use Rattle.sse_outside.specs.Kept.{Kept}
+use Rattle.sse_outside.specs.Fronts.{TookOrRose}
 use Rattle.sse_recorder.specs.declared.journal_recorder.JournalRecorder.{JournalRecorder}
-use Rattle.run_texts.specs.Stops.{journal_status}
-use Rattle.run_texts.specs.declared.journal_stop.JournalStop.TheVariants as journals
+use Rattle.run_texts.specs.Stops.{journal_line, journal_status}
 use Rattle.sse_client.proofs.Devices.{devices-on, devices-unopened}
 use Rattle.sse_client.proofs.KeptOnDisk.{behind_start, gives_own, kept_at_start, kept_on_disk}
 use Rattle.sse_client.proofs.RecordsLast.{takes_lasts}
-use Rattle.sse_client.proofs.RunsOnDisk.{has_begun, not_begun, unopened}
+use Rattle.sse_client.proofs.RunsOnDisk.{begin_disk, begin_key, has_begun, not_begun, unopened}
 use Rattle.sse_client.proofs.WholeRun.{IfSome-then}
 use Rattle.sse_client.specs.OnDisk.{HasBegun, IsNotBegun, Lasts, kept_on, seen_with}
 use Rattle.sse_client.specs.Stands.{outside_of, seen}
@@ -59,13 +61,19 @@ returns-in-Ok-clause-begun g c =
 
 pub returns-in-Err-clause-begun : goal.returns-in-Err-clause-begun
 returns-in-Err-clause-begun g c =
-    let stop = c.in-Err.stop in
+    let fault = c.in-Err.fault in
     let content = g.D.Disk.content c.args.disk in
+    let written = g.W.Sink.written c.args.sink.now in
+    let written' = g.W.Sink.written c.finish_unopened.new.sink in
+    let f0 = g.W.Sink.faults c.args.sink.now in
+    let f2 = g.W.Sink.faults c.finish_unopened.new.sink in
+    let s0 = g.W.Sink.shortages c.args.sink.now in
+    let s2 = g.W.Sink.shortages c.finish_unopened.new.sink in
     inl (
-      unopened IsNotBegun stop (g.L.Link.transcript c.args.link.now) content (g.D.Disk.content c.begin.new.disk) (g.W.Sink.written c.args.sink.now) (g.W.Sink.written c.finish_unopened.new.sink) c.finish_unopened.result
-          (g.W.Sink.faults c.args.sink.now) (g.W.Sink.faults c.finish_unopened.new.sink) (g.W.Sink.shortages c.args.sink.now) (g.W.Sink.shortages c.finish_unopened.new.sink)
-          (not_begun stop content (λ e. c.in-Err.ensures.has_records (search e)) (λ e. IfSome-then content _ _ (λ file is. is.0) (c.in-Err.ensures.no_journal (search e))) (λ n e. c.in-Err.ensures.never_bad n (search e)) (λ e. c.in-Err.ensures.never_key (search e)))
-          (λ disk memory. c.in-Err.ensures.same_refused (λ e. disk (cc)) (λ e. memory (cc))) c.finish_unopened.ensures.line c.finish_unopened.ensures.status,
+      unopened IsNotBegun (stop_of_begin fault) (g.L.Link.transcript c.args.link.now) content (g.D.Disk.content c.begin.new.disk) written written' c.finish_unopened.result f0 f2 s0 s2
+          (not_begun fault content (λ e. c.in-Err.ensures.has_records (search e)) (λ e. IfSome-then content _ _ (λ file is. is.0) (c.in-Err.ensures.no_journal (search e))))
+          (λ disk memory. c.in-Err.ensures.same_refused (λ e. disk (ap (λ r. stop_of_begin r) (let same : fault ≡ begins.Disk = cc in same))) (λ e. memory (ap (λ r. stop_of_begin r) (let same : fault ≡ begins.Memory = cc in same))))
+          (subst (λ s. TookOrRose written written' (journal_line s) f0 f2 s0 s2) c.from.ensures c.finish_unopened.ensures.line) (c.finish_unopened.ensures.status ∙ ap (λ s. journal_status s) c.from.ensures),
       elim c.in-Err.ensures.any_moment [ inl synced ↦ inl synced | inr refused ↦ inr refused.1 ],
     )
 
@@ -79,7 +87,7 @@ returns-in-Err-clause-lasts g c = λ disk memory other. elim c.finish_unopened.e
   | inl six ↦ absurd (disk six)
   | inr (inl seven) ↦ absurd (memory seven)
   | inr (inr (inl ten)) ↦ absurd (other ten)
-  | inr (inr (inr eleven)) ↦ absurd (let e = c.finish_unopened.ensures.key eleven in c.in-Err.ensures.never_key (search e))
+  | inr (inr (inr eleven)) ↦ absurd (begin_key c.in-Err.fault (sym c.from.ensures ∙ c.finish_unopened.ensures.key eleven))
 ]
 
 pub returns-in-Ok-clause-devices : goal.returns-in-Ok-clause-devices
@@ -91,8 +99,8 @@ returns-in-Ok-clause-devices g c =
 
 pub returns-in-Err-clause-devices : goal.returns-in-Err-clause-devices
 returns-in-Err-clause-devices g c =
-    let stop = c.in-Err.stop in
+    let fault = c.in-Err.fault in
     devices-unopened (g.S.Source.faults c.args.source.now) (g.S.Source.faults c.args.source.now) (g.W.Sink.faults c.args.sink.now) (g.W.Sink.faults c.args.sink.now) (g.W.Sink.faults c.finish_unopened.new.sink) 0 0 (g.L.Link.faults c.args.link.now) (g.L.Link.faults c.args.link.now)
     (g.D.Disk.faults c.args.disk) (g.D.Disk.faults c.begin.new.disk) c.finish_unopened.result _ c.finish_unopened.ensures.known refl refl
-    (λ six. let e = c.finish_unopened.ensures.disk six in c.in-Err.ensures.failed (search e))
-    (λ other. c.in-Err.ensures.steady (λ e. other (c.finish_unopened.ensures.status ∙ ap (λ s. journal_status s) (let same : stop ≡ journals.Disk = cc in same))))
+    (λ six. let e = begin_disk fault (sym c.from.ensures ∙ c.finish_unopened.ensures.disk six) in c.in-Err.ensures.failed (search e))
+    (λ other. c.in-Err.ensures.steady (λ e. other (c.finish_unopened.ensures.status ∙ ap (λ s. journal_status s) (c.from.ensures ∙ ap (λ r. stop_of_begin r) (let same : fault ≡ begins.Disk = cc in same)))))

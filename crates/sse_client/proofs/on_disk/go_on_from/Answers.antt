@@ -1,6 +1,7 @@
 use Rattle.std.proofs.Common.{◌≡◌, ◌+◌, [], ◌∷◌, refl, ap, sym, subst, ◌∙◌, arith}
 use Rattle.std.specs.Option.{option_map_or}
 use Rattle.std.specs.Prelude.{IfSome}
+use Rattle.client_journal.specs.Faults.{stop_of_records}
 use Rattle.keyed_fn.specs.KeyedFn.{IsKeyedFn, keyed_fn}
 use Rattle.run_texts.specs.Stops.{input_cause, journal_cause, journal_line, journal_status, last_line, stop_status}
 use Rattle.run_texts.specs.declared.stop_cause.StopCause.TheVariants.{Input as input}
@@ -11,12 +12,12 @@ use Rattle.sse_script.specs.TextLines.{lines_left}
 use Rattle.sse_journal.specs.FileRecords.{records_counted}
 use Rattle.sse_outside.specs.Kept.{Kept}
 use Rattle.sse_recorder.specs.declared.journal_recorder.JournalRecorder.{JournalRecorder}
-use Rattle.sse_client.proofs.Devices.{devices-on, devices-stopped, devices-unopened, journal_same}
+use Rattle.sse_client.proofs.Devices.{devices-on, devices-stopped, devices-unopened, records_rose, records_same}
 use Rattle.sse_client.proofs.KeptOnDisk.{behind_reading, kept_at_start, kept_on_disk, kept_still}
 use Rattle.sse_client.proofs.LastLine.{ends_line}
 use Rattle.sse_client.proofs.RunsOnDisk.{has_gone_on, has_gone_on-held}
 use Rattle.sse_client.specs.GoingOn.{GoesOnTo, HasEndedAfter, Restores}
-use Rattle.sse_client.specs.OnDisk.{HasGoneOn, HeldCause, HeldSource, JournalCause, Lasts, held_stop, kept_on, seen_with}
+use Rattle.sse_client.specs.OnDisk.{HasGoneOn, HeldCause, HeldSource, Lasts, RecordsCause, held_stop, kept_on, seen_with}
 use Rattle.sse_client.proofs.RecordsLast.{takes_lasts}
 use Rattle.sse_client.specs.Stands.{outside_of, seen}
 use Rattle.sse_client.proofs.on_disk.go_on_from.Goals as goal
@@ -63,8 +64,8 @@ returns-in-Ok-clause-gone_on g c =
     c.new-recorder.ensures.disk c.into_disk.ensures first (λ image is. g.met.D.Disk.counts_now c.gone_on-status.new.recorder.disk (g.D.Disk.moment c.gone_on-status.new.recorder.disk) image (omega arith) is)
     c.gone_on-status.ensures.keeps_on has)
 
-pub returns-in-Err-Journal-clause-gone_on : goal.returns-in-Err-Journal-clause-gone_on
-returns-in-Err-Journal-clause-gone_on g c =
+pub returns-in-Err-Records-clause-gone_on : goal.returns-in-Err-Records-clause-gone_on
+returns-in-Err-Records-clause-gone_on g c =
     let f = keyed_fn g.K.Keyed.prf g.K.Keyed.pad in
     let laws : IsKeyedFn f = record {
       prf_length = g.met.K.Keyed.prf_length;
@@ -78,13 +79,15 @@ returns-in-Err-Journal-clause-gone_on g c =
     let old = g.D.Disk.content c.args.opened.disk in
     let written = g.W.Sink.written c.args.sink.now in
     let now = seen_with told old written in
-    let stop = ends.At (journal_cause c.in-Err-Journal.stop) in
+    let fault = c.in-Err-Records.fault in
+    let stop = ends.At (journal_cause (stop_of_records fault)) in
+    let cause = c.from.ensures ∙ ap (λ r. stop_of_records r) c.in-Err-Records.fault-is in
     let status = c.finish_unopened.result in
-    let is : status ≡ status_of stop = c.finish_unopened.ensures.status ∙ ap (λ s. journal_status s) c.in-Err-Journal.stop-is in
+    let is : status ≡ status_of stop = c.finish_unopened.ensures.status ∙ ap (λ s. journal_status s) cause in
     let line = subst (λ s. TookOrRose written (g.W.Sink.written c.finish_unopened.new.sink) (journal_line s) (g.W.Sink.faults c.args.sink.now) (g.W.Sink.faults c.finish_unopened.new.sink) (g.W.Sink.shortages c.args.sink.now) (g.W.Sink.shortages c.finish_unopened.new.sink))
-    c.in-Err-Journal.stop-is c.finish_unopened.ensures.line in
-    let goes = subst (λ s. GoesOnTo f (lines_left [] remaining) now now (held_stop s)) c.in-Err-Journal.field-0-is (c.in-Err-Journal.ensures.stopped told written) in
-    kept_still g.D.Disk.content g.D.Disk.images g.D.Disk.moment g.D.Disk.left_since c.args.opened.disk c.restored.new.disk _ c.args.opened.journal c.requires.holds c.in-Err-Journal.ensures.holds c.in-Err-Journal.ensures.kept c.in-Err-Journal.ensures.quiet
+    cause c.finish_unopened.ensures.line in
+    let goes = subst (λ s. GoesOnTo f (lines_left [] remaining) now now (held_stop s)) c.in-Err-Records.field-0-is (c.in-Err-Records.ensures.stopped told written) in
+    kept_still g.D.Disk.content g.D.Disk.images g.D.Disk.moment g.D.Disk.left_since c.args.opened.disk c.restored.new.disk _ c.args.opened.journal c.requires.holds c.in-Err-Records.ensures.holds c.in-Err-Records.ensures.kept c.in-Err-Records.ensures.quiet
     (has_gone_on-held f laws remaining now (outside_of (seen told (kept_on old)) (g.W.Sink.written c.finish_unopened.new.sink)) stop status (g.W.Sink.faults c.args.sink.now) (g.W.Sink.faults c.finish_unopened.new.sink)
     (g.W.Sink.shortages c.args.sink.now) (g.W.Sink.shortages c.finish_unopened.new.sink) goes refl refl
     (ends_line stop written (g.W.Sink.written c.finish_unopened.new.sink) status (g.W.Sink.faults c.args.sink.now) (g.W.Sink.faults c.args.sink.now) (g.W.Sink.faults c.finish_unopened.new.sink)
@@ -122,9 +125,9 @@ returns-in-Ok-clause-lasts g c = λ disk memory.
     let recorder = c.gone_on-status.new.recorder in
     subst (λ d. Lasts (g.D.Disk.content d) (g.D.Disk.images d)) (sym c.into_disk.ensures) (takes_lasts recorder.journal (g.D.Disk.content recorder.disk) (g.D.Disk.images recorder.disk) (c.gone_on-status.ensures.lasts disk memory).0)
 
-pub returns-in-Err-Journal-clause-lasts : goal.returns-in-Err-Journal-clause-lasts
-returns-in-Err-Journal-clause-lasts g c = λ disk memory.
-    takes_lasts c.args.opened.journal (g.D.Disk.content c.restored.new.disk) (g.D.Disk.images c.restored.new.disk) (record { unbroken = c.requires.unbroken; holds = c.in-Err-Journal.ensures.holds })
+pub returns-in-Err-Records-clause-lasts : goal.returns-in-Err-Records-clause-lasts
+returns-in-Err-Records-clause-lasts g c = λ disk memory.
+    takes_lasts c.args.opened.journal (g.D.Disk.content c.restored.new.disk) (g.D.Disk.images c.restored.new.disk) (record { unbroken = c.requires.unbroken; holds = c.in-Err-Records.ensures.holds })
 
 pub returns-clause-lasts : goal.returns-clause-lasts
 returns-clause-lasts g c = λ disk memory.
@@ -150,18 +153,18 @@ returns-in-Ok-clause-devices g c =
     (g.D.Disk.faults c.new-recorder.result.disk) (g.D.Disk.faults ran.new.recorder.disk) (g.S.Source.faults c.args.source.now) (g.D.Disk.faults c.args.opened.disk) (g.D.Disk.faults c.into_disk.result) ran.result _
     c.in-Ok.ensures.source.steady (ap g.D.Disk.faults c.new-recorder.ensures.disk ∙ c.in-Ok.ensures.disk.steady) (ap g.D.Disk.faults (sym c.into_disk.ensures)) ran.ensures.devices
 
-pub returns-in-Err-Journal-clause-devices : goal.returns-in-Err-Journal-clause-devices
-returns-in-Err-Journal-clause-devices g c =
-    let stop = c.in-Err-Journal.stop in
+pub returns-in-Err-Records-clause-devices : goal.returns-in-Err-Records-clause-devices
+returns-in-Err-Records-clause-devices g c =
+    let fault = c.in-Err-Records.fault in
     let before = g.D.Disk.faults c.args.opened.disk in
     let now = g.D.Disk.faults c.restored.new.disk in
-    let same = subst (HeldSource (g.S.Source.faults c.args.source.now) (g.S.Source.faults c.restored.new.source)) c.in-Err-Journal.field-0-is c.in-Err-Journal.ensures.source.cause in
-    let cause : JournalCause before now stop = subst (HeldCause before now) c.in-Err-Journal.field-0-is c.in-Err-Journal.ensures.disk.cause in
-    let is : c.finish_unopened.result ≡ journal_status stop = c.finish_unopened.ensures.status ∙ ap (λ s. journal_status s) c.in-Err-Journal.stop-is in
+    let same = subst (HeldSource (g.S.Source.faults c.args.source.now) (g.S.Source.faults c.restored.new.source)) c.in-Err-Records.field-0-is c.in-Err-Records.ensures.source.cause in
+    let cause : RecordsCause before now fault = subst (HeldCause before now) c.in-Err-Records.field-0-is c.in-Err-Records.ensures.disk.cause in
+    let stop = c.from.ensures ∙ ap (λ r. stop_of_records r) c.in-Err-Records.fault-is in
     devices-unopened (g.S.Source.faults c.args.source.now) (g.S.Source.faults c.restored.new.source) (g.W.Sink.faults c.args.sink.now) (g.W.Sink.faults c.args.sink.now) (g.W.Sink.faults c.finish_unopened.new.sink) 0 0 (g.L.Link.faults c.args.link.now) (g.L.Link.faults c.args.link.now)
     before now c.finish_unopened.result _ c.finish_unopened.ensures.known same refl
-    (λ six. subst (JournalCause before now) (sym c.in-Err-Journal.stop-is ∙ c.finish_unopened.ensures.disk six) cause)
-    (λ other. journal_same before now stop cause (λ e. other (is ∙ ap (λ s. journal_status s) e)))
+    (λ six. records_rose before now fault cause (sym stop ∙ c.finish_unopened.ensures.disk six))
+    (λ other. records_same before now fault cause (λ e. other (c.finish_unopened.ensures.status ∙ ap (λ s. journal_status s) (stop ∙ e))))
 
 pub returns-clause-devices : goal.returns-clause-devices
 returns-clause-devices g c =

@@ -1,5 +1,5 @@
 use Rattle.std.proofs.Common.{Err, refl, ap}
-use Rattle.sse_served.specs.declared.stop.Stop.TheVariants.{NoJournal}
+use Rattle.sse_served.specs.declared.stop.ServiceStop.TheVariants.{NoJournal}
 use Rattle.sse_served.specs.Stops.{stop_of_open}
 use Rattle.sse_served.proofs.Stopping.{cause_is, if_some, if_some_both, of_either, no_journal_of, never_no_journal}
 use Rattle.sse_served.proofs.service.started.Goals as goal
