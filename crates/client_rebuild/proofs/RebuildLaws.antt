@@ -289,14 +289,9 @@ set_up_with mark payloads payload None e = absurd (more_than_none payloads paylo
 set_up_with mark payloads payload (Some run) opened = (run, opened)
 
 -- bytes that are no record
-pub no_record_taken : {A : Type 0} (keys : ℕ × ℕ) (mark : List ℕ) (payloads : List (List ℕ)) (payload : List ℕ) (last : Option Last) → IsTaken keys mark payloads last
-    → (r : Result A RebuildFault) (fault : RebuildFault) → r ≡ Err fault → ((n : ℕ) → fault ≡ BadRecord n → (n ≡ records_in last) × IsNoRecord payload) → fault ≢ WrongKey → Takes keys mark payloads payload last r
-no_record_taken {A = A} keys mark payloads payload last was r fault err bad wrong = subst (λ (q : Result A RebuildFault). Takes keys mark payloads payload last q) (sym err) (by fault bad wrong)
-  where
-    by : (f : RebuildFault) → ((n : ℕ) → f ≡ BadRecord n → (n ≡ records_in last) × IsNoRecord payload) → f ≢ WrongKey → Takes {A = A} keys mark payloads payload last (Err f)
-    by (BadRecord n) bad wrong = ((bad n refl).0 ∙ was.records, nowhere-no_record payloads payload (bad n refl).1, was)
-    by WrongKey bad wrong = absurd (wrong refl)
-    by NoMemory bad wrong = was
+pub no_record_taken : (A : Type 0) (keys : ℕ × ℕ) (mark : List ℕ) (payloads : List (List ℕ)) (payload : List ℕ) (last : Option Last) → IsTaken keys mark payloads last
+    → (n : ℕ) → n ≡ records_in last → IsNoRecord payload → Takes {A = A} keys mark payloads payload last (Err (BadRecord n))
+no_record_taken A keys mark payloads payload last was n counted none = (counted ∙ was.records, nowhere-no_record payloads payload none, was)
 
 module _ {A : Type 0} (keys : ℕ × ℕ) (mark : List ℕ) (payloads : List (List ℕ)) (payload : List ℕ) (next : Option Last) (r : Result A RebuildFault) (takes : Takes keys mark payloads payload next r) where
   module _ (P : List (List ℕ) → Type 0) (to : (ps : List (List ℕ)) → IsTaken keys mark ps next → P ps) where

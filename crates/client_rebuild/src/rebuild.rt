@@ -58,20 +58,6 @@ impl Rebuild {
         }
     }
 
-    /// The record that all of the bytes are.
-    fn read(&self, alloc: Global, payload: &[u8]) -> Result<Record, RebuildFault>
-        ensures found { IfOk result (λ r. IsRecordOf payload.now (record_text r)) }
-        ensures keys { IfOk result (λ r. HasKeys (hash_numbers self.now.hash_keys) r) }
-        ensures bad { (n : ℕ) → result ≡ Err (RebuildFault.BadRecord n) → (n ≡ records_in self.now.last) × IsNoRecord payload.now }
-        ensures never { result ≢ Err RebuildFault.WrongKey }
-    {
-        match read_record(alloc, self.hash_keys, payload) {
-            Ok(next) => Ok(next),
-            Err(ReadFault::BadRecord) => Err(RebuildFault::BadRecord(self.records())),
-            Err(ReadFault::NoMemory) => Err(RebuildFault::NoMemory),
-        }
-    }
-
     /// Takes what a record says.
     fn take_said(&mut self, next: Record) -> Result<(), RebuildFault>
         ensures taken { (payloads : List (List ℕ)) (payload : List ℕ) → Rebuilds payloads self.old → IsRecordOf payload (record_text next) → HasKeys (hash_numbers self.old.hash_keys) next → Takes (hash_numbers self.old.hash_keys) self.old.mark payloads payload self.new.last result }
@@ -99,8 +85,11 @@ impl Rebuild {
         ensures mark { self.new.mark ≡ self.old.mark }
         ensures hash_keys { self.new.hash_keys ≡ self.old.hash_keys }
     {
-        let next = self.read(alloc, payload)?;
-        self.take_said(next)
+        match read_record(alloc, self.hash_keys, payload) {
+            Ok(next) => self.take_said(next),
+            Err(ReadFault::BadRecord) => Err(RebuildFault::BadRecord(self.records())),
+            Err(ReadFault::NoMemory) => Err(RebuildFault::NoMemory),
+        }
     }
 
     /// Takes the next record, all of these bytes.

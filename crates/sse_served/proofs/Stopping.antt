@@ -1,18 +1,22 @@
 -- What a fault of a start makes the program stop for, and what it says of the file.
-use Rattle.std.proofs.Common.{◌≡◌, ◌≢◌, ℕ, List, inl, inr, refl, Option, Some, None, Result, Err}
+use Rattle.std.proofs.Common.{◌≡◌, ◌≢◌, ℕ, List, inl, inr, refl, Option, Some, None, Result, Ok, Err}
 use Rattle.std.specs.Prelude.{IfSome}
+use Rattle.std.specs.Result.{IsErrAnd}
 use Rattle.sse_journal.specs.Walks.{IsNoJournalAt}
 use Rattle.sse_server.specs.Records.{HasBadRecord}
 use Rattle.sse_server.specs.declared.open_fault.OpenFault.{OpenFault}
 use Rattle.sse_server.specs.declared.open_fault.OpenFault.TheVariants as opens
+use Rattle.sse_serving.specs.declared.serving.ServeFault.{ServeFault}
+use Rattle.sse_serving.specs.declared.serving.ServeFault.TheVariants as serves
 use Rattle.sse_served.specs.declared.stop.ServiceStop.{ServiceStop}
 use Rattle.sse_served.specs.declared.stop.ServiceStop.TheVariants.{NoJournal}
 use Rattle.sse_served.specs.Services.{IsNoJournal}
-use Rattle.sse_served.specs.Stops.{stop_of_open}
+use Rattle.sse_served.specs.Stops.{stop_of_open, stop_of_serve}
 
--- a call that stops for a cause, which is that of a fault, stops for no other
-pub cause_is : {A : Type 0} (end : Result A ServiceStop) (stop wanted cause : ServiceStop) → end ≡ Err stop → stop ≡ cause → end ≡ Err wanted → cause ≡ wanted
-cause_is end stop wanted cause is same e = cc
+-- a call that stops for a cause stops for no other
+pub cause_is : {A : Type 0} (end : Result A ServiceStop) (cause wanted : ServiceStop) → IsErrAnd end (λ stop. stop ≡ cause) → end ≡ Err wanted → cause ≡ wanted
+cause_is (Ok done) cause wanted is e = absurd is
+cause_is (Err stop) cause wanted is e = cc
 
 -- what is so of a value, where there is one
 
@@ -45,3 +49,8 @@ never_no_journal opens.DiskFault p q e = cc
 never_no_journal (opens.NotAJournal place) p q e = p place refl
 never_no_journal (opens.BadRecord number) p q e = q number refl
 never_no_journal opens.NoMemory p q e = cc
+
+-- nor does a service that was begun
+pub never_served : (fault : ServeFault) → stop_of_serve fault ≢ NoJournal
+never_served serves.NoConnection e = cc
+never_served serves.StoreFault e = cc

@@ -17,28 +17,6 @@ use sse_server::{Buffers, Store};
 use sse_serving::{Conns, Incoming, Outgoing, serve};
 use std::alloc::Global;
 
-/// Starts a store on the journal of a disk.
-///
-/// `Disk` where the disk failed; `NoJournal` where the file is no journal of a server; `Memory`.
-fn started<D: Disk>(alloc: Global, disk: &mut D) -> Result<Store<BucketTables>, ServiceStop>
-    ensures started { IfOk result (λ store. IfSome (D.content disk.old) (λ bytes. IsStoreFrom bytes store (D.content disk.new) (D.images disk.new))) }
-    ensures whole { IfOk result (λ store. broken_by store.journal ≡ None) }
-    ensures within { IfOk result (λ store. IsWithin store.journal (D.content disk.new)) }
-    ensures steady { OnOk result (D.faults disk.new ≡ D.faults disk.old) }
-
-    // Why it isn't.
-    ensures disk { result ≡ Err ServiceStop.Disk → Rose (D.faults disk.old) (D.faults disk.new) }
-    ensures no_journal { result ≡ Err ServiceStop.NoJournal → IfSome (D.content disk.old) (λ bytes. IsNoJournal bytes) }
-    ensures no_journal_refused { IfSome (D.content disk.old) (λ bytes. IsNoJournal bytes → IsErr result) }
-    ensures journal_taken { IfSome (D.content disk.old) (λ bytes. (frames : List FrameText) → AreTaken at_first frames → Gives (bodies frames) bytes → result ≢ Err ServiceStop.NoJournal) }
-    ensures link { result ≢ Err ServiceStop.Link }
-{
-    match Store::start(alloc, BucketTables::new(alloc), disk) {
-        Ok(store) => Ok(store),
-        Err(fault) => Err(ServiceStop::from(fault)),
-    }
-}
-
 /// Starts a store on the journal of a disk, and serves connections from it, as many as `most` says or there are.
 ///
 /// `Disk` where the disk failed, at the start or at a record; `NoJournal` where the file is no journal of a server; `Link` where
@@ -68,7 +46,7 @@ pub(crate) fn serve_all<K: Keyed, D: Disk, C: Conns>(
     };
     let mut incoming = Incoming::new(buffers.frame);
     let mut outgoing = Outgoing::new(buffers.reply, buffers.page);
-    let mut store = started(alloc, disk)?;
+    let mut store = Store::start(alloc, BucketTables::new(alloc), disk)?;
     match serve(
         keyed,
         &mut store,

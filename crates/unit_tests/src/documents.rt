@@ -35,11 +35,16 @@ fn words_are_refused_at_the_first_bad_byte(rt: HostRuntime) -> Result<(), Fail> 
     Ok(())
 }
 
+/// One word more.
+fn put(words: &mut Vec<Word>, text: &[u8]) -> Option<()> {
+    words.push(Word::read(text).ok()?).ok()
+}
+
 /// These texts as words, in their order.
 fn words(alloc: Global, texts: &[&[u8]]) -> Option<Vec<Word>> {
     let mut words = Vec::new(alloc);
     for text in texts {
-        words.push(Word::read(text).ok()?).ok()?;
+        put(&mut words, text)?;
     }
     Some(words)
 }
@@ -50,7 +55,7 @@ fn different_words(alloc: Global, count: u32) -> Option<Vec<Word>> {
     for i in 0..count {
         let letters = [i % 26, i / 26 % 26, i / 676 % 26];
         let text = letters.map(|letter| b'a' + (letter % 26) as u8);
-        words.push(Word::read(&text).ok()?).ok()?;
+        put(&mut words, &text)?;
     }
     Some(words)
 }
@@ -85,17 +90,23 @@ fn documents_have_few_and_different_words(rt: HostRuntime) {
     assert_eq!(rt; made(alloc, different_words(alloc, 4096)), Some(Ok(4096)));
 }
 
+/// A word by its number, and the length of its list.
+fn numbered(docs: &Docs, number: usize) -> Option<(&[u8], u32)> {
+    if number < docs.words() {
+        Some((docs.word(number).bytes(), docs.list_len(number)))
+    } else {
+        None
+    }
+}
+
 /// Three words in two documents, with the length of each list.
 #[test]
 fn words_are_numbered_by_first_appearance(rt: HostRuntime) -> Result<(), Fail> {
     let docs = two_documents(rt.alloc()).ok_or("no documents")?;
-    let rows: [(&[u8], u32); 3] = [(b"b", 1), (b"a", 2), (b"c", 1)];
-    assert_eq!(rt; docs.words(), rows.len());
-    for (number, (text, count)) in rows.into_iter().enumerate() {
-        assert!(rt; number < docs.words());
-        assert_eq!(rt; docs.word(number).bytes(), text);
-        assert_eq!(rt; docs.list_len(number), count);
-    }
+    assert_eq!(rt; docs.words(), 3);
+    assert_eq!(rt; numbered(&docs, 0), Some((b"b".as_slice(), 1)));
+    assert_eq!(rt; numbered(&docs, 1), Some((b"a".as_slice(), 2)));
+    assert_eq!(rt; numbered(&docs, 2), Some((b"c".as_slice(), 1)));
     assert_eq!(rt; docs.len(), 2);
     assert_eq!(rt; docs.get(0).numbers, [0, 1].as_slice());
     assert_eq!(rt; docs.get(1).numbers, [1, 2].as_slice());

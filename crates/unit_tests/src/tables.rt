@@ -8,7 +8,10 @@ const B: [u8; 16] = [2; 16];
 
 /// Whether something was found, and is these bytes.
 fn is_piece(found: Option<&[u8]>, wanted: &[u8]) -> bool {
-    found.is_some_and(|piece| piece == wanted)
+    match found {
+        Some(piece) => piece == wanted,
+        None => false,
+    }
 }
 
 /// Each call through the bound: what was put in is there, each refusal comes, and nothing is left behind `clear`.
@@ -53,50 +56,38 @@ fn keeps_what_it_is_given<T: Tables>(rt: &impl Abort, tables: &mut T) -> Result<
     Ok(())
 }
 
+/// The label of a number, which begins as all others do.
+fn alike(n: u8) -> [u8; 16] {
+    [
+        7,
+        7,
+        7,
+        7,
+        n.reverse_bits(),
+        0,
+        0,
+        0,
+        0,
+        0,
+        0,
+        0,
+        0,
+        0,
+        0,
+        n,
+    ]
+}
+
 /// 200 labels whose first four bytes are the same, put in by no order, are each found; a size that no memory has is
 /// refused.
 fn finds_labels_that_begin_alike<T: Tables>(rt: &impl Abort, tables: &mut T) -> Result<(), Fail> {
     assert!(rt; tables.reserve(usize::MAX, usize::MAX, 0, 0, 0, 0).is_err());
     for n in 0..200u8 {
-        let label = [
-            7,
-            7,
-            7,
-            7,
-            n.reverse_bits(),
-            0,
-            0,
-            0,
-            0,
-            0,
-            0,
-            0,
-            0,
-            0,
-            0,
-            n,
-        ];
+        let label = alike(n);
         assert_eq!(rt; tables.put_plus(&label, &[n; 8]), Ok(()));
     }
     for n in 0..200u8 {
-        let label = [
-            7,
-            7,
-            7,
-            7,
-            n.reverse_bits(),
-            0,
-            0,
-            0,
-            0,
-            0,
-            0,
-            0,
-            0,
-            0,
-            0,
-            n,
-        ];
+        let label = alike(n);
         assert_eq!(rt; tables.plus(&label), Some([n; 8]));
     }
     Ok(())
