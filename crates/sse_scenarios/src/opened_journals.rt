@@ -115,7 +115,7 @@ fn disk_of(alloc: Global, bytes: &[u8]) -> Option<MemDisk> {
 }
 
 /// How many update frames the history has that was rebuilt.
-fn frames(rebuilt: Rebuild) -> u32 {
+pub(crate) fn frames(rebuilt: Rebuild) -> u32 {
     match rebuilt.finish().1 {
         Some(last) => last.frames(),
         None => 0,

@@ -1,6 +1,7 @@
 ghost use Rattle.std.specs.Prelude.{◌≡◌, IfSome};
 
-use client_core::{Behind, Client, Ready, Taken};
+use crate::opened_journals::frames;
+use client_core::{Behind, Client, PlannedUpdate, Ready, Taken};
 use client_rebuild::Rebuild;
 use client_registry::{Doc, DocId, Docs, HashKeys, Word};
 use keyed_fn::Toy;
@@ -40,6 +41,14 @@ struct Kept {
 }
 
 impl Kept {
+    /// Nothing yet, under the key.
+    fn new(alloc: Global) -> Kept {
+        Kept {
+            rebuild: Rebuild::new(&Toy, MasterKey::new(KEY)),
+            rows: String::new(alloc),
+        }
+    }
+
     /// A record, as a row and to the rebuild.
     fn record(&mut self, alloc: Global, name: &str, record: &[u8]) -> Option<()> {
         let bytes = hex::encode(alloc, record).ok()?;
@@ -51,10 +60,25 @@ impl Kept {
         self.rows.push_str(row.as_str()).ok()
     }
 
+    /// The record of a planned update.
+    fn update(&mut self, alloc: Global, name: &str, planned: &PlannedUpdate) -> Option<()> {
+        let mut record = Vec::new(alloc);
+        planned.payload_into(&mut record).ok()?;
+        self.record(alloc, name, &record)
+    }
+
     /// A command without a plan.
     fn no_plan(&mut self, alloc: Global, name: &str) -> Option<()> {
         let row = format!(in alloc; "{name}: no plan\n").ok()?;
         self.rows.push_str(row.as_str()).ok()
+    }
+
+    /// The rows, and how many frames the history has.
+    fn table(self, alloc: Global) -> Option<String> {
+        let Kept { rebuild, mut rows } = self;
+        let row = format!(in alloc; "{} frames\n", frames(rebuild)).ok()?;
+        rows.push_str(row.as_str()).ok()?;
+        Some(rows)
     }
 }
 
@@ -137,9 +161,7 @@ fn add(
 {
     match client.plan_add(alloc, &Toy, master, doc) {
         Ok(planned) => {
-            let mut record = Vec::new(alloc);
-            planned.payload_into(&mut record).ok()?;
-            kept.record(alloc, name, &record)?;
+            kept.update(alloc, name, &planned)?;
             acknowledged(client.commit(planned), reply)
         }
         Err(_) => {
@@ -164,9 +186,7 @@ fn delete(
 {
     match client.plan_delete(alloc, &Toy, master, id) {
         Ok(planned) => {
-            let mut record = Vec::new(alloc);
-            planned.payload_into(&mut record).ok()?;
-            kept.record(alloc, name, &record)?;
+            kept.update(alloc, name, &planned)?;
             acknowledged(client.commit(planned), reply)
         }
         Err(_) => {
@@ -196,21 +216,17 @@ fn carry_out(alloc: Global, kept: &mut Kept) -> Option<()> {
     Some(())
 }
 
+/// The rows of all commands.
+fn table(alloc: Global) -> Option<String> {
+    let mut kept = Kept::new(alloc);
+    carry_out(alloc, &mut kept)?;
+    kept.table(alloc)
+}
+
 /// The record of each plan, and the frames of the history that they make.
 #[test]
 fn plans_carry_their_records(rt: HostRuntime) -> Result<(), Fail> {
-    let alloc = rt.alloc();
-    let mut kept = Kept {
-        rebuild: Rebuild::new(&Toy, MasterKey::new(KEY)),
-        rows: String::new(alloc),
-    };
-    carry_out(alloc, &mut kept).ok_or("no history")?;
-    let Kept { rebuild, mut rows } = kept;
-    let frames = match rebuild.finish().1 {
-        Some(last) => last.frames(),
-        None => 0,
-    };
-    rows.push_str(format!(in alloc; "{frames} frames\n")?.as_str())?;
-    assert_eq!(rt; rows.as_str(), TABLE);
+    let table = table(rt.alloc()).ok_or("no history")?;
+    assert_eq!(rt; table.as_str(), TABLE);
     Ok(())
 }
