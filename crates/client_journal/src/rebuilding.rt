@@ -1,4 +1,4 @@
-ghost use Rattle.std.specs.Prelude.{◌≡◌, ◌≢◌, ◌<◌, ◌≤◌, ℕ, List, [], Err, IfOk, IfSome, length, take};
+ghost use Rattle.std.specs.Prelude.{◌≡◌, ◌≢◌, ◌<◌, ◌≤◌, ℕ, List, [], Err, IfOk, IfSome, take};
 ghost use Rattle.client_journal.specs.Recordings.{IsBadUnder, IsRebuiltFrom, TakesAll, TakesNext};
 ghost use Rattle.client_journal.specs.Faults.{EndsFor, GoesOn};
 ghost use Rattle.client_rebuild.specs.Rebuilds.{Rebuilds};

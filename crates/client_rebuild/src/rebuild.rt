@@ -1,6 +1,6 @@
-ghost use Rattle.std.specs.Prelude.{◌≡◌, ◌≢◌, ◌∷◌, ◌++◌, [], ℕ, List, Err, IfOk, IsOkUnless, OnErr, OnOk, length};
+ghost use Rattle.std.specs.Prelude.{◌≡◌, ◌≢◌, ◌∷◌, ◌++◌, [], ℕ, List, Err, IsOkUnless, OnErr, OnOk, length};
 ghost use Rattle.client_records.specs.Openings.{IsBadRecord, Opens, OpensElsewhere, OpensNowhere};
-ghost use Rattle.client_records.specs.Records.{IsNoRecord, IsRecordOf};
+ghost use Rattle.client_records.specs.Records.{IsRecordOf};
 ghost use Rattle.client_records.specs.RecordView.{HasKeys, record_text};
 ghost use Rattle.client_registry.specs.HashNumbers.{hash_numbers};
 ghost use Rattle.client_registry.specs.Run.{Run};

@@ -1,4 +1,4 @@
-ghost use Rattle.std.specs.Prelude.{◌≡◌, ℕ, List, map, IfOk, IfSome};
+ghost use Rattle.std.specs.Prelude.{◌≡◌, List, map, IfOk, IfSome};
 ghost use Rattle.std.specs.List.{AllByRecursion};
 ghost use Rattle.client_core.specs.Owes.{AreNumbered};
 ghost use Rattle.client_core.specs.Sending.{first_number, to_send};

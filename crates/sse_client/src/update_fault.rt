@@ -1,4 +1,4 @@
-ghost use Rattle.std.specs.Prelude.{◌≡◌, Some};
+ghost use Rattle.std.specs.Prelude.{◌≡◌};
 ghost use Rattle.sse_client.specs.UpdateFaults.{update_of_line, update_of_command};
 
 use client_core::CommandFault;

@@ -1,12 +1,10 @@
-ghost use Rattle.std.specs.Prelude.{◌≡◌, ◌≢◌, ◌⊎◌, ◌+◌, ◌≤◌, List, true, None, Err, IsErr, IfOk, IfSome, OnOk};
+ghost use Rattle.std.specs.Prelude.{◌≡◌, ◌≢◌, ◌⊎◌, ◌+◌, ◌≤◌, List, true, Err, IsErr, IfSome, OnOk};
 ghost use Rattle.keyed_fn.specs.KeyedFn.{keyed_fn};
 ghost use Rattle.sse_outside.specs.Causes.{Rose};
 ghost use Rattle.sse_frames.specs.Frames.{FrameText};
 ghost use Rattle.sse_journal.specs.Files.{Gives};
-ghost use Rattle.sse_journal.specs.JournalView.{broken_by};
 ghost use Rattle.server_core.specs.State.{at_first};
 ghost use Rattle.sse_server.specs.Taken.{AreTaken, bodies};
-ghost use Rattle.sse_server.specs.StoreView.{IsStoreFrom, IsWithin};
 ghost use Rattle.sse_served.specs.Services.{HasServed, IsNoJournal};
 
 use crate::stop::ServiceStop;
