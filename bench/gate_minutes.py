@@ -1,7 +1,7 @@
 #!/usr/bin/env python3
 """Runs the gate, or any command, and tells what it cost by crate: processor seconds of the proof, the tests and the must-fail
 edits. Each second it reads from /proc what the processes below the command have used; what a process uses behind its last
-reading, a second at most, is told as not seen.
+reading, a second at most, is told as not seen. A process is told by its number and its start, since numbers are used again.
 
     bench/gate_minutes.py [COMMAND..]      rt ci --anew, or this command, as: bench/gate_minutes.py rt ci chacha_stream
 
@@ -18,7 +18,7 @@ NO_CRATE = "no crate"
 
 
 def parents():
-    """By process, its parent and the processor seconds that it has used."""
+    """By process, its parent, the processor seconds that it has used, and its start."""
     found = {}
     for pid in filter(str.isdigit, os.listdir("/proc")):
         try:
@@ -26,7 +26,7 @@ def parents():
                 fields = file.read().rpartition(")")[2].split()
         except OSError:
             continue
-        found[int(pid)] = int(fields[1]), (int(fields[11]) + int(fields[12])) / TICKS
+        found[int(pid)] = int(fields[1]), (int(fields[11]) + int(fields[12])) / TICKS, fields[19]
     return found
 
 
@@ -57,25 +57,27 @@ class Spent:
         below = {self.top}
         grown = True
         while grown:
-            more = {pid for pid, (parent, _) in found.items() if parent in below} - below
+            more = {pid for pid, (parent, _, _) in found.items() if parent in below} - below
             below |= more
             grown = bool(more)
         for pid in below - {self.top}:
-            self.seconds[pid] = found[pid][1]
-            self.work[pid] = asked(pid) or self.work.get(pid) or self.inherited(pid, found)
+            _, seconds, start = found[pid]
+            self.seconds[pid, start] = seconds
+            self.work[pid, start] = asked(pid) or self.work.get((pid, start)) or self.inherited(pid, found)
 
     def inherited(self, pid, found):
         """The work of the nearest process above that says its own: a kernel's is the prover's that started it."""
         while pid in found and pid != self.top:
             pid = found[pid][0]
-            if self.work.get(pid):
-                return self.work[pid]
+            work = self.work.get((pid, found[pid][2])) if pid in found else None
+            if work:
+                return work
         return None
 
     def by_crate(self):
         table = {}
-        for pid, seconds in self.seconds.items():
-            crate, kind = self.work[pid] or (NO_CRATE, "other")
+        for process, seconds in self.seconds.items():
+            crate, kind = self.work[process] or (NO_CRATE, "other")
             row = table.setdefault(crate, dict.fromkeys(KINDS, 0.0))
             row[kind] += seconds
         return table
