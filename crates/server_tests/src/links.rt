@@ -3,7 +3,7 @@ ghost use Rattle.sse_frames.specs.Frames.{InGrammar, frame_bytes};
 ghost use Rattle.sse_frames.specs.FrameViews.{frame_view};
 
 use crate::frames::{BEGIN, DICT, END, HELLO, SEARCH};
-use crate::stores::store_link;
+use crate::stores::over_a_store;
 use keyed_fn::Toy;
 use memory_disk::MemDisk;
 use server_core::Server;
@@ -61,17 +61,17 @@ const REFUSED: &str = "\
 000000028901
 ";
 
+/// What comes back to a greeting over a link whose server had taken one frame, and all that passed over it.
+const BEGUN_LATER: &str = "\
+000000058100000001
+stepped 0000000101
+received 000000058100000001
+";
+
 /// What comes back over links whose second send and second receive fail, the server having taken the frame or not.
-const CUT: [(bool, &str); 2] = [
-    (
-        false,
-        "000000058100000000\nnot sent\nnot received\n000000058100000000\n",
-    ),
-    (
-        true,
-        "000000058100000000\nnot sent\nnot received\n000000058100000001\n",
-    ),
-];
+const NOT_TAKEN: &str = "000000058100000000\nnot sent\nnot received\n000000058100000000\n";
+
+const TAKEN: &str = "000000058100000000\nnot sent\nnot received\n000000058100000001\n";
 
 /// Replies to be played back: one, the four bytes of a length out of range, and the end inside a reply.
 const PLAYED: &[u8] = b"\x00\x00\x00\x05\x81\x00\x00\x00\x09\x00\x01\x00\x05\x00\x00\x00\x02\x89";
@@ -87,6 +87,16 @@ sent 0000000101
 received 00010005
 sent 0000000101
 ";
+
+/// What is tried, and what comes of it.
+const ROWS: [(Tried, &str); 6] = [
+    (Tried::Steady, ANSWERED),
+    (Tried::BadBytes, REFUSED),
+    (Tried::BeginsLater, BEGUN_LATER),
+    (Tried::Fails { delivered: false }, NOT_TAKEN),
+    (Tried::Fails { delivered: true }, TAKEN),
+    (Tried::Script, PLAYED_BACK),
+];
 
 /// The frame that all of the bytes are.
 fn whole(bytes: &[u8]) -> Option<Frame<'_>>
@@ -171,17 +181,29 @@ fn way_of(mark: Mark) -> &'static str {
     }
 }
 
-/// A new server, which has taken nothing.
-fn server(alloc: Global) -> Server<BucketTables> {
-    Server::new(BucketTables::new(alloc))
+/// Lines that came back, and then those of all that passed.
+fn and_passed(
+    alloc: Global,
+    lines: Result<String, AllocError>,
+    passed: &[Passed],
+) -> Result<String, AllocError> {
+    let mut lines = lines?;
+    lines.push_str(passed_lines(alloc, passed)?.as_str())?;
+    Ok(lines)
 }
 
-/// A setup and two searches over a link that never fails, and all that passed.
-fn over_a_steady_link(alloc: Global) -> Result<String, AllocError> {
-    let mut link = SteadyLoopback::new(alloc, Toy, server(alloc));
-    let mut lines = replies(alloc, &mut link, &SENT)?;
-    lines.push_str(passed_lines(alloc, link.transcript())?.as_str())?;
-    Ok(lines)
+/// What comes back over a link that never fails, whose server was handed one of the frames before, and then all that passed.
+fn over_a_steady_link(
+    alloc: Global,
+    before: &[u8],
+    frames: &[&[u8]],
+) -> Result<String, AllocError> {
+    let mut server = Server::new(BucketTables::new(alloc));
+    // what comes back later shows whether it was taken
+    let _ = reply_to(alloc, &mut server, before);
+    let mut link = SteadyLoopback::new(alloc, Toy, server);
+    let lines = replies(alloc, &mut link, frames);
+    and_passed(alloc, lines, link.transcript())
 }
 
 /// The first reply of a server to bytes.
@@ -199,57 +221,67 @@ fn reply_to(
     hex::encode(alloc, &out[..n])
 }
 
-/// The first reply of one server to each of the bytes, a line each.
-fn replies_to(alloc: Global, texts: &[&[u8]]) -> Result<String, AllocError> {
-    let mut server = server(alloc);
+/// Its first reply to each of the bytes, a line each.
+fn replies_to(
+    alloc: Global,
+    server: &mut Server<BucketTables>,
+    texts: &[&[u8]],
+) -> Result<String, AllocError> {
     let mut lines = String::new(alloc);
     for bytes in texts {
-        lines.push_str(reply_to(alloc, &mut server, *bytes)?.as_str())?;
+        lines.push_str(reply_to(alloc, server, *bytes)?.as_str())?;
         lines.push_str("\n")?;
     }
     Ok(lines)
 }
 
-/// What passed over a link whose server had taken one frame before, and what comes back over it to a greeting.
-fn over_a_link_that_begins_later(alloc: Global) -> Result<String, AllocError> {
-    let mut server = server(alloc);
-    reply_to(alloc, &mut server, BEGIN)?;
-    let mut link = SteadyLoopback::new(alloc, Toy, server);
-    let mut lines = passed_lines(alloc, link.transcript())?;
-    lines.push_str(replies(alloc, &mut link, &[HELLO])?.as_str())?;
-    Ok(lines)
+/// The replies of one server to bytes that are no frame.
+fn to_bad_bytes(alloc: Global) -> Result<String, AllocError> {
+    let mut server = Server::new(BucketTables::new(alloc));
+    replies_to(alloc, &mut server, &BAD_BYTES)
 }
 
 /// The send and the receive of the first frame work, the second send and the next receive fail.
 fn over_a_failing_link(alloc: Global, delivered: bool) -> Result<String, AllocError> {
     let fails = vec![in alloc; Fail { call: 2, delivered }, Fail { call: 4, delivered }]?;
-    match store_link(alloc, MemDisk::new(alloc, Vec::new(alloc)), fails) {
-        Some(mut link) => replies(alloc, &mut link, &[HELLO, BEGIN, HELLO, HELLO]),
-        None => String::from_str(alloc, "not started"),
-    }
+    let disk = MemDisk::new(alloc, Vec::new(alloc));
+    let frames = [HELLO, BEGIN, HELLO, HELLO];
+    over_a_store(alloc, disk, fails, &frames).map(|told| told.replies)
 }
 
 /// What is played back, and all that passed.
 fn over_a_script(alloc: Global) -> Result<String, AllocError> {
     let mut link = ScriptedLink::new(alloc, Vec::from_slice(alloc, PLAYED)?);
-    let mut lines = replies(alloc, &mut link, &[HELLO, HELLO, HELLO])?;
-    lines.push_str(passed_lines(alloc, link.transcript())?.as_str())?;
-    Ok(lines)
+    let lines = replies(alloc, &mut link, &[HELLO, HELLO, HELLO]);
+    and_passed(alloc, lines, link.transcript())
+}
+
+/// A link in memory, or a server that is handed bytes.
+#[derive(Clone, Copy)]
+enum Tried {
+    Steady,
+    BadBytes,
+    BeginsLater,
+    Fails { delivered: bool },
+    Script,
+}
+
+/// What comes back, and of some of them all that passed.
+fn lines_of(alloc: Global, tried: Tried) -> Result<String, AllocError> {
+    match tried {
+        Tried::Steady => over_a_steady_link(alloc, HELLO, &SENT),
+        Tried::BadBytes => to_bad_bytes(alloc),
+        Tried::BeginsLater => over_a_steady_link(alloc, BEGIN, &[HELLO]),
+        Tried::Fails { delivered } => over_a_failing_link(alloc, delivered),
+        Tried::Script => over_a_script(alloc),
+    }
 }
 
 /// Each link in memory, and bytes that are no frame.
 #[test]
 fn links_in_memory(rt: HostRuntime) -> Result<(), Failed> {
-    let alloc = rt.alloc();
-    assert_eq!(rt; over_a_steady_link(alloc)?.as_str(), ANSWERED);
-    assert_eq!(rt; replies_to(alloc, &BAD_BYTES)?.as_str(), REFUSED);
-    assert_eq!(rt;
-        over_a_link_that_begins_later(alloc)?.as_str(),
-        "000000058100000001\n"
-    );
-    for (delivered, lines) in CUT {
-        assert_eq!(rt; over_a_failing_link(alloc, delivered)?.as_str(), lines);
+    for (tried, lines) in ROWS {
+        assert_eq!(rt; lines_of(rt.alloc(), tried)?.as_str(), lines);
     }
-    assert_eq!(rt; over_a_script(alloc)?.as_str(), PLAYED_BACK);
     Ok(())
 }

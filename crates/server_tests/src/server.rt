@@ -156,15 +156,24 @@ fn answer(
     }
 }
 
-/// What a new server answers to frames in a row, a line each.
-fn answered(alloc: Global, frames: &[&[u8]]) -> Result<String, AllocError> {
-    let mut server = Server::new(SortedTables::new(alloc));
+/// What it answers to frames in a row, a line each.
+fn answers(
+    alloc: Global,
+    server: &mut Server<SortedTables>,
+    frames: &[&[u8]],
+) -> Result<String, AllocError> {
     let mut lines = String::new(alloc);
     for bytes in frames {
-        lines.push_str(answer(alloc, &mut server, bytes)?.as_str())?;
+        lines.push_str(answer(alloc, server, bytes)?.as_str())?;
         lines.push_str("\n")?;
     }
     Ok(lines)
+}
+
+/// The same of a new server.
+fn answered(alloc: Global, frames: &[&[u8]]) -> Result<String, AllocError> {
+    let mut server = Server::new(SortedTables::new(alloc));
+    answers(alloc, &mut server, frames)
 }
 
 /// A setup, a search, an addition and a deletion, and what is refused between them; then cells of an unknown kind, of a

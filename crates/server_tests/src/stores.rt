@@ -3,7 +3,7 @@ use crate::links::{passed_lines, replies};
 use keyed_fn::Toy;
 use memory_disk::{MemDisk, SteadyDisk};
 use server_tables::BucketTables;
-use sse_link::{Fail, Loopback, SteadyStoreLoopback};
+use sse_link::{Fail, Loopback, Passed, SteadyStoreLoopback};
 use sse_server::Store;
 use std::alloc::{AllocError, Global};
 use std::test::Fail as Failed;
@@ -28,12 +28,15 @@ const NOT_COMMITTED: &str = "5353454a524e4c3100000000110200000000000100010000000
 
 const COMMITTED: &str = "5353454a524e4c310100000011020000000000010001000000010000000000";
 
-/// What comes back and passes where the disk fails at a call of the first frame's append: that frame and the next one aren't
+/// What comes back where the disk fails at a call of the first frame's append, and what passes: that frame and the next one aren't
 /// stored, and a greeting is answered.
 const FAILED: &str = "\
 0000000188
 0000000188
 000000058100000000
+";
+
+const FAILED_PASSED: &str = "\
 not stored 000000110200000000000100010000000100000000
 received 0000000188
 not stored 000000110200000000000100010000000100000000
@@ -42,74 +45,113 @@ stepped 0000000101
 received 000000058100000000
 ";
 
-/// A link to a store that was started on a disk, with the calls that fail; none where it isn't started.
-pub(crate) fn store_link(
+/// What comes back over a link, all that passed, and the file behind it.
+#[derive(Drop)]
+pub(crate) struct Told {
+    pub(crate) replies: String,
+    passed: String,
+    file: String,
+}
+
+/// The same of a link to a store that isn't started.
+fn not_started(alloc: Global) -> Result<Told, AllocError> {
+    Ok(Told {
+        replies: String::from_str(alloc, "not started")?,
+        passed: String::new(alloc),
+        file: String::new(alloc),
+    })
+}
+
+/// What came back, with what passed and the file in digits.
+fn told_of(
+    alloc: Global,
+    replies: Result<String, AllocError>,
+    passed: &[Passed],
+    file: &[u8],
+) -> Result<Told, AllocError> {
+    Ok(Told {
+        replies: replies?,
+        passed: passed_lines(alloc, passed)?,
+        file: hex::encode(alloc, file)?,
+    })
+}
+
+/// What a link tells over which these frames were sent: to a store that is started on this disk, with the calls that fail. It
+/// alone owns such a link, since the proof of what a link leaves at its end is dear.
+pub(crate) fn over_a_store(
     alloc: Global,
     disk: MemDisk,
     fails: Vec<Fail>,
-) -> Option<Loopback<Toy, BucketTables, MemDisk>> {
+    frames: &[&[u8]],
+) -> Result<Told, AllocError> {
     let mut disk = disk;
     match Store::start(alloc, BucketTables::new(alloc), &mut disk) {
-        Ok(store) => Some(Loopback::new(alloc, Toy, store, disk, fails)),
-        Err(_) => None,
+        Ok(store) => {
+            let mut link = Loopback::new(alloc, Toy, store, disk, fails);
+            let replies = replies(alloc, &mut link, frames);
+            told_of(alloc, replies, link.transcript(), link.disk().bytes())
+        }
+        Err(_) => not_started(alloc),
     }
 }
 
-/// The same over a disk that never fails.
-fn steady_link(alloc: Global) -> Option<SteadyStoreLoopback<Toy, BucketTables>> {
+/// What comes back to frames over a link to a store whose disk never fails.
+fn over_a_steady_store(alloc: Global, frames: &[&[u8]]) -> Result<String, AllocError> {
     let mut disk = SteadyDisk::new(alloc);
     match Store::start(alloc, BucketTables::new(alloc), &mut disk) {
-        Ok(store) => Some(SteadyStoreLoopback::new(alloc, Toy, store, disk)),
-        Err(_) => None,
+        Ok(store) => {
+            let mut link = SteadyStoreLoopback::new(alloc, Toy, store, disk);
+            replies(alloc, &mut link, frames)
+        }
+        Err(_) => String::from_str(alloc, "not started"),
     }
 }
 
-/// What comes back to a setup and a search over a link that never fails.
-fn over_a_steady_store(alloc: Global) -> Result<String, AllocError> {
-    let Some(mut link) = steady_link(alloc) else {
-        return String::from_str(alloc, "not started");
-    };
-    replies(alloc, &mut link, &[BEGIN, DICT, END, SEARCH])
-}
+/// A setup of one word, and a search for it.
+const SETUP: [&[u8]; 4] = [BEGIN, DICT, END, SEARCH];
 
-/// The file that a setup and a search leave.
-fn file_of_a_setup(alloc: Global) -> Result<String, AllocError> {
-    let disk = MemDisk::new(alloc, Vec::new(alloc));
-    let Some(mut link) = store_link(alloc, disk, Vec::new(alloc)) else {
-        return String::from_str(alloc, "not started");
-    };
-    replies(alloc, &mut link, &[BEGIN, DICT, END, SEARCH])?;
-    hex::encode(alloc, link.disk().bytes())
-}
-
-/// What comes back and passes where the disk fails at the call with this number, from 0, and the file behind it. A start makes
-/// six calls, and an append four: a write, a sync, the write of the commit byte, and a sync.
-fn over_a_failing_disk(alloc: Global, call: u64) -> Result<(String, String), AllocError> {
+/// Where the disk fails at the call with this number, from 0, what comes back and passes, and the file. A start makes six calls, and
+/// an append four: a write, a sync, the write of the commit byte, and a sync.
+fn over_a_failing_disk(alloc: Global, call: u64) -> Result<Told, AllocError> {
     let disk = MemDisk::new(alloc, vec![in alloc; call]?);
-    let Some(mut link) = store_link(alloc, disk, Vec::new(alloc)) else {
-        return Ok((String::from_str(alloc, "not started")?, String::new(alloc)));
-    };
-    let mut lines = replies(alloc, &mut link, &[BEGIN, BEGIN, HELLO])?;
-    lines.push_str(passed_lines(alloc, link.transcript())?.as_str())?;
-    let file = hex::encode(alloc, link.disk().bytes())?;
-    Ok((lines, file))
+    over_a_store(alloc, disk, Vec::new(alloc), &[BEGIN, BEGIN, HELLO])
 }
+
+/// The call of the disk that fails, and the file.
+const FILES: [(u64, &str); 4] = [
+    (6, NOTHING),
+    (7, NOT_COMMITTED),
+    (8, NOT_COMMITTED),
+    (9, COMMITTED),
+];
 
 /// A store behind a link, and its file.
 #[test]
 fn a_store_behind_a_link(rt: HostRuntime) -> Result<(), Failed> {
     let alloc = rt.alloc();
-    assert_eq!(rt; over_a_steady_store(alloc)?.as_str(), REPLIES);
-    assert_eq!(rt; file_of_a_setup(alloc)?.as_str(), JOURNAL);
-    for (call, file) in [
-        (6, NOTHING),
-        (7, NOT_COMMITTED),
-        (8, NOT_COMMITTED),
-        (9, COMMITTED),
-    ] {
-        let (lines, left) = over_a_failing_disk(alloc, call)?;
-        assert_eq!(rt; lines.as_str(), FAILED);
-        assert_eq!(rt; left.as_str(), file);
+    assert_eq!(rt; over_a_steady_store(alloc, &SETUP)?.as_str(), REPLIES);
+    let disk = MemDisk::new(alloc, Vec::new(alloc));
+    let told = over_a_store(alloc, disk, Vec::new(alloc), &SETUP)?;
+    assert_eq!(rt;
+        (told.replies.as_str(), told.file.as_str()),
+        (REPLIES, JOURNAL)
+    );
+    Ok(())
+}
+
+/// The same where a call of its disk fails.
+#[test]
+fn a_store_over_a_failing_disk(rt: HostRuntime) -> Result<(), Failed> {
+    for (call, file) in FILES {
+        let told = over_a_failing_disk(rt.alloc(), call)?;
+        assert_eq!(rt;
+            (
+                told.replies.as_str(),
+                told.passed.as_str(),
+                told.file.as_str()
+            ),
+            (FAILED, FAILED_PASSED, file)
+        );
     }
     Ok(())
 }

@@ -132,6 +132,84 @@ fn take(rt: &impl Abort, server: &mut Server<BucketTables>, bytes: &[u8]) {
     server.apply(&frame);
 }
 
+/// A list laid out: the kind of its cell and the numbers in it, and the blocks, one behind the other.
+#[derive(Drop)]
+struct LaidList {
+    kind: u8,
+    numbers: Vec<u64>,
+    array: Vec<u8>,
+    blocks: u16,
+}
+
+/// Identifiers that a cell has room for.
+fn in_a_cell(alloc: Global, numbers: Vec<u64>) -> LaidList {
+    LaidList {
+        kind: 0,
+        numbers,
+        array: Vec::new(alloc),
+        blocks: 0,
+    }
+}
+
+/// Identifiers in so many blocks, to which the cell points.
+fn in_blocks(
+    alloc: Global,
+    token: &Token,
+    numbers: &[u64],
+    data: u16,
+) -> Result<LaidList, AllocError> {
+    Ok(LaidList {
+        kind: 1,
+        numbers: from_to(alloc, 1, u64::from(data))?,
+        array: sealed(alloc, token, 0, numbers)?,
+        blocks: data,
+    })
+}
+
+/// Identifiers in so many blocks, to which so many others point behind them.
+fn in_two_levels(
+    alloc: Global,
+    token: &Token,
+    numbers: &[u64],
+    data: u16,
+    tops: u16,
+) -> Result<LaidList, AllocError> {
+    let pointers = from_to(alloc, 1, u64::from(data))?;
+    let mut array = sealed(alloc, token, u32::from(tops), numbers)?;
+    array.extend_from_slice(&sealed(alloc, token, 0, &pointers)?)?;
+    Ok(LaidList {
+        kind: 2,
+        numbers: from_to(alloc, u64::from(data) + 1, u64::from(tops))?,
+        array,
+        blocks: data.wrapping_add(tops),
+    })
+}
+
+/// The list of the identifiers 1 to `count`.
+fn laid(alloc: Global, token: &Token, count: u16) -> Result<LaidList, AllocError> {
+    let numbers = from_to(alloc, 1, u64::from(count))?;
+    let data = count.div_ceil(BIG as u16);
+    if count <= B as u16 {
+        Ok(in_a_cell(alloc, numbers))
+    } else if data <= B as u16 {
+        in_blocks(alloc, token, &numbers, data)
+    } else {
+        in_two_levels(alloc, token, &numbers, data, data.div_ceil(BIG as u16))
+    }
+}
+
+/// The label and the cell of a list, as they stand in a frame.
+fn entry(alloc: Global, token: &Token, laid: &LaidList) -> Result<Vec<u8>, AllocError> {
+    let mut cell = vec![in alloc; laid.kind; 1]?;
+    cell.extend_from_slice(&packed(alloc, &laid.numbers, B)?)?;
+    if let Some(cell) = cell.first_chunk_mut::<CELL>() {
+        token.open_cell(&Real, cell);
+    }
+    let mut entry = Vec::from_slice(alloc, &token.list_label(&Real))?;
+    entry.extend_from_slice(&cell)?;
+    Ok(entry)
+}
+
 /// Sets a new server up with one list of the identifiers 1 to `count`.
 fn set_up(
     rt: &impl Abort,
@@ -140,58 +218,47 @@ fn set_up(
     server: &mut Server<BucketTables>,
     count: u16,
 ) -> Result<(), AllocError> {
-    let mut numbers = from_to(alloc, 1, u64::from(count))?;
-    let mut array = Vec::new(alloc);
-    let mut kind = 0u8;
-    let mut blocks = 0u16;
-    if count > B as u16 {
-        let data = count.div_ceil(BIG as u16);
-        let tops = if data <= B as u16 {
-            0
-        } else {
-            data.div_ceil(BIG as u16)
-        };
-        array.extend_from_slice(&sealed(alloc, token, u32::from(tops), &numbers)?)?;
-        numbers = from_to(alloc, 1, u64::from(data))?;
-        kind = 1;
-        if tops > 0 {
-            array.extend_from_slice(&sealed(alloc, token, 0, &numbers)?)?;
-            numbers = from_to(alloc, u64::from(data) + 1, u64::from(tops))?;
-            kind = 2;
-        }
-        blocks = data.wrapping_add(tops);
-    }
-    let mut cell = vec![in alloc; kind; 1]?;
-    cell.extend_from_slice(&packed(alloc, &numbers, B)?)?;
-    if let Some(cell) = cell.first_chunk_mut::<CELL>() {
-        token.open_cell(&Real, cell);
-    }
-    let mut entry = Vec::new(alloc);
-    entry.extend_from_slice(&token.list_label(&Real))?;
-    entry.extend_from_slice(&cell)?;
-    let mut size = Vec::new(alloc);
-    size.extend_from_slice(&1u32.to_be_bytes())?;
-    size.extend_from_slice(&u32::from(blocks).to_be_bytes())?;
-    take(
-        rt,
-        server,
-        &frame(alloc, BEGIN, Some(0), &[B as u16, BIG as u16], &size)?,
-    );
-    take(
-        rt,
-        server,
-        &frame(alloc, DICT, Some(1), &[CELL as u16, 1], &entry)?,
-    );
-    if blocks > 0 {
-        take(
-            rt,
-            server,
-            &frame(alloc, ARRAY, Some(2), &[BLOCK as u16, blocks], &array)?,
-        );
+    let laid = laid(alloc, token, count)?;
+    let sizes = (u64::from(1u32) << 32 | u64::from(laid.blocks)).to_be_bytes();
+    let begin = frame(alloc, BEGIN, Some(0), &[B as u16, BIG as u16], &sizes)?;
+    take(rt, server, &begin);
+    let entry = entry(alloc, token, &laid)?;
+    let dict = frame(alloc, DICT, Some(1), &[CELL as u16, 1], &entry)?;
+    take(rt, server, &dict);
+    if laid.blocks > 0 {
+        let widths = [BLOCK as u16, laid.blocks];
+        let array = frame(alloc, ARRAY, Some(2), &widths, &laid.array)?;
+        take(rt, server, &array);
     }
     let last = server.next();
     take(rt, server, &frame(alloc, END, Some(last), &[], &[])?);
     Ok(())
+}
+
+/// The frame that adds an identifier as the addition of this number.
+fn addition(
+    alloc: Global,
+    token: &Token,
+    number: u32,
+    c: u64,
+    id: u64,
+) -> Result<Vec<u8>, AllocError> {
+    let mut sealed = id.to_be_bytes();
+    token.open_plus(&Real, c, &mut sealed);
+    let mut entry = Vec::from_slice(alloc, &token.plus_label(&Real, c))?;
+    entry.extend_from_slice(&sealed)?;
+    frame(alloc, ADD, Some(number), &[1, 0], &entry)
+}
+
+/// The frame that deletes it.
+fn deletion(alloc: Global, token: &Token, number: u32, id: u64) -> Result<Vec<u8>, AllocError> {
+    frame(
+        alloc,
+        DELETE,
+        Some(number),
+        &[1],
+        &token.revocation(&Real, id),
+    )
 }
 
 /// Adds so many identifiers after those of the setup, and deletes the revoked ones of all.
@@ -204,32 +271,14 @@ fn change(
     added: u64,
 ) -> Result<(), AllocError> {
     for c in 0..added {
-        let mut sealed = listed.wrapping_add(c).wrapping_add(1).to_be_bytes();
-        token.open_plus(&Real, c, &mut sealed);
-        let mut entry = Vec::new(alloc);
-        entry.extend_from_slice(&token.plus_label(&Real, c))?;
-        entry.extend_from_slice(&sealed)?;
-        let number = server.next();
-        take(
-            rt,
-            server,
-            &frame(alloc, ADD, Some(number), &[1, 0], &entry)?,
-        );
+        let id = listed.wrapping_add(c).wrapping_add(1);
+        let frame = addition(alloc, token, server.next(), c, id)?;
+        take(rt, server, &frame);
     }
     for id in from_to(alloc, 1, listed.wrapping_add(added))?.as_slice() {
         if is_revoked(*id) {
-            let number = server.next();
-            take(
-                rt,
-                server,
-                &frame(
-                    alloc,
-                    DELETE,
-                    Some(number),
-                    &[1],
-                    &token.revocation(&Real, *id),
-                )?,
-            );
+            let frame = deletion(alloc, token, server.next(), *id)?;
+            take(rt, server, &frame);
         }
     }
     Ok(())
@@ -267,31 +316,44 @@ fn is_walked<K: Keyed>(
     assert!(rt; rest.is_empty());
 }
 
-/// Each list, by pages of one identifier, of as many as a block has, and of as many as a reply has.
+/// The identifiers 1 to `count` that are not revoked.
+fn unrevoked(alloc: Global, count: u64) -> Result<Vec<u64>, AllocError> {
+    let mut unrevoked = Vec::new(alloc);
+    for id in from_to(alloc, 1, count)?.as_slice() {
+        if !is_revoked(*id) {
+            unrevoked.push(*id)?;
+        }
+    }
+    Ok(unrevoked)
+}
+
+/// A list of so many identifiers, so many more added, by pages of one identifier, of as many as a block has, and of as many as a
+/// reply has.
+fn are_walked(
+    rt: &impl Abort,
+    alloc: Global,
+    token: &Token,
+    server: &mut Server<BucketTables>,
+    listed: u16,
+    added: u16,
+) -> Result<(), AllocError> {
+    let (first, more) = (u64::from(listed), u64::from(added));
+    set_up(rt, alloc, token, server, listed)?;
+    change(rt, alloc, token, server, first, more)?;
+    let wanted = unrevoked(alloc, first + more)?;
+    is_walked(rt, &Real, server, token, &mut [0; 1], &wanted);
+    is_walked(rt, &Real, server, token, &mut [0; BIG], &wanted);
+    is_walked(rt, &Real, server, token, &mut [0; 8192], &wanted);
+    Ok(())
+}
+
+/// Each list.
 #[test]
 fn pages_join_to_what_is_found(rt: HostRuntime) -> Result<(), Fail> {
-    let alloc = rt.alloc();
     let token = Token::new([[1; 32], [2; 32], [3; 32], [4; 32], [5; 32]]);
     for (listed, added) in LISTS {
-        let mut server = Server::new(BucketTables::new(alloc));
-        set_up(&rt, alloc, &token, &mut server, listed)?;
-        change(
-            &rt,
-            alloc,
-            &token,
-            &mut server,
-            u64::from(listed),
-            u64::from(added),
-        )?;
-        let mut wanted = Vec::new(alloc);
-        for id in from_to(alloc, 1, u64::from(listed) + u64::from(added))?.as_slice() {
-            if !is_revoked(*id) {
-                wanted.push(*id)?;
-            }
-        }
-        is_walked(&rt, &Real, &server, &token, &mut [0; 1], &wanted);
-        is_walked(&rt, &Real, &server, &token, &mut [0; BIG], &wanted);
-        is_walked(&rt, &Real, &server, &token, &mut [0; 8192], &wanted);
+        let mut server = Server::new(BucketTables::new(rt.alloc()));
+        are_walked(&rt, rt.alloc(), &token, &mut server, listed, added)?;
     }
     Ok(())
 }

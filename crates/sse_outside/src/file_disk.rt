@@ -166,6 +166,22 @@ mod tests {
         }
     }
 
+    /// What a read of three bytes and a write of three come to, each over a file of these answers.
+    fn answers_at(
+        answers: &[Result<usize, ErrorKind>],
+        at: u64,
+    ) -> (Result<usize, Failed>, Result<(), Failed>)
+        requires { at + 3 < 2 ^ 64 }
+    {
+        let file = Scripted {
+            answers,
+            calls: Cell::new(0),
+        };
+        let read = read_full(&file, at, &mut [0; 3]);
+        file.calls.set(0);
+        (read, write_full(&file, at, b"abc"))
+    }
+
     /// Reads of three bytes and writes of three: in parts, interrupted, at the end, with an error, past the limit.
     #[test]
     fn interrupted_calls_go_on_and_other_errors_are_faults(rt: HostRuntime) {
@@ -179,39 +195,51 @@ mod tests {
             (&[Ok(3), full], MOST_BYTES - 2, Ok(2), Err(Failed)),
             (&[full, full], MOST_BYTES + 1, Ok(0), Err(Failed)),
         ];
-        for (i, (answers, at, read, written)) in rows.iter().enumerate() {
-            let file = Scripted {
-                answers: *answers,
-                calls: Cell::new(0),
-            };
-            assert_eq!(rt; read_full(&file, *at, &mut [0; 3]), *read, "row {i}");
-            file.calls.set(0);
-            assert_eq!(rt; write_full(&file, *at, b"abc"), *written, "row {i}");
+        for (answers, at, read, written) in rows {
+            assert_eq!(rt; answers_at(answers, at), (read, written));
         }
+    }
+
+    /// A disk over the file of this name, which is made where it isn't there.
+    fn open(rt: &HostRuntime, name: &str) -> io::Result<FileDisk> {
+        let mut options = File::options();
+        options.read(true).write(true).create(true);
+        Ok(FileDisk::new(options.open(rt, name)?))
+    }
+
+    /// Whether a new file is empty, takes two writes, a cut, a sync and a write more, and refuses a cut past its limit.
+    fn is_written(disk: &mut FileDisk) -> bool {
+        let answers = [
+            disk.write_at(0, b"abcdef").is_ok(),
+            disk.write_at(2, b"CD").is_ok(),
+            disk.cut(5).is_ok(),
+            disk.sync().is_ok(),
+            disk.write_at(1, &[0; 2]).is_ok(),
+            disk.cut(MOST_BYTES) == Err(DeviceFault::Failed),
+        ];
+        answers == [true; 6]
+    }
+
+    /// How long the file is, what of four bytes from the third on is read, and how many bytes behind its end.
+    fn read(disk: &mut FileDisk, out: &mut [u8; 4]) -> [Result<u64, Failed>; 3] {
+        [
+            disk.len(),
+            disk.read_at(2, out).map(|count| count as u64),
+            disk.read_at(5, &mut [0; 4]).map(|count| count as u64),
+        ]
     }
 
     /// A file is written, cut, synced and read, and another disk over it reads the same.
     #[test]
     fn a_file_keeps_what_is_written(rt: HostRuntime) -> Result<(), Fail> {
         let _ = fs::remove_file(&rt, "file_disk_test");
-        let mut options = File::options();
-        options.read(true).write(true).create(true);
-        let mut disk = FileDisk::new(options.open(&rt, "file_disk_test")?);
+        let mut disk = open(&rt, "file_disk_test")?;
         assert_eq!(rt; disk.len(), Ok(0));
-        assert_eq!(rt; disk.write_at(0, b"abcdef"), Ok(()));
-        assert_eq!(rt; disk.write_at(2, b"CD"), Ok(()));
-        assert_eq!(rt; disk.cut(5), Ok(()));
-        assert_eq!(rt; disk.sync(), Ok(()));
-        assert_eq!(rt; disk.write_at(1, &[0; 2]), Ok(()));
-        assert_eq!(rt; disk.cut(MOST_BYTES), Err(DeviceFault::Failed));
-        assert_eq!(rt; disk.faults, 1);
-        let mut again = FileDisk::new(options.open(&rt, "file_disk_test")?);
+        assert_eq!(rt; (is_written(&mut disk), disk.faults), (true, 1));
+        let mut again = open(&rt, "file_disk_test")?;
         let mut out = [9; 4];
-        assert_eq!(rt; again.len(), Ok(5));
-        assert_eq!(rt; again.read_at(2, &mut out), Ok(3));
-        assert_eq!(rt; out, *b"\0De\x09");
-        assert_eq!(rt; again.read_at(5, &mut out), Ok(0));
-        assert_eq!(rt; again.faults, 0);
+        assert_eq!(rt; read(&mut again, &mut out), [Ok(5), Ok(3), Ok(0)]);
+        assert_eq!(rt; (out, again.faults), (*b"\0De\x09", 0));
         fs::remove_file(&rt, "file_disk_test")?;
         Ok(())
     }

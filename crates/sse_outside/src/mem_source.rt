@@ -90,9 +90,9 @@ mod tests {
             (Ok(2), b"dec"),
             (Ok(0), b"dec"),
         ];
-        for (i, (answer, bytes)) in expected.iter().enumerate() {
-            assert_eq!(rt; source.read(&mut out), *answer, "read {i}");
-            assert_eq!(rt; out, **bytes, "read {i}");
+        for (answer, bytes) in expected {
+            let read = source.read(&mut out);
+            assert_eq!(rt; (read, out), (answer, *bytes));
         }
         Ok(())
     }

@@ -125,15 +125,14 @@ mod tests {
             None,
             Some(ErrorKind::OutOfMemory),
         ]));
-        let expected = [
+        for expected in [
             (Ok(1), 0),
             (Ok(1), 0),
             (Err(DeviceFault::Failed), 1),
             (Err(DeviceFault::Failed), 2),
-        ];
-        for (i, (answer, faults)) in expected.iter().enumerate() {
-            assert_eq!(rt; sink.write(b"abc"), *answer, "write {i}");
-            assert_eq!(rt; sink.faults, *faults, "write {i}");
+        ] {
+            let written = sink.write(b"abc");
+            assert_eq!(rt; (written, sink.faults), expected);
         }
     }
 

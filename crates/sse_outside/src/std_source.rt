@@ -117,6 +117,15 @@ mod tests {
         }
     }
 
+    /// One read: its answer, the first byte of `out` behind it, and the counts of faults and of bytes.
+    fn read(
+        source: &mut StdSource<Scripted<'_>>,
+        out: &mut [u8; 3],
+    ) -> (Result<usize, Failed>, u8, [u64; 2]) {
+        let answer = source.read(out);
+        (answer, out[0], [source.faults, source.handed_out])
+    }
+
     /// Four reads over a reader that gives a byte, fails, is interrupted twice, gives a byte, and ends.
     #[test]
     fn an_interrupted_read_goes_on_and_other_errors_are_faults(rt: HostRuntime) {
@@ -128,18 +137,14 @@ mod tests {
             Ok(9),
         ]));
         let mut out = [0; 3];
-        let expected = [
-            (Ok(1), 7, 0),
-            (Err(Failed), 7, 1),
-            (Ok(1), 9, 1),
-            (Ok(0), 9, 1),
-        ];
-        for (i, (answer, front, faults)) in expected.iter().enumerate() {
-            assert_eq!(rt; source.read(&mut out), *answer, "read {i}");
-            assert_eq!(rt; out[0], *front, "read {i}");
-            assert_eq!(rt; source.faults, *faults, "read {i}");
+        for expected in [
+            (Ok(1), 7, [0, 1]),
+            (Err(Failed), 7, [1, 1]),
+            (Ok(1), 9, [1, 2]),
+            (Ok(0), 9, [1, 2]),
+        ] {
+            assert_eq!(rt; read(&mut source, &mut out), expected);
         }
-        assert_eq!(rt; source.handed_out, 2);
     }
 
     /// Three bytes short of the limit of bytes, three are read, and then a read fails.
@@ -148,10 +153,12 @@ mod tests {
         let mut source = StdSource::new(b"abcd".as_slice());
         source.handed_out = MOST_BYTES - 3;
         let mut out = [0; 2];
-        assert_eq!(rt; source.read(&mut out), Ok(2));
-        assert_eq!(rt; source.read(&mut out), Ok(1));
-        assert_eq!(rt; out, *b"cb");
-        assert_eq!(rt; source.read(&mut out), Err(Failed));
-        assert_eq!(rt; source.reader, b"d".as_slice());
+        let read = [
+            source.read(&mut out),
+            source.read(&mut out),
+            source.read(&mut out),
+        ];
+        assert_eq!(rt; read, [Ok(2), Ok(1), Err(Failed)]);
+        assert_eq!(rt; (out, source.reader), (*b"cb", b"d".as_slice()));
     }
 }

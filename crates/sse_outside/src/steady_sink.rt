@@ -68,9 +68,9 @@ mod tests {
     fn what_is_read_is_written(rt: HostRuntime) -> Result<(), Fail> {
         let mut source = SteadySource::new(b"abcde".to_vec(rt.alloc())?);
         let mut sink = SteadySink::new(rt.alloc());
-        assert_eq!(rt; pass_on(&mut source, &mut sink), Some(3));
-        assert_eq!(rt; pass_on(&mut source, &mut sink), Some(2));
-        assert_eq!(rt; pass_on(&mut source, &mut sink), None);
+        for count in [Some(3), Some(2), None] {
+            assert_eq!(rt; pass_on(&mut source, &mut sink), count);
+        }
         assert_eq!(rt; sink.bytes(), b"abcde".as_slice());
         Ok(())
     }

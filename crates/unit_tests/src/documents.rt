@@ -60,11 +60,17 @@ fn different_words(alloc: Global, count: u32) -> Option<Vec<Word>> {
     Some(words)
 }
 
-/// Document 3 of the words `b` and `a`, then document 9 of `a` and `c`.
-fn two_documents(alloc: Global) -> Option<Docs> {
+/// One document more, of this identifier and these texts as words.
+fn push(alloc: Global, docs: &mut Docs, id: u64, texts: &[&[u8]]) -> Option<()> {
+    docs.push(doc(alloc, id, texts)?).ok()
+}
+
+/// The documents of these identifiers and texts.
+fn docs_of(alloc: Global, rows: &[(u64, &[&[u8]])]) -> Option<Docs> {
     let mut docs = Docs::new(alloc, HashKeys::new(3, 5));
-    docs.push(doc(alloc, 3, &[b"b", b"a"])?).ok()?;
-    docs.push(doc(alloc, 9, &[b"a", b"c"])?).ok()?;
+    for (id, texts) in rows {
+        push(alloc, &mut docs, *id, *texts)?;
+    }
     Some(docs)
 }
 
@@ -99,25 +105,45 @@ fn numbered(docs: &Docs, number: usize) -> Option<(&[u8], u32)> {
     }
 }
 
+/// The numbers of the words of a document.
+fn numbers_at(docs: &Docs, place: usize) -> Option<&[u32]> {
+    if place < docs.len() {
+        Some(docs.get(place).numbers)
+    } else {
+        None
+    }
+}
+
+/// The first four words by their numbers, and the numbers of the first three documents.
+fn numbering(docs: &Docs) -> ([Option<(&[u8], u32)>; 4], [Option<&[u32]>; 3]) {
+    let words = [
+        numbered(docs, 0),
+        numbered(docs, 1),
+        numbered(docs, 2),
+        numbered(docs, 3),
+    ];
+    let numbers = [
+        numbers_at(docs, 0),
+        numbers_at(docs, 1),
+        numbers_at(docs, 2),
+    ];
+    (words, numbers)
+}
+
 /// Three words in two documents, with the length of each list.
 #[test]
 fn words_are_numbered_by_first_appearance(rt: HostRuntime) -> Result<(), Fail> {
-    let docs = two_documents(rt.alloc()).ok_or("no documents")?;
-    assert_eq!(rt; docs.words(), 3);
-    assert_eq!(rt; numbered(&docs, 0), Some((b"b".as_slice(), 1)));
-    assert_eq!(rt; numbered(&docs, 1), Some((b"a".as_slice(), 2)));
-    assert_eq!(rt; numbered(&docs, 2), Some((b"c".as_slice(), 1)));
-    assert_eq!(rt; docs.len(), 2);
-    assert_eq!(rt; docs.get(0).numbers, [0, 1].as_slice());
-    assert_eq!(rt; docs.get(1).numbers, [1, 2].as_slice());
+    let rows: [(u64, &[&[u8]]); 2] = [(3, &[b"b", b"a"]), (9, &[b"a", b"c"])];
+    let docs = docs_of(rt.alloc(), &rows).ok_or("no documents")?;
+    let words: [Option<(&[u8], u32)>; 4] = [
+        Some((b"b", 1)),
+        Some((b"a", 2)),
+        Some((b"c", 1)),
+        None,
+    ];
+    let numbers: [Option<&[u32]>; 3] = [Some(&[0, 1]), Some(&[1, 2]), None];
+    assert_eq!(rt; numbering(&docs), (words, numbers));
     Ok(())
-}
-
-/// Document 1 of the word `a`.
-fn one_document(alloc: Global) -> Option<Docs> {
-    let mut docs = Docs::new(alloc, HashKeys::new(3, 5));
-    docs.push(doc(alloc, 1, &[b"a"])?).ok()?;
-    Some(docs)
 }
 
 /// Adds the document, where none of its counters is at its end.
@@ -129,12 +155,17 @@ fn add(registry: &mut Registry, doc: Doc) -> Option<()> {
     }
 }
 
-/// Document 5 is added, deleted, and added again with a new word before the one that it had.
-fn added_again(alloc: Global, id: DocId) -> Option<Registry> {
-    let mut registry = Registry::from_docs(one_document(alloc)?);
-    add(&mut registry, doc(alloc, 5, &[b"a"])?)?;
+/// Document 5 of the word `a` is added, deleted, and added again with a new word before the one that it had.
+fn add_again(alloc: Global, registry: &mut Registry, id: DocId) -> Option<()> {
+    add(registry, doc(alloc, 5, &[b"a"])?)?;
     registry.delete(id).ok()?;
-    add(&mut registry, doc(alloc, 5, &[b"c", b"a"])?)?;
+    add(registry, doc(alloc, 5, &[b"c", b"a"])?)
+}
+
+/// Document 1 of the word `a`, and then that.
+fn added_again(alloc: Global, id: DocId) -> Option<Registry> {
+    let mut registry = Registry::from_docs(docs_of(alloc, &[(1, &[b"a"])])?);
+    add_again(alloc, &mut registry, id)?;
     Some(registry)
 }
 
@@ -144,15 +175,22 @@ fn listed(registry: &Registry, text: &[u8], id: DocId) -> Option<(u32, bool)> {
     Some((registry.counter(&word), registry.is_listed(&word, id)))
 }
 
+/// What is listed with document 5: its counter and whether it is, of the words `a`, `c` and `z`, and the numbers of its words.
+fn listings(registry: &Registry, id: DocId) -> ([Option<(u32, bool)>; 3], Option<&[u32]>) {
+    let words = [
+        listed(registry, b"a", id),
+        listed(registry, b"c", id),
+        listed(registry, b"z", id),
+    ];
+    (words, registry.get(id).map(|doc| doc.numbers))
+}
+
 /// Each pair is counted at its first addition.
 #[test]
 fn a_pair_is_counted_once(rt: HostRuntime) -> Result<(), Fail> {
     let id = DocId::new(5).ok().ok_or("no identifier")?;
     let registry = added_again(rt.alloc(), id).ok_or("no registry")?;
-    assert_eq!(rt; listed(&registry, b"a", id), Some((1, true)));
-    assert_eq!(rt; listed(&registry, b"c", id), Some((1, true)));
-    assert_eq!(rt; listed(&registry, b"z", id), Some((0, false)));
-    let numbers = registry.get(id).map(|doc| doc.numbers);
-    assert_eq!(rt; numbers, Some([1, 0].as_slice()));
+    let words = [Some((1, true)), Some((1, true)), Some((0, false))];
+    assert_eq!(rt; listings(&registry, id), (words, Some([1, 0].as_slice())));
     Ok(())
 }

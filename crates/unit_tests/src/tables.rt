@@ -14,10 +14,8 @@ fn is_piece(found: Option<&[u8]>, wanted: &[u8]) -> bool {
     }
 }
 
-/// Each call through the bound: what was put in is there, each refusal comes, and nothing is left behind `clear`.
-fn keeps_what_it_is_given<T: Tables>(rt: &impl Abort, tables: &mut T) -> Result<(), Fail> {
-    tables.reserve(2, 3, 1, 4, 1, 1)?;
-
+/// Two cells, and none under a label that is taken or was never put in.
+fn keeps_entries<T: Tables>(rt: &impl Abort, tables: &mut T) {
     assert_eq!(rt; tables.put_entry(&B, b"bcd"), Ok(()));
     assert_eq!(rt; tables.put_entry(&A, b"a"), Ok(()));
     assert_eq!(rt; tables.put_entry(&B, b"x"), Err(TableFault::Taken));
@@ -25,20 +23,30 @@ fn keeps_what_it_is_given<T: Tables>(rt: &impl Abort, tables: &mut T) -> Result<
     assert!(rt; is_piece(tables.entry(&B), b"bcd"));
     assert!(rt; tables.entry(&[3; 16]).is_none());
     assert_eq!(rt; tables.entry_len(), 2);
+}
 
+/// Two blocks, one of them without bytes.
+fn keeps_blocks<T: Tables>(rt: &impl Abort, tables: &mut T) -> Result<(), Fail> {
     tables.push_block(b"wxyz")?;
     tables.push_block(b"")?;
     assert!(rt; is_piece(tables.block(0), b"wxyz"));
     assert!(rt; is_piece(tables.block(1), b""));
     assert!(rt; tables.block(2).is_none());
     assert_eq!(rt; tables.block_len(), 2);
+    Ok(())
+}
 
+/// An addition, and no other under its label.
+fn keeps_additions<T: Tables>(rt: &impl Abort, tables: &mut T) {
     assert_eq!(rt; tables.put_plus(&A, b"addition"), Ok(()));
     assert_eq!(rt; tables.put_plus(&A, b"another1"), Err(TableFault::Taken));
     assert_eq!(rt; tables.plus(&A), Some(*b"addition"));
     assert_eq!(rt; tables.plus(&B), None);
     assert_eq!(rt; tables.plus_len(), 1);
+}
 
+/// A revocation number, which is then given back.
+fn keeps_numbers<T: Tables>(rt: &impl Abort, tables: &mut T) {
     assert_eq!(rt; tables.revoke(&B), Ok(()));
     assert_eq!(rt; tables.revoke(&B), Err(TableFault::Taken));
     assert!(rt; tables.is_revoked(&B));
@@ -48,11 +56,24 @@ fn keeps_what_it_is_given<T: Tables>(rt: &impl Abort, tables: &mut T) -> Result<
     assert_eq!(rt; tables.restore(&B), Ok(()));
     assert!(rt; !tables.is_revoked(&B));
     assert!(rt; tables.revokes_none());
+}
 
+/// Nothing is left behind `clear`.
+fn keeps_nothing<T: Tables>(rt: &impl Abort, tables: &mut T) {
     tables.clear();
     assert!(rt; tables.entry(&A).is_none());
     assert!(rt; tables.block(0).is_none());
     assert_eq!(rt; tables.plus(&A), None);
+}
+
+/// Each call through the bound: what was put in is there, and each refusal comes.
+fn keeps_what_it_is_given<T: Tables>(rt: &impl Abort, tables: &mut T) -> Result<(), Fail> {
+    tables.reserve(2, 3, 1, 4, 1, 1)?;
+    keeps_entries(rt, tables);
+    keeps_blocks(rt, tables)?;
+    keeps_additions(rt, tables);
+    keeps_numbers(rt, tables);
+    keeps_nothing(rt, tables);
     Ok(())
 }
 

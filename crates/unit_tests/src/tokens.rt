@@ -16,34 +16,46 @@ const PLUS_LABEL: &[u8; 16] = b"\xc4\x4a\xa9\x8f\xe4\x8d\xe7\xfa\x68\x75\x27\x93
 const REVOCATION: &[u8; 16] = b"\x58\x52\x50\xcd\x96\x71\x4a\x50\x1a\xce\xe6\x13\xfa\x37\x73\xb4";
 
 /// The bytes 1 to 8, under the pad of the cell, of block 65,537 and of addition 4,294,967,294.
-const OPENED: [&[u8; 8]; 3] = [
-    b"\x68\xdd\x6d\xf0\x7d\x44\x45\x49",
-    b"\xc8\x70\x9d\x64\x9b\x51\x62\x8e",
-    b"\xbb\x68\x31\x44\x09\xfa\x27\xf3",
+const OPENED: [[u8; 8]; 3] = [
+    *b"\x68\xdd\x6d\xf0\x7d\x44\x45\x49",
+    *b"\xc8\x70\x9d\x64\x9b\x51\x62\x8e",
+    *b"\xbb\x68\x31\x44\x09\xfa\x27\xf3",
 ];
+
+/// The labels and the revocation number, by the token and by what it prepares for many.
+fn labels(token: &Token) -> [[u8; 16]; 5] {
+    [
+        token.list_label(&Real),
+        token.plus_label(&Real, 4294967294),
+        token.plus_labels(&Real).label(&Real, 4294967294),
+        token.revocation(&Real, u64::MAX),
+        token.revocations(&Real).number(&Real, u64::MAX),
+    ]
+}
+
+/// The bytes 1 to 8, opened as a cell, as a block and as an addition.
+fn opened(token: &Token) -> [[u8; 8]; 3] {
+    let [mut cell, mut block, mut addition] = [[1, 2, 3, 4, 5, 6, 7, 8]; 3];
+    token.open_cell(&Real, &mut cell);
+    token.open_block(&Real, 65537, &mut block);
+    token.open_plus(&Real, 4294967294, &mut addition);
+    [cell, block, addition]
+}
 
 /// Each call of a token once, and its bytes read and written.
 #[test]
 fn calls_of_a_token(rt: HostRuntime) {
     let token = Token::from_bytes(TOKEN);
     assert_eq!(rt; token.to_bytes(), *TOKEN);
-    assert_eq!(rt; token.list_label(&Real), *LIST_LABEL);
-    assert_eq!(rt; token.plus_label(&Real, 4294967294), *PLUS_LABEL);
     assert_eq!(rt;
-        token.plus_labels(&Real).label(&Real, 4294967294),
-        *PLUS_LABEL
+        labels(&token),
+        [
+            *LIST_LABEL,
+            *PLUS_LABEL,
+            *PLUS_LABEL,
+            *REVOCATION,
+            *REVOCATION
+        ]
     );
-    assert_eq!(rt; token.revocation(&Real, 18446744073709551615), *REVOCATION);
-    let revocations = token.revocations(&Real);
-    assert_eq!(rt;
-        revocations.number(&Real, 18446744073709551615),
-        *REVOCATION
-    );
-    let [mut cell, mut block, mut addition] = [[1, 2, 3, 4, 5, 6, 7, 8]; 3];
-    token.open_cell(&Real, &mut cell);
-    token.open_block(&Real, 65537, &mut block);
-    token.open_plus(&Real, 4294967294, &mut addition);
-    assert_eq!(rt; cell, *OPENED[0]);
-    assert_eq!(rt; block, *OPENED[1]);
-    assert_eq!(rt; addition, *OPENED[2]);
+    assert_eq!(rt; opened(&token), OPENED);
 }

@@ -1,3 +1,4 @@
+use Rattle.std.proofs.lemmas.Grind.{common_steps}
 use Rattle.std.proofs.Common.{◌≡◌, ◌*◌, ◌-◌, ◌%◌, length, take, Some, sym, ap, ◌∙◌, arith}
 use Rattle.std.specs.Prelude.{option_and_then}
 use Rattle.std.proofs.lemmas.List.{take-append-le}
@@ -41,3 +42,9 @@ returns-clause-front g c =
     ∙ ap (λ n. Some (take n (numbers_of clear))) (sym c.from.ensures)
     ∙ ap (λ ns. Some ns) (sym (numbers_of-take clear c.from.result whole (omega (arith, c.from.ensures, c.in-Ok.ensures.within))))
     ∙ ap (λ text. Some (numbers_of text)) (sym front)
+
+pub read_block-requires-clause-size : goal.read_block-requires-clause-size
+read_block-requires-clause-size g c = grind (arith, common_steps)
+
+pub returns-clause-within : goal.returns-clause-within
+returns-clause-within g c = grind (arith, common_steps)

@@ -1,3 +1,4 @@
+use Rattle.std.proofs.lemmas.Grind.{common_steps}
 use Rattle.std.proofs.Common.{◌≡◌, ◌%◌, List, ◌∷◌, length, None, sym, ap, subst, ◌∙◌, arith}
 use Rattle.sse_frames.specs.Frames.{Entry, Rises, labels_of}
 use Rattle.sse_frames.specs.FrameViews.{entries_in}
@@ -35,3 +36,6 @@ loop-label-preserved g c =
         numbers = ap (λ n. n % 8) size ∙ c.requires.numbers;
       }));
     }
+
+pub unwrap-requires : goal.unwrap-requires
+unwrap-requires g c = grind (arith, common_steps)

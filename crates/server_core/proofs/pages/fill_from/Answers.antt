@@ -1,3 +1,4 @@
+use Rattle.std.proofs.lemmas.Grind.{common_steps}
 use Rattle.std.proofs.Common.{◌≡◌, ℕ, Bool, not, ◌+◌, ◌-◌, ◌<◌, ◌≤◌, ◌++◌, length, get_or, [], take, drop, true, Some, sym, ap, subst, ◌∙◌, arith}
 use Rattle.std.specs.Prelude.{MatchOption}
 use Rattle.std.specs.FinSet as set
@@ -89,3 +90,12 @@ loop-numbers-preserved g c =
       range = place.1.in_range;
       kept = c.in_ok-place.ensures.kept;
     }
+
+pub loop-numbers-init : goal.loop-numbers-init
+loop-numbers-init g c = grind (arith, common_steps)
+
+pub returns-in_err-place-clause-over : goal.returns-in_err-place-clause-over
+returns-in_err-place-clause-over g c = grind (arith, common_steps)
+
+pub returns-clause-over : goal.returns-clause-over
+returns-clause-over g c = grind (arith, common_steps)

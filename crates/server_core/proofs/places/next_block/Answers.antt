@@ -1,3 +1,4 @@
+use Rattle.std.proofs.lemmas.Grind.{common_steps}
 use Rattle.std.proofs.Common.{◌≡◌, ◌+◌, ◌-◌, ◌≤◌, length, take, drop, sym, ap, ◌∙◌, arith}
 use Rattle.std.specs.Prelude.{option_and_then}
 use Rattle.std.proofs.lemmas.List.{length-take-le}
@@ -31,3 +32,6 @@ returns-clause-place g c =
       in_range = (more, omega (arith, c.requires.range.1), omega (arith, c.requires.range.2, c.requires.range.1, past, long));
       nearer = omega (arith, more, c.requires.range.1, past, long);
     }
+
+pub returns-then-group-clause-place : goal.returns-then-group-clause-place
+returns-then-group-clause-place g c = grind (arith, common_steps)

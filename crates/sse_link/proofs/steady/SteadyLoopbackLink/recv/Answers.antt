@@ -1,4 +1,5 @@
-use Rattle.std.proofs.Common.{◌≡◌, true, not, [], ◌∷◌, ◌++◌, map, take, subst, sym, ◌∙◌}
+use Rattle.std.proofs.lemmas.Grind.{common_steps}
+use Rattle.std.proofs.Common.{◌≡◌, true, not, [], ◌∷◌, ◌++◌, map, take, subst, sym, ◌∙◌, arith}
 use Rattle.std.specs.Prelude.{IsTrue, ◌↔◌, None}
 use Rattle.keyed_fn.specs.KeyedFn.{keyed_fn}
 use Rattle.sse_frames.specs.Replies.{reply_bytes}
@@ -57,3 +58,9 @@ returns-clause-due_after g c =
     let next = c.behind_first-self-inside in
     let reply = take c.write_first-n.result c.write_first-n.new.out in
     subst (λ b. IsTrue b ↔ IsOpenPage reply) (sym (is_more-waiting f inside.server.state inside.due next.result next.new.page next.ensures.waits)) c.write_first-n.ensures.open
+
+pub returns-in_err-reply-clause-one_reply : goal.returns-in_err-reply-clause-one_reply
+returns-in_err-reply-clause-one_reply g c = grind (arith, common_steps)
+
+pub returns-in_err-reply-clause-err : goal.returns-in_err-reply-clause-err
+returns-in_err-reply-clause-err g c = grind (arith, common_steps)

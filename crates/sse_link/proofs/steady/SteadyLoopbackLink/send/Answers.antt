@@ -1,4 +1,5 @@
-use Rattle.std.proofs.Common.{◌≡◌, [], ◌∷◌, ◌++◌, subst, sym, ◌∙◌}
+use Rattle.std.proofs.lemmas.Grind.{common_steps}
+use Rattle.std.proofs.Common.{◌≡◌, [], ◌∷◌, ◌++◌, subst, sym, ◌∙◌, arith}
 use Rattle.keyed_fn.specs.KeyedFn.{keyed_fn}
 use Rattle.link_events.specs.Events.{Sent}
 use Rattle.sse_link.specs.Marks.{mark_of}
@@ -21,3 +22,6 @@ invariant_of-self-2 g c =
           c.args.frame.now c.self.invariant.telling c.requires.frame answer.ensures.due (answer.ensures.frame c.requires.frame));
       no_fault = answer.ensures.no_fault;
     }
+
+pub returns-clause-waits : goal.returns-clause-waits
+returns-clause-waits g c = grind (arith, common_steps)
