@@ -17,28 +17,49 @@ const ONE_ENTRY: &[u8] = b"\x00\x01\x00\x00";
 /// Adds an identifier to each of 10,000 words, then additions of other words until there are so many, and searches so
 /// often, for one of the words after another. How many were found in all, modulo 2^64.
 pub(crate) fn search(alloc: Global, additions: u64, turns: u64) -> Result<u64, AllocError> {
-    let mut page = [0u64; PAGE];
     let mut server = Server::new(BucketTables::new(alloc));
-    set_up(alloc, &token(WORDS), SHORT, &mut server, &mut page)?;
+    search_in(alloc, &mut server, additions, turns)
+}
+
+/// The same in a server that has taken nothing.
+fn search_in(
+    alloc: Global,
+    server: &mut Server<BucketTables>,
+    additions: u64,
+    turns: u64,
+) -> Result<u64, AllocError> {
+    let mut page = [0u64; PAGE];
+    set_up(alloc, &token(WORDS), SHORT, server, &mut page)?;
     let mut bytes = Vec::new(alloc);
     for number in 0..additions {
-        let (label, sealed) = entry(number);
-        bytes.clear();
-        bytes.extend_from_slice(ADD)?;
-        bytes.extend_from_slice(&server.next().to_be_bytes())?;
-        bytes.extend_from_slice(ONE_ENTRY)?;
-        bytes.extend_from_slice(&label)?;
-        bytes.extend_from_slice(&sealed)?;
-        hand(&mut server, &bytes, &mut page);
+        add(&mut bytes, server, number, &mut page)?;
     }
     let mut sum = 0u64;
     for turn in 0..turns {
         bytes.clear();
         bytes.extend_from_slice(SEARCH)?;
         bytes.extend_from_slice(&token(turn % WORDS).to_bytes())?;
-        sum = sum.wrapping_add(find(&Real, &mut server, &bytes, &mut page));
+        sum = sum.wrapping_add(find(&Real, server, &bytes, &mut page));
     }
     Ok(sum)
+}
+
+/// Hands the server the addition of this number, in a frame of its own.
+fn add(
+    bytes: &mut Vec<u8>,
+    server: &mut Server<BucketTables>,
+    number: u64,
+    page: &mut [u64],
+) -> Result<(), AllocError> {
+    let (label, sealed) = entry(number);
+    bytes.clear();
+    bytes.extend_from_slice(ADD)?;
+    bytes.extend_from_slice(&server.next().to_be_bytes())?;
+    bytes.extend_from_slice(ONE_ENTRY)?;
+    bytes.extend_from_slice(&label)?;
+    bytes.extend_from_slice(&sealed)?;
+    hand(server, bytes, page);
+    Ok(())
 }
 
 /// The addition of this number: the first of a word, and after those of all words one that no search looks up.

@@ -4,7 +4,7 @@ use crate::{additions, searches};
 use keyed_fn::{Keyed, PreparedKey, Real, xor_pad};
 use server_tables::{BucketTables, SortedTables, TableFault};
 use sha2::{Digest, Sha256};
-use std::alloc::Global;
+use std::alloc::{AllocError, Global};
 
 /// Each row, with the word that names it.
 pub(crate) const ROWS: [(&str, Row); 20] = [
@@ -95,19 +95,26 @@ impl Row {
             Row::Prepared | Row::Raw | Row::Digests => Ok(self.hash(turns)),
             Row::ShortPads | Row::CellPads | Row::BlockPads => Ok(self.encrypt(turns)),
             Row::Sorted => fill(&mut SortedTables::new(alloc), Labels::Spread, turns),
-            Row::Buckets => fill(&mut BucketTables::new(alloc), Labels::Spread, turns),
-            Row::Alike => fill(&mut BucketTables::new(alloc), Labels::Alike, turns),
+            Row::Buckets => fill_buckets(alloc, Labels::Spread, turns),
+            Row::Alike => fill_buckets(alloc, Labels::Alike, turns),
             Row::Plain => Ok(fill_plain(alloc, Labels::Spread, turns)?),
-            Row::Searches => Ok(searches::search(alloc, SHORT, false, turns)?),
-            Row::Revoked => Ok(searches::search(alloc, SHORT, true, turns)?),
             Row::Calls => Ok(searches::calls(SHORT, false, turns)),
             Row::RevokedCalls => Ok(searches::calls(SHORT, true, turns)),
-            Row::Pages => Ok(searches::search(alloc, LONG, false, turns)?),
-            Row::RevokedPages => Ok(searches::search(alloc, LONG, true, turns)?),
             Row::PageCalls => Ok(searches::calls(LONG, false, turns)),
             Row::RevokedPageCalls => Ok(searches::calls(LONG, true, turns)),
-            Row::BehindFew => Ok(additions::search(alloc, 10_000, turns)?),
-            Row::BehindMany => Ok(additions::search(alloc, 1_000_000, turns)?),
+            _ => Ok(self.search(alloc, turns)?),
+        }
+    }
+
+    /// So many searches; how many were found in all, modulo 2^64.
+    fn search(self, alloc: Global, turns: u64) -> Result<u64, AllocError> {
+        match self {
+            Row::BehindFew => additions::search(alloc, 10_000, turns),
+            Row::BehindMany => additions::search(alloc, 1_000_000, turns),
+            Row::Revoked => searches::search(alloc, SHORT, true, turns),
+            Row::Pages => searches::search(alloc, LONG, false, turns),
+            Row::RevokedPages => searches::search(alloc, LONG, true, turns),
+            _ => searches::search(alloc, SHORT, false, turns),
         }
     }
 
@@ -143,4 +150,9 @@ impl Row {
             .wrapping_add(u64::from(cell[0]))
             .wrapping_add(u64::from(block[0]))
     }
+}
+
+/// Tables in buckets, filled with so many additions under such labels.
+fn fill_buckets(alloc: Global, labels: Labels, turns: u64) -> Result<u64, TableFault> {
+    fill(&mut BucketTables::new(alloc), labels, turns)
 }

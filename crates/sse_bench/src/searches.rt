@@ -17,7 +17,7 @@ pub(crate) const PAGE: usize = 8192;
 const MOST_PAGES: u32 = 1 << 20;
 
 /// A list: how many blocks of identifiers it has, and how many blocks of pointers to those, or none.
-#[derive(Debug, Clone, Copy, PartialEq, Eq)]
+#[derive(Clone, Copy)]
 pub(crate) struct List {
     data: u32,
     tops: u32,
@@ -57,19 +57,30 @@ pub(crate) fn search(
     some_revoked: bool,
     turns: u64,
 ) -> Result<u64, AllocError> {
+    let mut server = Server::new(BucketTables::new(alloc));
+    search_in(alloc, &mut server, list, some_revoked, turns)
+}
+
+/// The same in a server that has taken nothing.
+fn search_in(
+    alloc: Global,
+    server: &mut Server<BucketTables>,
+    list: List,
+    some_revoked: bool,
+    turns: u64,
+) -> Result<u64, AllocError> {
     let token = token();
     let mut page = [0u64; PAGE];
-    let mut server = Server::new(BucketTables::new(alloc));
-    set_up(alloc, &token, list, &mut server, &mut page)?;
+    set_up(alloc, &token, list, server, &mut page)?;
     if some_revoked {
-        revoke(alloc, &token, list, &mut server, &mut page)?;
+        revoke(alloc, &token, list, server, &mut page)?;
     }
     let mut bytes = Vec::new(alloc);
     bytes.extend_from_slice(SEARCH)?;
     bytes.extend_from_slice(&token.to_bytes())?;
     let mut sum = 0u64;
     for _ in 0..turns {
-        sum = sum.wrapping_add(find(&Real, &mut server, &bytes, &mut page));
+        sum = sum.wrapping_add(find(&Real, server, &bytes, &mut page));
     }
     Ok(sum)
 }

@@ -3,7 +3,7 @@ use std::alloc::{AllocError, Global};
 use std::collections::HashMap;
 
 /// How the labels of a row begin.
-#[derive(Debug, Clone, Copy, PartialEq, Eq)]
+#[derive(Clone, Copy)]
 pub(crate) enum Labels {
     /// With any bytes.
     Spread,
