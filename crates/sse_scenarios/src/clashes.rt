@@ -1,4 +1,4 @@
-use crate::running::{row_of, run_over};
+use crate::running::row_over;
 use keyed_fn::Toy;
 use server_core::Server;
 use server_tables::BucketTables;
@@ -86,12 +86,21 @@ stopped: clash 2 at 0
 12 passed
 ";
 
-/// A script over a link that never fails, as a row.
+/// A row, and how much passed.
+fn and_passed(
+    alloc: Global,
+    row: Result<String, AllocError>,
+    passed: usize,
+) -> Result<String, AllocError> {
+    let row = row?;
+    format!(in alloc; "{row}{passed} passed\n")
+}
+
+/// A script over a link that never fails, as a row, and how much passed.
 fn row(alloc: Global, name: &str, script: &[u8]) -> Result<String, AllocError> {
     let mut link = SteadyLoopback::new(alloc, Toy, Server::new(BucketTables::new(alloc)));
-    let ended = run_over(alloc, &Toy, &mut link, script, &[], &[])?;
-    let row = row_of(alloc, name, &ended)?;
-    format!(in alloc; "{row}{} passed\n", link.transcript().len())
+    let row = row_over(alloc, &Toy, &mut link, name, script);
+    and_passed(alloc, row, link.transcript().len())
 }
 
 /// Each row ends with 8.

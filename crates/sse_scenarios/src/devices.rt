@@ -1,4 +1,4 @@
-use crate::running::{SCRIPT, row_of, run_over};
+use crate::running::{Ended, SCRIPT, row_of, run_over};
 use keyed_fn::Real;
 use memory_disk::MemDisk;
 use server_tables::BucketTables;
@@ -53,20 +53,29 @@ set up 2 words 0 blocks
 stopped: link
 ";
 
-/// A link to a store that has taken nothing, of which these calls fail, and these of its disk; none where it isn't started.
-fn failing_link(
+/// The script over a link to a store that has taken nothing, where these calls of the source, the sink, the link and the store's disk
+/// fail.
+fn run_with(
     alloc: Global,
-    fails: Vec<FailingCall>,
+    source: &[u64],
+    sink: &[u64],
+    link: Vec<FailingCall>,
     disk: Vec<u64>,
-) -> Option<Loopback<Real, BucketTables, MemDisk>> {
+) -> Result<Ended, AllocError> {
     let mut disk = MemDisk::new(alloc, disk);
     match Store::start(alloc, BucketTables::new(alloc), &mut disk) {
-        Ok(store) => Some(Loopback::new(alloc, Real, store, disk, fails)),
-        Err(_) => None,
+        Ok(store) => {
+            let mut link = Loopback::new(alloc, Real, store, disk, link);
+            run_over(alloc, &Real, &mut link, SCRIPT, source, sink)
+        }
+        Err(_) => Ok(Ended {
+            status: 0,
+            printed: Vec::from_slice(alloc, b"not started\n")?,
+        }),
     }
 }
 
-/// The script over devices and a link that fail at these calls, as a row.
+/// The same as a row.
 fn row(
     alloc: Global,
     name: &str,
@@ -75,11 +84,9 @@ fn row(
     link: &[FailingCall],
     disk: &[u64],
 ) -> Result<String, AllocError> {
-    let fails = Vec::from_slice(alloc, link)?;
-    let Some(mut link) = failing_link(alloc, fails, Vec::from_slice(alloc, disk)?) else {
-        return String::from_str(alloc, "not started\n");
-    };
-    let ended = run_over(alloc, &Real, &mut link, SCRIPT, source, sink)?;
+    let link = Vec::from_slice(alloc, link)?;
+    let disk = Vec::from_slice(alloc, disk)?;
+    let ended = run_with(alloc, source, sink, link, disk)?;
     row_of(alloc, name, &ended)
 }
 

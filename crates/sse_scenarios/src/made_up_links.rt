@@ -1,4 +1,4 @@
-use crate::running::{SCRIPT, row_of, run_over};
+use crate::running::{SCRIPT, row_over};
 use keyed_fn::Real;
 use sse_link::ScriptedLink;
 use std::alloc::{AllocError, Global};
@@ -169,8 +169,7 @@ fn row(
     let mut replies = Vec::from_slice(alloc, front)?;
     replies.extend_from_slice(last)?;
     let mut link = ScriptedLink::new(alloc, replies);
-    let ended = run_over(alloc, &Real, &mut link, script, &[], &[])?;
-    row_of(alloc, name, &ended)
+    row_over(alloc, &Real, &mut link, name, script)
 }
 
 /// Two scripts over links that play back what no server sent.

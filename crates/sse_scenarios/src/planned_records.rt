@@ -196,24 +196,55 @@ fn delete(
     }
 }
 
+/// The client of this key once its setup is acknowledged.
+fn set_up(alloc: Global, kept: &mut Kept, key: MasterKey) -> Option<Client<Ready>>
+    ensures { IfSome result (λ ready. ready.key ≡ key) }
+{
+    let client = planned_setup(alloc, kept, key)?;
+    let client = sent(client, TOOK[0])?;
+    let client = sent(client, TOOK[1])?;
+    acknowledged(client, TOOK[2])
+}
+
+/// A document is added, another one of its identifier isn't.
+fn add_once(
+    alloc: Global,
+    master: &PreparedMaster<Toy>,
+    kept: &mut Kept,
+    client: Client<Ready>,
+) -> Option<Client<Ready>>
+    requires { master.now ≡ client.key }
+    ensures { IfSome result (λ ready. ready.key ≡ client.key) }
+{
+    let doc = document(alloc, 300, &["é".as_bytes(), b"b"])?;
+    let client = add(alloc, master, kept, client, "add 300", doc, TOOK[3])?;
+    let doc = document(alloc, 300, &[b"x"])?;
+    add(alloc, master, kept, client, "add 300", doc, TOOK[4])
+}
+
+/// A document is deleted, can't be deleted once more, and is added again.
+fn add_again(
+    alloc: Global,
+    master: &PreparedMaster<Toy>,
+    kept: &mut Kept,
+    client: Client<Ready>,
+) -> Option<()>
+    requires { master.now ≡ client.key }
+{
+    let five = DocId::new(5).ok()?;
+    let client = delete(alloc, master, kept, client, "delete 5", five, TOOK[4])?;
+    let client = delete(alloc, master, kept, client, "delete 5", five, TOOK[5])?;
+    let doc = document(alloc, 5, &[b"b", b"a"])?;
+    add(alloc, master, kept, client, "add 5", doc, TOOK[5]).map(|_| ())
+}
+
 /// Each command in turn.
 fn carry_out(alloc: Global, kept: &mut Kept) -> Option<()> {
     let key = MasterKey::new(KEY);
     let master = key.prepare(&Toy);
-    let five = DocId::new(5).ok()?;
-    let client = planned_setup(alloc, kept, key)?;
-    let client = sent(client, TOOK[0])?;
-    let client = sent(client, TOOK[1])?;
-    let client = acknowledged(client, TOOK[2])?;
-    let doc = document(alloc, 300, &["é".as_bytes(), b"b"])?;
-    let client = add(alloc, &master, kept, client, "add 300", doc, TOOK[3])?;
-    let doc = document(alloc, 300, &[b"x"])?;
-    let client = add(alloc, &master, kept, client, "add 300", doc, TOOK[4])?;
-    let client = delete(alloc, &master, kept, client, "delete 5", five, TOOK[4])?;
-    let client = delete(alloc, &master, kept, client, "delete 5", five, TOOK[5])?;
-    let doc = document(alloc, 5, &[b"b", b"a"])?;
-    add(alloc, &master, kept, client, "add 5", doc, TOOK[5])?;
-    Some(())
+    let client = set_up(alloc, kept, key)?;
+    let client = add_once(alloc, &master, kept, client)?;
+    add_again(alloc, &master, kept, client)
 }
 
 /// The rows of all commands.

@@ -36,7 +36,7 @@ found 2: 7 9
 /// What a script prints over a link that never fails.
 fn printed(alloc: Global, script: &[u8]) -> Result<Vec<u8>, AllocError> {
     let mut link = SteadyLoopback::new(alloc, Real, Server::new(BucketTables::new(alloc)));
-    Ok(run_over(alloc, &Real, &mut link, script, &[], &[])?.printed)
+    run_over(alloc, &Real, &mut link, script, &[], &[]).map(|ended| ended.printed)
 }
 
 /// How many documents have the one word, and how many identifiers a cell and a block have.

@@ -31,26 +31,46 @@ pub(crate) fn run_over<K: Keyed, L: Link>(
     sink_fails: &[u64],
 ) -> Result<Ended, AllocError> {
     let bytes = Vec::from_slice(alloc, script)?;
-    let mut source = MemSource::new(bytes, Vec::from_slice(alloc, source_fails)?);
-    let mut sink = MemSink::new(alloc, Vec::from_slice(alloc, sink_fails)?);
+    let source_fails = Vec::from_slice(alloc, source_fails)?;
+    let sink_fails = Vec::from_slice(alloc, sink_fails)?;
+    let mut source = MemSource::new(bytes, source_fails);
+    let mut sink = MemSink::new(alloc, sink_fails);
+    let status = run(alloc, keyed, link, &mut source, &mut sink);
+    let printed = Vec::from_slice(alloc, sink.bytes());
+    Ok(Ended {
+        status: status?,
+        printed: printed?,
+    })
+}
+
+/// The status of `run` over these devices.
+fn run<K: Keyed, L: Link>(
+    alloc: Global,
+    keyed: &K,
+    link: &mut L,
+    source: &mut MemSource,
+    sink: &mut MemSink,
+) -> Result<u8, AllocError> {
     let words = vec![in alloc; String::from_str(alloc, "run")?]?;
-    let status = sse_run(
-        alloc,
-        &words,
-        keyed,
-        link,
-        &mut NoRecords,
-        &mut source,
-        &mut sink,
-    );
-    let printed = Vec::from_slice(alloc, sink.bytes())?;
-    Ok(Ended { status, printed })
+    Ok(sse_run(alloc, &words, keyed, link, &mut NoRecords, source, sink))
 }
 
 /// A run as a row of a table: its name, its status, and the lines that it printed.
 pub(crate) fn row_of(alloc: Global, name: &str, ended: &Ended) -> Result<String, AllocError> {
     let lines = str::from_utf8(&ended.printed).unwrap_or("no text\n");
     format!(in alloc; "{name}: {}\n{lines}", ended.status)
+}
+
+/// A script over a link whose source and sink never fail, as a row.
+pub(crate) fn row_over<K: Keyed, L: Link>(
+    alloc: Global,
+    keyed: &K,
+    link: &mut L,
+    name: &str,
+    script: &[u8],
+) -> Result<String, AllocError> {
+    let ended = run_over(alloc, keyed, link, script, &[], &[])?;
+    row_of(alloc, name, &ended)
 }
 
 /// What passed, as a line: which way, and the bytes in hexadecimal digits.

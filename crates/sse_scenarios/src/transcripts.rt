@@ -1,9 +1,9 @@
-use crate::running::{SCRIPT, lines_of, run_over};
+use crate::running::{Ended, SCRIPT, lines_of, run_over};
 use crate::worked_example::{TRANSCRIPT, UPDATES, UPDATES_TRANSCRIPT};
 use keyed_fn::{Keyed, Real, Toy};
 use server_core::Server;
 use server_tables::BucketTables;
-use sse_link::SteadyLoopback;
+use sse_link::{Passed, SteadyLoopback};
 use std::alloc::{AllocError, Global};
 use std::test::Fail;
 
@@ -154,22 +154,21 @@ const BY_THE_TOY_FUNCTION: [(&[u8], usize, &str); 4] = [
     (TOY_DELETION, 8, TOY_DELETION_TRANSCRIPT),
 ];
 
-/// What passes after the first events while a script is run over a link that never fails, a line for each event.
-fn transcript<K: Keyed>(
+/// What passed after the first events, a line for each event, where the script was run.
+fn behind(
     alloc: Global,
-    keyed: &K,
-    link: &mut SteadyLoopback<K, BucketTables>,
-    script: &[u8],
+    ran: Result<Ended, AllocError>,
+    passed: &[Passed],
     before: usize,
 ) -> Result<String, AllocError> {
-    run_over(alloc, keyed, link, script, &[], &[])?;
-    match link.transcript().split_at_checked(before) {
+    ran?;
+    match passed.split_at_checked(before) {
         Some((_, behind)) => lines_of(alloc, behind),
         None => String::from_str(alloc, "less passed"),
     }
 }
 
-/// The same over a link to a new server.
+/// The same while a script is run over a link to a new server that never fails.
 fn transcript_of<K: Keyed + Copy>(
     alloc: Global,
     keyed: K,
@@ -177,7 +176,8 @@ fn transcript_of<K: Keyed + Copy>(
     before: usize,
 ) -> Result<String, AllocError> {
     let mut link = SteadyLoopback::new(alloc, keyed, Server::new(BucketTables::new(alloc)));
-    transcript(alloc, &keyed, &mut link, script, before)
+    let ran = run_over(alloc, &keyed, &mut link, script, &[], &[]);
+    behind(alloc, ran, link.transcript(), before)
 }
 
 /// Each row of both tables.
