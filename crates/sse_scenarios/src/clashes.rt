@@ -1,8 +1,5 @@
-use crate::running::row_over;
+use crate::running::{row_of, run_steadily};
 use keyed_fn::Toy;
-use server_core::Server;
-use server_tables::BucketTables;
-use sse_link::SteadyLoopback;
 use std::alloc::{AllocError, Global};
 use std::test::Fail;
 
@@ -86,21 +83,11 @@ stopped: clash 2 at 0
 12 passed
 ";
 
-/// A row, and how much passed.
-fn and_passed(
-    alloc: Global,
-    row: Result<String, AllocError>,
-    passed: usize,
-) -> Result<String, AllocError> {
-    let row = row?;
-    format!(in alloc; "{row}{passed} passed\n")
-}
-
 /// A script over a link that never fails, as a row, and how much passed.
 fn row(alloc: Global, name: &str, script: &[u8]) -> Result<String, AllocError> {
-    let mut link = SteadyLoopback::new(alloc, Toy, Server::new(BucketTables::new(alloc)));
-    let row = row_over(alloc, &Toy, &mut link, name, script);
-    and_passed(alloc, row, link.transcript().len())
+    let (ended, passed) = run_steadily(alloc, Toy, script)?;
+    let row = row_of(alloc, name, &ended)?;
+    format!(in alloc; "{row}{} passed\n", passed.as_str().lines().count())
 }
 
 /// Each row ends with 8.

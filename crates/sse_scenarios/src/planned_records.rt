@@ -102,12 +102,17 @@ fn document(alloc: Global, id: u64, words: &[&[u8]]) -> Option<Doc> {
     Doc::new(alloc, DocId::new(id).ok()?, read).ok()
 }
 
-/// The documents of the setup.
-fn documents(alloc: Global) -> Option<Docs> {
-    let mut docs = Docs::new(alloc, HashKeys::new(1, 2));
+/// The documents of the setup, one after the other.
+fn push_documents(alloc: Global, docs: &mut Docs) -> Option<()> {
     docs.push(document(alloc, 5, &[b"da", b"b"])?).ok()?;
     docs.push(document(alloc, 0x102, &[b"b"])?).ok()?;
-    docs.push(document(alloc, u64::MAX, &[])?).ok()?;
+    docs.push(document(alloc, u64::MAX, &[])?).ok()
+}
+
+/// The same together.
+fn documents(alloc: Global) -> Option<Docs> {
+    let mut docs = Docs::new(alloc, HashKeys::new(1, 2));
+    push_documents(alloc, &mut docs)?;
     Some(docs)
 }
 

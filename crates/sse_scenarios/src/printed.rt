@@ -1,8 +1,5 @@
-use crate::running::run_over;
+use crate::running::run_steadily;
 use keyed_fn::Real;
-use server_core::Server;
-use server_tables::BucketTables;
-use sse_link::SteadyLoopback;
 use std::alloc::{AllocError, Global};
 use std::test::Fail;
 
@@ -35,8 +32,8 @@ found 2: 7 9
 
 /// What a script prints over a link that never fails.
 fn printed(alloc: Global, script: &[u8]) -> Result<Vec<u8>, AllocError> {
-    let mut link = SteadyLoopback::new(alloc, Real, Server::new(BucketTables::new(alloc)));
-    run_over(alloc, &Real, &mut link, script, &[], &[]).map(|ended| ended.printed)
+    let (ended, _) = run_steadily(alloc, Real, script)?;
+    Ok(ended.printed)
 }
 
 /// How many documents have the one word, and how many identifiers a cell and a block have.

@@ -1,6 +1,8 @@
 use keyed_fn::Keyed;
+use server_core::Server;
+use server_tables::BucketTables;
 use sse_client::sse_run;
-use sse_link::{Link, Passed};
+use sse_link::{Link, Passed, SteadyLoopback};
 use sse_outside::{MemSink, MemSource};
 use sse_recorder::NoRecords;
 use std::alloc::{AllocError, Global};
@@ -84,10 +86,31 @@ fn line_of(alloc: Global, passed: &Passed) -> Result<String, AllocError> {
 }
 
 /// All that passed, a line for each event.
-pub(crate) fn lines_of(alloc: Global, passed: &[Passed]) -> Result<String, AllocError> {
+fn lines_of(alloc: Global, passed: &[Passed]) -> Result<String, AllocError> {
     let mut lines = String::new(alloc);
     for event in passed {
         lines.push_str(line_of(alloc, event)?.as_str())?;
     }
     Ok(lines)
+}
+
+/// What a run ended with, with a line for each event that passed.
+fn and_lines(
+    alloc: Global,
+    ended: Result<Ended, AllocError>,
+    passed: &[Passed],
+) -> Result<(Ended, String), AllocError> {
+    Ok((ended?, lines_of(alloc, passed)?))
+}
+
+/// Runs a script over a link to a new server that never fails: what the run ended with, and a line for each event that passed. It alone
+/// owns such a link, since the proof of what a link leaves at its end is dear.
+pub(crate) fn run_steadily<K: Keyed + Copy>(
+    alloc: Global,
+    keyed: K,
+    script: &[u8],
+) -> Result<(Ended, String), AllocError> {
+    let mut link = SteadyLoopback::new(alloc, keyed, Server::new(BucketTables::new(alloc)));
+    let ended = run_over(alloc, &keyed, &mut link, script, &[], &[]);
+    and_lines(alloc, ended, link.transcript())
 }

@@ -1,9 +1,6 @@
-use crate::running::{Ended, SCRIPT, lines_of, run_over};
+use crate::running::{SCRIPT, run_steadily};
 use crate::worked_example::{TRANSCRIPT, UPDATES, UPDATES_TRANSCRIPT};
 use keyed_fn::{Keyed, Real, Toy};
-use server_core::Server;
-use server_tables::BucketTables;
-use sse_link::{Passed, SteadyLoopback};
 use std::alloc::{AllocError, Global};
 use std::test::Fail;
 
@@ -154,30 +151,25 @@ const BY_THE_TOY_FUNCTION: [(&[u8], usize, &str); 4] = [
     (TOY_DELETION, 8, TOY_DELETION_TRANSCRIPT),
 ];
 
-/// What passed after the first events, a line for each event, where the script was run.
-fn behind(
-    alloc: Global,
-    ran: Result<Ended, AllocError>,
-    passed: &[Passed],
-    before: usize,
-) -> Result<String, AllocError> {
-    ran?;
-    match passed.split_at_checked(before) {
-        Some((_, behind)) => lines_of(alloc, behind),
-        None => String::from_str(alloc, "less passed"),
+/// The lines behind the first ones.
+fn behind(alloc: Global, lines: &str, before: usize) -> Result<String, AllocError> {
+    let mut behind = String::new(alloc);
+    for line in lines.lines().skip(before) {
+        behind.push_str(line)?;
+        behind.push_str("\n")?;
     }
+    Ok(behind)
 }
 
-/// The same while a script is run over a link to a new server that never fails.
+/// What passes after the first events while a script is run over a link that never fails, a line for each event.
 fn transcript_of<K: Keyed + Copy>(
     alloc: Global,
     keyed: K,
     script: &[u8],
     before: usize,
 ) -> Result<String, AllocError> {
-    let mut link = SteadyLoopback::new(alloc, keyed, Server::new(BucketTables::new(alloc)));
-    let ran = run_over(alloc, &keyed, &mut link, script, &[], &[]);
-    behind(alloc, ran, link.transcript(), before)
+    let (_, lines) = run_steadily(alloc, keyed, script)?;
+    behind(alloc, lines.as_str(), before)
 }
 
 /// Each row of both tables.
