@@ -207,7 +207,7 @@ mod tests {
         Ok(FileDisk::new(options.open(rt, name)?))
     }
 
-    /// Whether a new file is empty, takes two writes, a cut, a sync and a write more, and refuses a cut past its limit.
+    /// Whether a file takes two writes, a cut, a sync and a write more, and refuses a cut past its limit.
     fn is_written(disk: &mut FileDisk) -> bool {
         let answers = [
             disk.write_at(0, b"abcdef").is_ok(),
