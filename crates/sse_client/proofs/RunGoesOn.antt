@@ -204,12 +204,6 @@ pub leads-stopped : (f : KeyedFn) (start : Moment) (remaining : Option (List ℕ
 leads-stopped f start remaining now (Ok turn) stop is e = absurd is
 leads-stopped f start remaining now (Err x) stop is e = subst (λ s. EndsFrom f start now (stop_view s)) (sym is) e
 
--- so does one that stops at a bad line
-pub leads-bad : (f : KeyedFn) (start : Moment) (remaining : Option (List ℕ)) (now : Outside) (r : Result Turn StopCause) (stop : InputStop) (m : ℕ) → IsErrAnd r (λ e. e ≡ stops.Input stop) → stop ≡ inputs.Line m → EndsFrom f start now (ends.At (BadLine m))
-    → LeadsTo f start remaining now r
-leads-bad f start remaining now (Ok turn) stop m is line e = absurd is
-leads-bad f start remaining now (Err x) stop m is line e = subst (λ s. EndsFrom f start now (stop_view s)) (sym (is ∙ ap (λ s. stops.Input s) line)) e
-
 -- so does the loop
 pub ends-stopped_so : (f : KeyedFn) (start : Moment) (now : Outside) (r : Result Refusals StopCause) (stop : StopCause) → IsErrAnd r (λ e. e ≡ stop) → EndsFrom f start now (stop_view stop) → EndsFrom f start now (ending r)
 ends-stopped_so f start now (Ok refusals) stop is e = absurd is

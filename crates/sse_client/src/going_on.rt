@@ -102,8 +102,20 @@ fn resend<K: Keyed, L: Link, R: Recorder>(
     ensures keeps { KeepsLink CommandCause (shows (L.transcript link.old) (L.faults link.old) (L.began link.old)) (shows (L.transcript link.new) (L.faults link.new) (L.began link.new)) result }
     ensures unkept { IfErr result (λ stop. (count : ℕ) → KeepCommandCause count count stop) }
 {
-    let next = hello(tools.alloc, link, buffer)?;
-    let frames = lacking(&client, next)?;
+    let next = match hello(tools.alloc, link, buffer) {
+        Ok(next) => next,
+        Err(stop) => {
+            drop(client);
+            return Err(CommandStop::Exchange(stop));
+        }
+    };
+    let frames = match lacking(&client, next) {
+        Ok(frames) => frames,
+        Err(stop) => {
+            drop(client);
+            return Err(stop);
+        }
+    };
     match client.resume(tools.alloc, tools.keyed, next) {
         Ok(Resumed::Ready(ready)) => Ok((ready, frames)),
         Ok(Resumed::Behind(behind)) => Ok((catch_up(behind, link, recorder, buffer)?, frames)),
@@ -140,9 +152,18 @@ fn go_on<K: Keyed, L: Link, R: Recorder, S: Source, W: Sink>(
         client,
         input,
     } = restart;
-    let mut buffer = ReplyBuffer::new(tools.alloc)?;
+    let Ok(mut buffer) = ReplyBuffer::new(tools.alloc) else {
+        drop(client);
+        return Err(StopCause::Memory);
+    };
     let (ready, frames) = resend(&tools, client, link, &*recorder, &mut buffer)?;
-    print(tools.alloc, sink, &Shown::Resumed { frames })?;
+    match print(tools.alloc, sink, &Shown::Resumed { frames }) {
+        Ok(()) => {}
+        Err(fault) => {
+            drop(ready);
+            return Err(StopCause::from(fault));
+        }
+    }
     let session = Session {
         stage: Stage::Searching(ready),
         refusals: Refusals::None,

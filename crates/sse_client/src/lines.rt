@@ -120,27 +120,53 @@ fn take_turn<K: Keyed, L: Link, R: Recorder, S: Source, W: Sink>(
         mut input,
         mut buffer,
     } = session;
-    if !input.advance(source)? {
+    let more = match input.advance(source) {
+        Ok(more) => more,
+        Err(stop) => {
+            drop((stage, input, buffer));
+            return Err(StopCause::Input(stop));
+        }
+    };
+    if !more {
+        drop((stage, input, buffer));
         return Ok(Turn::End(refusals));
     }
-    match input.line()? {
+    let line = match input.line() {
+        Ok(line) => line,
+        Err(stop) => {
+            drop((stage, input, buffer));
+            return Err(StopCause::Input(stop));
+        }
+    };
+    match line {
         Line::Empty => Ok(Turn::Next(Session {
             stage,
             refusals,
             input,
             buffer,
         })),
-        Line::Key(_) => Err(StopCause::Input(InputStop::Line(input.number()))),
+        Line::Key(_) => {
+            let number = input.number();
+            drop((stage, input, buffer));
+            Err(StopCause::Input(InputStop::Line(number)))
+        }
         line => {
             let (next, outcome) = take_line(tools, link, recorder, &mut buffer, stage, line)?;
-            outcome.print(tools.alloc, sink)?;
-            let refusals = refusals.or(outcome.is_refusal());
-            Ok(Turn::Next(Session {
-                stage: next,
-                refusals,
-                input,
-                buffer,
-            }))
+            match outcome.print(tools.alloc, sink) {
+                Ok(()) => {
+                    let refusals = refusals.or(outcome.is_refusal());
+                    Ok(Turn::Next(Session {
+                        stage: next,
+                        refusals,
+                        input,
+                        buffer,
+                    }))
+                }
+                Err(fault) => {
+                    drop((next, outcome, input, buffer));
+                    Err(StopCause::from(fault))
+                }
+            }
         }
     }
 }

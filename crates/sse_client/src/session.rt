@@ -40,6 +40,8 @@ use sse_script::{Fields, Line, Refusal};
 use std::alloc::Global;
 
 /// How far a session is: documents are collected until a setup is accepted, and after it added, deleted and searched.
+// What is left of a session that stops is handed to `drop`: a proof then has one call there, where it would have the end of each
+// table of the client.
 #[derive(Drop)]
 pub(crate) enum Stage {
     Collecting(Client<Fresh>, Docs),
@@ -111,7 +113,13 @@ fn collect(
     match stage {
         Stage::Collecting(client, mut docs) => {
             let added = add_document(alloc, &mut docs, id, fields);
-            Ok((Stage::Collecting(client, docs), refusal_of(added)?))
+            match refusal_of(added) {
+                Ok(outcome) => Ok((Stage::Collecting(client, docs), outcome)),
+                Err(stop) => {
+                    drop((client, docs));
+                    Err(stop)
+                }
+            }
         }
         Stage::Searching(client) => Ok((
             Stage::Searching(client),
@@ -173,10 +181,16 @@ fn set_up<K: Keyed, L: Link, R: Recorder>(
                     };
                     Ok(send_setup(tools.alloc, setup, link, recorder, buffer)?)
                 }
-                Err(fault) => Ok((
-                    Stage::Collecting(client, docs),
-                    LineResult::Refused(setup_refusal(fault)?),
-                )),
+                Err(fault) => match setup_refusal(fault) {
+                    Ok(refusal) => Ok((
+                        Stage::Collecting(client, docs),
+                        LineResult::Refused(refusal),
+                    )),
+                    Err(stop) => {
+                        drop((client, docs));
+                        Err(CommandStop::Planning(stop))
+                    }
+                },
             }
         }
         Stage::Searching(client) => Ok((
@@ -223,7 +237,13 @@ fn send_setup<L: Link, R: Recorder>(
         docs,
     } = setup;
     let (words, blocks) = (planned.own_words(), planned.own_blocks());
-    keep_setup(alloc, &planned, &docs, recorder)?;
+    match keep_setup(alloc, &planned, &docs, recorder) {
+        Ok(()) => {}
+        Err(fault) => {
+            drop((client, planned, docs));
+            return Err(CommandStop::Keeping(fault));
+        }
+    }
     let ready = catch_up(
         client.commit(alloc, planned, docs),
         link,
@@ -353,8 +373,20 @@ fn find<K: Keyed, L: Link>(
         )),
         Stage::Searching(client) => {
             let outcome = match word_of(field, 0) {
-                Ok(word) => LineResult::Found(search(tools, &client, &word, link, buffer)?),
-                Err(fault) => refusal_of(Err(fault))?,
+                Ok(word) => match search(tools, &client, &word, link, buffer) {
+                    Ok(ids) => LineResult::Found(ids),
+                    Err(stop) => {
+                        drop(client);
+                        return Err(CommandStop::Exchange(stop));
+                    }
+                },
+                Err(fault) => match refusal_of(Err(fault)) {
+                    Ok(refused) => refused,
+                    Err(stop) => {
+                        drop(client);
+                        return Err(CommandStop::Planning(stop));
+                    }
+                },
             };
             Ok((Stage::Searching(client), outcome))
         }

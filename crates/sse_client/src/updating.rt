@@ -116,7 +116,13 @@ pub(crate) fn send_update<L: Link, R: Recorder>(
     } = update;
     match planned {
         Ok(planned) => {
-            keep_update(alloc, &planned, recorder)?;
+            match keep_update(alloc, &planned, recorder) {
+                Ok(()) => {}
+                Err(fault) => {
+                    drop((client, planned, done));
+                    return Err(CommandStop::Keeping(fault));
+                }
+            }
             let ready = catch_up(client.commit(planned), link, &*recorder, buffer)?;
             Ok((Stage::Searching(ready), done))
         }

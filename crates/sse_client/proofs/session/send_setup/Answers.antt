@@ -7,7 +7,7 @@ use Rattle.client_registry.specs.Setup.{setup_with}
 use Rattle.sse_model.specs.Epochs.{keys_under}
 use Rattle.std.specs.Prelude.{Some}
 use Rattle.client_core.specs.Payloads.{setup_payload}
-use Rattle.run_texts.specs.declared.command_stop.CommandStop.TheVariants.{Exchange, Keeping}
+use Rattle.run_texts.specs.declared.command_stop.CommandStop.TheVariants.{Exchange}
 use Rattle.sse_client.specs.Stands.{seen}
 use Rattle.sse_client.proofs.TranscriptsJoined.{SendsKept-err}
 use Rattle.sse_client.proofs.RecordedFrames.{owes-taken}
@@ -15,14 +15,12 @@ use Rattle.sse_client.proofs.session.send_setup.Goals as goal
 
 pub returns-clause-sends : goal.returns-clause-sends
 returns-clause-sends g c = λ frames planned numbered. (
-  c.in_ok-keep_setup.ensures.kept,
+  c.in-Ok.ensures.kept,
   c.in_ok-ready.ensures.sends frames (c.commit.ensures.owed ∙ planned) (subst (λ n. AreNumbered n frames) (sym c.commit.ensures.first) numbered),
 )
 
-pub returns-in_err-keep_setup-clause-sends : goal.returns-in_err-keep_setup-clause-sends
-returns-in_err-keep_setup-clause-sends g c = λ frames planned numbered.
-    SendsKept-err (setup_payload c.args.setup.planned) (seen (g.L.Link.transcript c.args.link.now) (g.R.Recorder.kept c.args.recorder.now)) (seen (g.L.Link.transcript c.args.link.now) (g.R.Recorder.kept c.keep_setup.new.recorder)) frames
-    c.from_residual.result (Keeping c.in_err-keep_setup.field-0.0) c.from_residual.ensures.1 (refl, c.in_err-keep_setup.ensures.kept)
+pub returns-in-Err-clause-sends : goal.returns-in-Err-clause-sends
+returns-in-Err-clause-sends g c = λ frames planned numbered. (refl, c.in-Err.ensures.kept)
 
 pub returns-clause-stands : goal.returns-clause-stands
 returns-clause-stands g c = λ f.
@@ -33,8 +31,8 @@ returns-clause-stands g c = λ f.
 pub returns-in_err-ready-clause-sends : goal.returns-in_err-ready-clause-sends
 returns-in_err-ready-clause-sends g c = λ frames planned numbered.
     SendsKept-err (setup_payload c.args.setup.planned) (seen (g.L.Link.transcript c.args.link.now) (g.R.Recorder.kept c.args.recorder.now)) (seen (g.L.Link.transcript c.catch_up.new.link) (g.R.Recorder.kept c.keep_setup.new.recorder)) frames
-    c.from_residual-in_err-ready.result (Exchange c.in_err-ready.field-0.0) c.from_residual-in_err-ready.ensures.1 (
-      c.in_ok-keep_setup.ensures.kept,
+    c.from_residual.result (Exchange c.in_err-ready.field-0.0) c.from_residual.ensures.1 (
+      c.in-Ok.ensures.kept,
       c.in_err-ready.ensures.sends frames (c.commit.ensures.owed ∙ planned) (subst (λ n. AreNumbered n frames) (sym c.commit.ensures.first) numbered),
     )
 
@@ -43,4 +41,4 @@ returns-clause-hash_keys g c = ap (λ (r : Ready). r.registry.keys) c.in_ok-read
 
 pub catch_up-requires-clause-recorded : goal.catch_up-requires-clause-recorded
 catch_up-requires-clause-recorded g c =
-    owes-taken (g.R.Recorder.kept c.args.recorder.now) (g.R.Recorder.kept c.keep_setup.new.recorder) (setup_payload c.args.setup.planned) c.commit.result.state c.in_ok-keep_setup.ensures.kept (λ records ends. inl (c.args.setup.planned, ends, c.commit.ensures.owed))
+    owes-taken (g.R.Recorder.kept c.args.recorder.now) (g.R.Recorder.kept c.keep_setup.new.recorder) (setup_payload c.args.setup.planned) c.commit.result.state c.in-Ok.ensures.kept (λ records ends. inl (c.args.setup.planned, ends, c.commit.ensures.owed))

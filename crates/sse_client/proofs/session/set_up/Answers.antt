@@ -10,7 +10,6 @@ use Rattle.keyed_fn.specs.KeyedFn.{keyed_fn}
 use Rattle.sse_frames.specs.Frames.{FrameText}
 use Rattle.sse_model.specs.Wire.{frames_of_setup}
 use Rattle.run_texts.specs.Stops.{command_cause}
-use Rattle.run_texts.specs.declared.command_stop.CommandStop.TheVariants.{Planning}
 use Rattle.run_texts.specs.declared.line_result.LineResult.{LineResult}
 use Rattle.run_texts.specs.declared.line_result.LineResult.TheVariants as line_results
 use Rattle.sse_client.specs.declared.session.Stage.{Stage}
@@ -64,38 +63,37 @@ returns-in_err-send_setup-in-Ok-clause-stops g c =
     (stops_if_sent f key old new c.args.stage docs c.in-Collecting.docs.keys c.args.numbers.b c.args.numbers.big c.args.numbers.pad at c.in-Ok.ensures.accepted (Stage × LineResult) (setup_payload c.in-Ok.planned) stop spelled
     (c.in_err-send_setup-in-Ok.ensures.sends frames c.in-Ok.ensures.frames (frames_of_setup-are_numbered (key_table f key s) at_first s)))
 
-pub returns-in_err-setup_refusal-in-Err-clause-stops :
-    goal.returns-in_err-setup_refusal-in-Err-clause-stops
-returns-in_err-setup_refusal-in-Err-clause-stops g c =
+pub returns-in-Err-setup_refusal-clause-stops :
+    goal.returns-in-Err-setup_refusal-clause-stops
+returns-in-Err-setup_refusal-clause-stops g c =
     let f = keyed_fn g.K.Keyed.prf g.K.Keyed.pad in
     let old = seen (g.L.Link.transcript c.args.link.now) (g.R.Recorder.kept c.args.recorder.now) in
-    let stop = c.in_err-setup_refusal-in-Err.field-0.0 in
+    let stop = c.in-Err-setup_refusal.stop in
     let key = c.in-Collecting.client.key in
     let docs = c.in-Collecting.docs.documents in
     let plan = c.in-Err.ensures in
     let at : IsCollecting f key docs c.in-Collecting.docs.keys c.args.stage = λ place a.
     let here : IsAt f (Collecting c.in-Collecting.client c.in-Collecting.docs) place = subst (λ (s : Stage). IsAt f s place) c.in-Collecting.is a in
     (here.key, here.stands.0, here.stands.1, here.hashed) in
-    IfErr-from c.from_residual-in_err-setup_refusal-in-Err.result (Planning stop) (λ e. StopsWithin f c.args.stage (requests.SetupLine c.args.numbers.b c.args.numbers.big c.args.numbers.pad) old old (command_cause e)) c.from_residual-in_err-setup_refusal-in-Err.ensures.1
-    (λ place a written.
+    λ place a written.
     let p = at place a in
     stops-plan f key docs c.args.numbers.b c.args.numbers.big c.args.numbers.pad place p.0 p.1 p.2 Planned c.in-Err.fault (record { refused = plan.refused; clash = plan.clash; built = plan.built }) old stop
-    (sym c.in_err-setup_refusal-in-Err.ensures) written)
+    (sym c.in-Err-setup_refusal.ensures) written
 
-pub returns-in_ok-setup_refusal-in-Err-clause-takes :
-    goal.returns-in_ok-setup_refusal-in-Err-clause-takes
-returns-in_ok-setup_refusal-in-Err-clause-takes g c =
+pub returns-in-Ok-setup_refusal-clause-takes :
+    goal.returns-in-Ok-setup_refusal-clause-takes
+returns-in-Ok-setup_refusal-clause-takes g c =
     let f = keyed_fn g.K.Keyed.prf g.K.Keyed.pad in
     let old = seen (g.L.Link.transcript c.args.link.now) (g.R.Recorder.kept c.args.recorder.now) in
     let docs = c.in-Collecting.docs.documents in
-    let shown = c.in_ok-setup_refusal-in-Err.field-0 in
+    let shown = c.in-Ok-setup_refusal.refusal in
     let next : Stage = Collecting c.in-Collecting.client c.in-Collecting.docs in
     let came : LineResult = line_results.Refused shown in
     let plan = c.in-Err.ensures in
     λ place a.
     let here : IsAt f next place = subst (λ (s : Stage). IsAt f s place) c.in-Collecting.is a in
     takes-refused_setup f c.in-Collecting.client.key docs c.args.numbers.b c.args.numbers.big c.args.numbers.pad place here.key here.stands.0 here.stands.1 Planned c.in-Err.fault
-    (record { refused = plan.refused; clash = plan.clash; built = plan.built }) old next came shown refl refl here (sym c.in_ok-setup_refusal-in-Err.ensures)
+    (record { refused = plan.refused; clash = plan.clash; built = plan.built }) old next came shown refl refl here (sym c.in-Ok-setup_refusal.ensures)
 
 pub returns-in-Searching-clause-takes : goal.returns-in-Searching-clause-takes
 returns-in-Searching-clause-takes g c = λ place a.
@@ -113,20 +111,19 @@ returns-in_err-send_setup-in-Ok-clause-may_stop g c =
     (subst (λ s. MayStop (keyed_fn g.K.Keyed.prf g.K.Keyed.pad) s (lines.SetupLine c.args.numbers.b c.args.numbers.big c.args.numbers.pad)) (sym c.in-Collecting.is)
     (size_accepted (keyed_fn g.K.Keyed.prf g.K.Keyed.pad) c.in-Collecting.client.key (setup_with c.in-Collecting.docs.documents c.args.numbers.b c.args.numbers.big c.args.numbers.pad) c.in-Ok.ensures.accepted))
 
-pub returns-in_err-setup_refusal-in-Err-clause-may_stop :
-    goal.returns-in_err-setup_refusal-in-Err-clause-may_stop
-returns-in_err-setup_refusal-in-Err-clause-may_stop g c =
+pub returns-in-Err-setup_refusal-clause-may_stop :
+    goal.returns-in-Err-setup_refusal-clause-may_stop
+returns-in-Err-setup_refusal-clause-may_stop g c =
     let plan = c.in-Err.ensures in
     let why = stopped_plan (keyed_fn g.K.Keyed.prf g.K.Keyed.pad) c.in-Collecting.client.key (setup_with c.in-Collecting.docs.documents c.args.numbers.b c.args.numbers.big c.args.numbers.pad) Planned c.in-Err.fault (record { refused = plan.refused; clash = plan.clash; built = plan.built })
-    c.in_err-setup_refusal-in-Err.field-0.0 (sym c.in_err-setup_refusal-in-Err.ensures) in
-    may_stop c.from_residual-in_err-setup_refusal-in-Err.result (MayStop (keyed_fn g.K.Keyed.prf g.K.Keyed.pad) c.args.stage (lines.SetupLine c.args.numbers.b c.args.numbers.big c.args.numbers.pad))
-    (subst (λ s. MayStop (keyed_fn g.K.Keyed.prf g.K.Keyed.pad) s (lines.SetupLine c.args.numbers.b c.args.numbers.big c.args.numbers.pad)) (sym c.in-Collecting.is) why.0)
+    c.in-Err-setup_refusal.stop (sym c.in-Err-setup_refusal.ensures) in
+    subst (λ s. MayStop (keyed_fn g.K.Keyed.prf g.K.Keyed.pad) s (lines.SetupLine c.args.numbers.b c.args.numbers.big c.args.numbers.pad)) (sym c.in-Collecting.is) why.0
 
-pub returns-in_err-setup_refusal-in-Err-clause-keeps_on : goal.returns-in_err-setup_refusal-in-Err-clause-keeps_on
-returns-in_err-setup_refusal-in-Err-clause-keeps_on g c = keeps-same g.R.Recorder.kept g.R.Recorder.moment g.R.Recorder.left_since c.args.recorder.now (g.met.R.Recorder.at_rest c.args.recorder.now c.requires.whole)
+pub returns-in-Err-setup_refusal-clause-keeps_on : goal.returns-in-Err-setup_refusal-clause-keeps_on
+returns-in-Err-setup_refusal-clause-keeps_on g c = keeps-same g.R.Recorder.kept g.R.Recorder.moment g.R.Recorder.left_since c.args.recorder.now (g.met.R.Recorder.at_rest c.args.recorder.now c.requires.whole)
 
-pub returns-in_ok-setup_refusal-in-Err-clause-keeps_on : goal.returns-in_ok-setup_refusal-in-Err-clause-keeps_on
-returns-in_ok-setup_refusal-in-Err-clause-keeps_on g c = keeps-same g.R.Recorder.kept g.R.Recorder.moment g.R.Recorder.left_since c.args.recorder.now (g.met.R.Recorder.at_rest c.args.recorder.now c.requires.whole)
+pub returns-in-Ok-setup_refusal-clause-keeps_on : goal.returns-in-Ok-setup_refusal-clause-keeps_on
+returns-in-Ok-setup_refusal-clause-keeps_on g c = keeps-same g.R.Recorder.kept g.R.Recorder.moment g.R.Recorder.left_since c.args.recorder.now (g.met.R.Recorder.at_rest c.args.recorder.now c.requires.whole)
 
 pub returns-in-Searching-clause-keeps_on : goal.returns-in-Searching-clause-keeps_on
 returns-in-Searching-clause-keeps_on g c = keeps-same g.R.Recorder.kept g.R.Recorder.moment g.R.Recorder.left_since c.args.recorder.now (g.met.R.Recorder.at_rest c.args.recorder.now c.requires.whole)

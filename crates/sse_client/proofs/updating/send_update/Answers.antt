@@ -26,13 +26,13 @@ returns-in_err-ready-in-Ok-clause-stops g c =
     let client = c.args.update.client in
     let planned = c.in-Ok.planned in
     let stop = c.in_err-ready-in-Ok.field-0.0 in
-    IfErr-from c.from_residual-in_err-ready-in-Ok.result (Exchange stop) _ c.from_residual-in_err-ready-in-Ok.ensures.1
+    IfErr-from c.from_residual.result (Exchange stop) _ c.from_residual.ensures.1
     (λ f place refusal update shown at plan written.
     let p : IsUpdatePlan f place refusal update (Ok planned) = subst (IsUpdatePlan f place refusal update) c.in-Ok.is plan in
     let commits : CanCommit client.state planned = subst (λ r. IfOk r (CanCommit client.state)) c.in-Ok.is c.requires.commits in
     let frames : List FrameText = frames_of_next f (keys_at place) place.history (update ∷ []) in
     let numbered : AreNumbered (first_number c.commit.result.state) frames = subst (λ n. AreNumbered n frames) (sym (c.commit.ensures.first ∙ commits.next)) (numbered-at f place client at planned.update update p.planned.1.command) in
-    stops-updated f place refusal update shown client at planned p.planned.0 p.planned.1 old new (Unit {0}) (Exchange stop) (c.in_ok-keep_update-in-Ok.ensures.kept, c.in_err-ready-in-Ok.ensures.sends frames (c.commit.ensures.owed ∙ p.planned.1.frame) numbered) written)
+    stops-updated f place refusal update shown client at planned p.planned.0 p.planned.1 old new (Unit {0}) (Exchange stop) (c.in-Ok-keep_update.ensures.kept, c.in_err-ready-in-Ok.ensures.sends frames (c.commit.ensures.owed ∙ p.planned.1.frame) numbered) written)
 
 pub returns-in_ok-ready-in-Ok-clause-goes_on : goal.returns-in_ok-ready-in-Ok-clause-goes_on
 returns-in_ok-ready-in-Ok-clause-goes_on g c = λ f place refusal update shown at plan view.
@@ -48,7 +48,7 @@ returns-in_ok-ready-in-Ok-clause-goes_on g c = λ f place refusal update shown a
     let numbered : AreNumbered (first_number c.commit.result.state) frames = subst (λ n. AreNumbered n frames) (sym (c.commit.ensures.first ∙ commits.next)) (numbered-at f place client at planned.update update p.planned.1.command) in
     let stands : StandsFor f (keys_at place) at_first (with_command run update) ready.state = subst (StandsFor f (keys_at place) at_first (with_command run update)) (sym c.in_ok-ready-in-Ok.ensures.ready)
     (subst (λ d. StandsFor f (keys_at place) at_first (with_command run d) c.commit.result.state.ready) p.planned.1.command (c.commit.ensures.stands f (keys_at place) at_first run at.stands.2)) in
-    goes-updated f place refusal update shown client at planned p.planned.0 p.planned.1 old new ready c.args.update.done c.in_ok-keep_update-in-Ok.ensures.kept
+    goes-updated f place refusal update shown client at planned p.planned.0 p.planned.1 old new ready c.args.update.done c.in-Ok-keep_update.ensures.kept
     (c.in_ok-ready-in-Ok.ensures.sends frames (c.commit.ensures.owed ∙ p.planned.1.frame) numbered) view c.requires.accepts (c.in_ok-ready-in-Ok.ensures.key ∙ c.commit.ensures.key) (ap (λ (r : Ready). r.registry.keys) c.in_ok-ready-in-Ok.ensures.ready ∙ c.commit.ensures.hash_keys) stands
 
 pub returns-in-Refused-clause-goes_on : goal.returns-in-Refused-clause-goes_on
@@ -63,15 +63,13 @@ returns-in-Stopped-clause-stops g c = λ f place refusal update shown at plan wr
     let p = subst (IsUpdatePlan f place refusal update) (failed c.args.update.planned c.in-Err.fault (Stopped c.in-Stopped.stop) c.in-Err.is c.in-Stopped.is) plan in
     stops-unplanned f place refusal update shown now c.in-Stopped.stop p.fault written
 
-pub returns-in_err-keep_update-in-Ok-clause-stops : goal.returns-in_err-keep_update-in-Ok-clause-stops
-returns-in_err-keep_update-in-Ok-clause-stops g c =
+pub returns-in-Err-keep_update-clause-stops : goal.returns-in-Err-keep_update-clause-stops
+returns-in-Err-keep_update-clause-stops g c =
     let old = seen (g.L.Link.transcript c.args.link.now) (g.R.Recorder.kept c.args.recorder.now) in
     let new = seen (g.L.Link.transcript c.args.link.now) (g.R.Recorder.kept c.keep_update.new.recorder) in
-    let stop = c.in_err-keep_update-in-Ok.field-0.0 in
-    IfErr-from c.from_residual.result (Keeping stop) _ c.from_residual.ensures.1
-    (λ f place refusal update shown at plan written.
+    λ f place refusal update shown at plan written.
     let p : IsUpdatePlan f place refusal update (Ok c.in-Ok.planned) = subst (IsUpdatePlan f place refusal update) c.in-Ok.is plan in
-    stops-updated f place refusal update shown c.args.update.client at c.in-Ok.planned p.planned.0 p.planned.1 old new (Unit {0}) (Keeping stop) (refl, c.in_err-keep_update-in-Ok.ensures.kept) written)
+    stops-updated f place refusal update shown c.args.update.client at c.in-Ok.planned p.planned.0 p.planned.1 old new (Unit {0}) (Keeping c.in-Err-keep_update.fault) (refl, c.in-Err-keep_update.ensures.kept) written
 
 pub returns-in-Refused-clause-keeps_on : goal.returns-in-Refused-clause-keeps_on
 returns-in-Refused-clause-keeps_on g c = keeps-same g.R.Recorder.kept g.R.Recorder.moment g.R.Recorder.left_since c.args.recorder.now (g.met.R.Recorder.at_rest c.args.recorder.now c.requires.whole)
@@ -81,4 +79,4 @@ returns-in-Stopped-clause-keeps_on g c = keeps-same g.R.Recorder.kept g.R.Record
 
 pub catch_up-requires-clause-recorded : goal.catch_up-requires-clause-recorded
 catch_up-requires-clause-recorded g c =
-    owes-taken (g.R.Recorder.kept c.args.recorder.now) (g.R.Recorder.kept c.keep_update.new.recorder) (update_payload c.in-Ok.planned) c.commit.result.state c.in_ok-keep_update-in-Ok.ensures.kept (λ records ends. inr (inl (c.in-Ok.planned, ends, c.commit.ensures.owed)))
+    owes-taken (g.R.Recorder.kept c.args.recorder.now) (g.R.Recorder.kept c.keep_update.new.recorder) (update_payload c.in-Ok.planned) c.commit.result.state c.in-Ok-keep_update.ensures.kept (λ records ends. inr (inl (c.in-Ok.planned, ends, c.commit.ensures.owed)))
