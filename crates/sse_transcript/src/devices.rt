@@ -23,9 +23,9 @@ pub(crate) struct Devices<K: Keyed> {
 impl<K: Keyed + Drop> Devices<K> {
     /// An empty disk, and a server that has taken nothing.
     pub(crate) fn new(alloc: Global, keyed: K) -> Result<Devices<K>, StopCause> {
-        let client = MemDisk::new(alloc, Vec::new(alloc));
         let server = MemDisk::new(alloc, Vec::new(alloc));
         let link = server_on(alloc, keyed, server, NEVER, Vec::new(alloc))?;
+        let client = MemDisk::new(alloc, Vec::new(alloc));
         Ok(Devices { client, link })
     }
 }
@@ -41,9 +41,9 @@ pub(crate) fn server_on<K: Keyed + Drop>(
     requires { 1 ≤ call }
 {
     let mut disk = disk;
-    let store = match Store::start(alloc, BucketTables::new(alloc), &mut disk) {
-        Ok(store) => store,
-        Err(_) => return Err(StopCause::Words),
+    let Ok(store) = Store::start(alloc, BucketTables::new(alloc), &mut disk) else {
+        drop(disk);
+        return Err(StopCause::Words);
     };
     disk.fail_after(call);
     Ok(Loopback::new(alloc, keyed, store, disk, cuts))

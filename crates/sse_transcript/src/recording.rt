@@ -8,7 +8,7 @@ use crate::turns::take_turn;
 use keyed_fn::{Keyed, Real};
 use run_texts::StopCause;
 use server_core::Server;
-use server_tables::BucketTables;
+use server_tables::{BucketTables, Tables};
 use sse_client::run_over_server;
 use sse_link::{Passed, SteadyLoopback};
 use sse_outside::{Sink, SteadySink, SteadySource, print_all};
@@ -30,12 +30,25 @@ pub(crate) fn record_all<K: Keyed + Copy + Drop, W: Sink>(
     sink: &mut W,
 ) -> Result<(), StopCause> {
     let mut devices = Devices::new(alloc, keyed)?;
+    let recorded = record_parts(alloc, keyed, &mut devices, parts, sink);
+    drop(devices);
+    recorded
+}
+
+/// The same over these devices.
+fn record_parts<K: Keyed + Copy + Drop, W: Sink>(
+    alloc: Global,
+    keyed: K,
+    devices: &mut Devices<K>,
+    parts: &[u8],
+    sink: &mut W,
+) -> Result<(), StopCause> {
     let mut turn = Vec::new(alloc);
     let mut script = Vec::new(alloc);
     for line in BufRead::split(parts, alloc, b'\n') {
         let line = line.map_err(|error| read_stop(&error))?;
         if line.as_slice() == PARTING {
-            devices = record(alloc, keyed, devices, &turn, script, sink)?;
+            record(alloc, keyed, devices, &turn, script, sink)?;
             turn = Vec::new(alloc);
             script = Vec::new(alloc);
         } else if line.starts_with(TURN) && turn.is_empty() && script.is_empty() {
@@ -55,14 +68,13 @@ pub(crate) fn record_all<K: Keyed + Copy + Drop, W: Sink>(
 fn record<K: Keyed + Copy + Drop, W: Sink>(
     alloc: Global,
     keyed: K,
-    devices: Devices<K>,
+    devices: &mut Devices<K>,
     turn: &[u8],
     script: Vec<u8>,
     sink: &mut W,
-) -> Result<Devices<K>, StopCause> {
+) -> Result<(), StopCause> {
     if turn.is_empty() {
-        record_script(alloc, script, sink)?;
-        return Ok(devices);
+        return record_script(alloc, script, sink);
     }
     match str::from_utf8(turn) {
         Ok(line) => take_turn(alloc, keyed, devices, line, &script, sink),
@@ -73,7 +85,22 @@ fn record<K: Keyed + Copy + Drop, W: Sink>(
 /// Runs a script over a loopback to a server that has taken nothing, and prints what passed and the status.
 fn record_script<W: Sink>(alloc: Global, script: Vec<u8>, sink: &mut W) -> Result<(), StopCause> {
     let mut link = SteadyLoopback::new(alloc, Real, Server::new(BucketTables::new(alloc)));
-    let status = run_over(alloc, &mut link, script)?;
+    let recorded = record_over(alloc, &Real, &mut link, script, sink);
+    drop(link);
+    recorded
+}
+
+/// The same over this link. Any function and any tables: so nothing of those that are used is asked of its proof.
+fn record_over<K: Keyed, T: Tables, W: Sink>(
+    alloc: Global,
+    keyed: &K,
+    link: &mut SteadyLoopback<K, T>,
+    script: Vec<u8>,
+    sink: &mut W,
+) -> Result<(), StopCause>
+    requires fresh { link.old ≡ told_first at_first }
+{
+    let status = run_over(alloc, keyed, link, script)?;
     print_passed(alloc, link.transcript(), 0, sink)?;
     let line = format!(in alloc; "status {status}\n")?;
     print_all(sink, line.as_bytes())?;
@@ -81,9 +108,10 @@ fn record_script<W: Sink>(alloc: Global, script: Vec<u8>, sink: &mut W) -> Resul
 }
 
 /// Runs a script over a link to a server that has taken nothing; what it prints is dropped.
-fn run_over(
+fn run_over<K: Keyed, T: Tables>(
     alloc: Global,
-    link: &mut SteadyLoopback<Real, BucketTables>,
+    keyed: &K,
+    link: &mut SteadyLoopback<K, T>,
     script: Vec<u8>,
 ) -> Result<u8, AllocError>
     requires fresh { link.old ≡ told_first at_first }
@@ -94,7 +122,7 @@ fn run_over(
     Ok(run_over_server(
         alloc,
         &words,
-        &Real,
+        keyed,
         link,
         &mut NoRecords,
         &mut source,

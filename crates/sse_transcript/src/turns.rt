@@ -10,6 +10,7 @@ use sse_client::run_on_disk;
 use sse_link::{Fail, Link, Loopback};
 use sse_outside::{Disk, Sink, Source, SteadySink, SteadySource, print_all};
 use std::alloc::{AllocError, Global};
+use std::mem;
 
 /// The fields of a turn's line: the word, the disk and the call of the client, and those of another server, which may be empty.
 fn fields_of(line: &str) -> Option<(&str, &str, &str, &str)> {
@@ -32,39 +33,20 @@ fn first_of(fields: &str) -> (&str, &str) {
 pub(crate) fn take_turn<K: Keyed + Copy + Drop, W: Sink>(
     alloc: Global,
     keyed: K,
-    devices: Devices<K>,
+    devices: &mut Devices<K>,
     line: &str,
     script: &[u8],
     sink: &mut W,
-) -> Result<Devices<K>, StopCause> {
+) -> Result<(), StopCause> {
     let Some((word, disk, fails, server)) = fields_of(line) else {
         return Err(StopCause::Words);
     };
-    let devices = devices_of(alloc, keyed, devices, disk, fails, server)?;
+    set_client(alloc, &mut devices.client, disk, call(fails)?)?;
+    set_link(alloc, keyed, &mut devices.link, server)?;
     let before = devices.link.transcript().len();
     let mut printed = SteadySink::new(alloc);
-    let (status, devices) = run_turn(alloc, &keyed, word, devices, script, &mut printed)?;
-    tell(alloc, &devices, before, status, printed.bytes(), sink)?;
-    Ok(devices)
-}
-
-/// The devices of a turn: the client's disk, of which a call fails, and another link where there are fields of one.
-fn devices_of<K: Keyed + Drop>(
-    alloc: Global,
-    keyed: K,
-    before: Devices<K>,
-    disk: &str,
-    fails: &str,
-    server: &str,
-) -> Result<Devices<K>, StopCause> {
-    let Devices { client, link } = before;
-    let other = another_link(alloc, keyed, &link, server)?;
-    let client = client_of(alloc, client, disk, call(fails)?)?;
-    let link = match other {
-        Some(other) => other,
-        None => link,
-    };
-    Ok(Devices { client, link })
+    let status = run_turn(alloc, &keyed, word, devices, script, &mut printed)?;
+    tell(alloc, devices, before, status, printed.bytes(), sink)
 }
 
 /// Runs a script with this word on the disk and over the link.
@@ -72,23 +54,24 @@ fn run_turn<K: Keyed + Drop>(
     alloc: Global,
     keyed: &K,
     word: &str,
-    devices: Devices<K>,
+    devices: &mut Devices<K>,
     script: &[u8],
     printed: &mut SteadySink,
-) -> Result<(u8, Devices<K>), AllocError> {
+) -> Result<u8, AllocError> {
     let words = vec![in alloc; String::from_str(alloc, word)?]?;
     let mut source = SteadySource::new(Vec::from_slice(alloc, script)?);
-    let Devices { client, mut link } = devices;
+    let client = mem::replace(&mut devices.client, MemDisk::new(alloc, Vec::new(alloc)));
     let (status, client) = run_over_any(
         alloc,
         &words,
         keyed,
-        &mut link,
+        &mut devices.link,
         client,
         &mut source,
         printed,
     );
-    Ok((status, Devices { client, link }))
+    drop(mem::replace(&mut devices.client, client));
+    Ok(status)
 }
 
 /// Does what the words ask for. Any devices: so nothing of those in memory is asked of its proof.
@@ -120,36 +103,38 @@ fn tell<K: Keyed, W: Sink>(
     Ok(())
 }
 
-/// The client's disk of a turn, of which a call fails.
-fn client_of(alloc: Global, before: MemDisk, disk: &str, call: u64) -> Result<MemDisk, StopCause>
+/// Puts the client's disk of a turn, of which a call fails, in the place of the one before.
+fn set_client(alloc: Global, client: &mut MemDisk, disk: &str, call: u64) -> Result<(), StopCause>
     requires { 1 ≤ call }
 {
-    let mut client = if disk == "same" {
-        before
-    } else {
-        another(alloc, disk, &before)?
-    };
+    if disk != "same" {
+        let other = another(alloc, disk, client)?;
+        drop(mem::replace(client, other));
+    }
     client.fail_after(call);
-    Ok(client)
+    Ok(())
 }
 
-/// The link to another server, where there are fields of one.
-fn another_link<K: Keyed + Drop>(
+/// Puts the link to another server, where there are fields of one, in the place of the one before.
+fn set_link<K: Keyed + Drop>(
     alloc: Global,
     keyed: K,
-    before: &Loopback<K, BucketTables, MemDisk>,
+    link: &mut Loopback<K, BucketTables, MemDisk>,
     fields: &str,
-) -> Result<Option<Loopback<K, BucketTables, MemDisk>>, StopCause> {
+) -> Result<(), StopCause> {
     if fields.is_empty() {
-        return Ok(None);
+        return Ok(());
     }
     let Some((disk, rest)) = fields.split_once(' ') else {
         return Err(StopCause::Words);
     };
     let (fails, rest) = first_of(rest);
+    let call = call(fails)?;
     let cuts = cuts_of(alloc, rest)?;
-    let disk = another(alloc, disk, before.disk())?;
-    Ok(Some(server_on(alloc, keyed, disk, call(fails)?, cuts)?))
+    let disk = another(alloc, disk, link.disk())?;
+    let other = server_on(alloc, keyed, disk, call, cuts)?;
+    drop(mem::replace(link, other));
+    Ok(())
 }
 
 /// The cuts that fields name.
