@@ -7,7 +7,7 @@ use crate::stores::over_a_store;
 use keyed_fn::Toy;
 use memory_disk::MemDisk;
 use server_core::Server;
-use server_tables::BucketTables;
+use server_tables::{BucketTables, Tables};
 use sse_frames::{Frame, REPLY_ROOM, read_frame, write_reply};
 use sse_link::{
     Due, FULL_PAGE, Fail, Link, Mark, Passed, ScriptedLink, SteadyLoopback, answer_bytes,
@@ -207,9 +207,9 @@ fn over_a_steady_link(
 }
 
 /// The first reply of a server to bytes.
-fn reply_to(
+fn reply_to<T: Tables>(
     alloc: Global,
-    server: &mut Server<BucketTables>,
+    server: &mut Server<T>,
     bytes: &[u8],
 ) -> Result<String, AllocError> {
     let mut page = [0; FULL_PAGE];
@@ -222,9 +222,9 @@ fn reply_to(
 }
 
 /// Its first reply to each of the bytes, a line each.
-fn replies_to(
+fn replies_to<T: Tables>(
     alloc: Global,
-    server: &mut Server<BucketTables>,
+    server: &mut Server<T>,
     texts: &[&[u8]],
 ) -> Result<String, AllocError> {
     let mut lines = String::new(alloc);

@@ -1,7 +1,7 @@
 use crate::frames::{BEGIN, DICT, END, HELLO, SEARCH};
 use keyed_fn::Toy;
 use server_core::{Answer, Server};
-use server_tables::SortedTables;
+use server_tables::{SortedTables, Tables};
 use sse_frames::read_frame;
 use std::alloc::{AllocError, Global};
 use std::test::Fail;
@@ -129,9 +129,9 @@ fn found(alloc: Global, ids: &[u64]) -> Result<String, AllocError> {
 }
 
 /// What a server answers to a frame, as a line.
-fn answer(
+fn answer<T: Tables>(
     alloc: Global,
-    server: &mut Server<SortedTables>,
+    server: &mut Server<T>,
     bytes: &[u8],
 ) -> Result<String, AllocError> {
     let Ok(Some((frame, _))) = read_frame(bytes) else {
@@ -157,9 +157,9 @@ fn answer(
 }
 
 /// What it answers to frames in a row, a line each.
-fn answers(
+fn answers<T: Tables>(
     alloc: Global,
-    server: &mut Server<SortedTables>,
+    server: &mut Server<T>,
     frames: &[&[u8]],
 ) -> Result<String, AllocError> {
     let mut lines = String::new(alloc);

@@ -3,7 +3,7 @@ ghost use Rattle.std.specs.Prelude.{◌<◌, length};
 use keyed_fn::{Keyed, Real};
 use search_token::Token;
 use server_core::{First, Server};
-use server_tables::BucketTables;
+use server_tables::{BucketTables, Tables};
 use sse_frames::read_frame;
 use std::alloc::{AllocError, Global};
 use std::process::Abort;
@@ -121,7 +121,7 @@ fn sealed(
 }
 
 /// Hands the server an update frame, which it takes.
-fn take(rt: &impl Abort, server: &mut Server<BucketTables>, bytes: &[u8]) {
+fn take<T: Tables>(rt: &impl Abort, server: &mut Server<T>, bytes: &[u8]) {
     let Ok(Some((frame, _))) = read_frame(bytes) else {
         panic!(rt; "no frame")
     };
@@ -211,16 +211,18 @@ fn entry(alloc: Global, token: &Token, laid: &LaidList) -> Result<Vec<u8>, Alloc
 }
 
 /// Sets a new server up with one list of the identifiers 1 to `count`.
-fn set_up(
+fn set_up<T: Tables>(
     rt: &impl Abort,
     alloc: Global,
     token: &Token,
-    server: &mut Server<BucketTables>,
+    server: &mut Server<T>,
     count: u16,
 ) -> Result<(), AllocError> {
     let laid = laid(alloc, token, count)?;
-    let sizes = (u64::from(1u32) << 32 | u64::from(laid.blocks)).to_be_bytes();
-    let begin = frame(alloc, BEGIN, Some(0), &[B as u16, BIG as u16], &sizes)?;
+    let mut counts = [0; 8];
+    counts[..4].copy_from_slice(&1u32.to_be_bytes());
+    counts[4..].copy_from_slice(&u32::from(laid.blocks).to_be_bytes());
+    let begin = frame(alloc, BEGIN, Some(0), &[B as u16, BIG as u16], &counts)?;
     take(rt, server, &begin);
     let entry = entry(alloc, token, &laid)?;
     let dict = frame(alloc, DICT, Some(1), &[CELL as u16, 1], &entry)?;
@@ -262,11 +264,11 @@ fn deletion(alloc: Global, token: &Token, number: u32, id: u64) -> Result<Vec<u8
 }
 
 /// Adds so many identifiers after those of the setup, and deletes the revoked ones of all.
-fn change(
+fn change<T: Tables>(
     rt: &impl Abort,
     alloc: Global,
     token: &Token,
-    server: &mut Server<BucketTables>,
+    server: &mut Server<T>,
     listed: u64,
     added: u64,
 ) -> Result<(), AllocError> {
@@ -285,10 +287,10 @@ fn change(
 }
 
 /// Whether the pages of a search, joined, are the identifiers that are wanted.
-fn is_walked<K: Keyed>(
+fn is_walked<K: Keyed, T: Tables>(
     rt: &impl Abort,
     keyed: &K,
-    server: &Server<BucketTables>,
+    server: &Server<T>,
     token: &Token,
     page: &mut [u64],
     wanted: &[u64],
@@ -329,11 +331,11 @@ fn unrevoked(alloc: Global, count: u64) -> Result<Vec<u64>, AllocError> {
 
 /// A list of so many identifiers, so many more added, by pages of one identifier, of as many as a block has, and of as many as a
 /// reply has.
-fn are_walked(
+fn are_walked<T: Tables>(
     rt: &impl Abort,
     alloc: Global,
     token: &Token,
-    server: &mut Server<BucketTables>,
+    server: &mut Server<T>,
     listed: u16,
     added: u16,
 ) -> Result<(), AllocError> {
@@ -353,7 +355,9 @@ fn pages_join_to_what_is_found(rt: HostRuntime) -> Result<(), Fail> {
     let token = Token::new([[1; 32], [2; 32], [3; 32], [4; 32], [5; 32]]);
     for (listed, added) in LISTS {
         let mut server = Server::new(BucketTables::new(rt.alloc()));
-        are_walked(&rt, rt.alloc(), &token, &mut server, listed, added)?;
+        let walked = are_walked(&rt, rt.alloc(), &token, &mut server, listed, added);
+        drop(server);
+        walked?;
     }
     Ok(())
 }

@@ -3,7 +3,7 @@ use crate::tables::Labels;
 use keyed_fn::Real;
 use search_token::Token;
 use server_core::Server;
-use server_tables::BucketTables;
+use server_tables::Tables;
 use std::alloc::{AllocError, Global};
 
 /// How many words have an addition each that is searched for.
@@ -14,17 +14,11 @@ const ADD: &[u8] = b"\x00\x00\x00\x21\x06";
 
 const ONE_ENTRY: &[u8] = b"\x00\x01\x00\x00";
 
-/// Adds an identifier to each of 10,000 words, then additions of other words until there are so many, and searches so
-/// often, for one of the words after another. How many were found in all, modulo 2^64.
-pub(crate) fn search(alloc: Global, additions: u64, turns: u64) -> Result<u64, AllocError> {
-    let mut server = Server::new(BucketTables::new(alloc));
-    search_in(alloc, &mut server, additions, turns)
-}
-
-/// The same in a server that has taken nothing.
-fn search_in(
+/// Adds an identifier to each of 10,000 words of a server that has taken nothing, then additions of other words until there are so many,
+/// and searches so often, for one of the words after another. How many were found in all, modulo 2^64.
+pub(crate) fn search<T: Tables>(
     alloc: Global,
-    server: &mut Server<BucketTables>,
+    server: &mut Server<T>,
     additions: u64,
     turns: u64,
 ) -> Result<u64, AllocError> {
@@ -45,9 +39,9 @@ fn search_in(
 }
 
 /// Hands the server the addition of this number, in a frame of its own.
-fn add(
+fn add<T: Tables>(
     bytes: &mut Vec<u8>,
-    server: &mut Server<BucketTables>,
+    server: &mut Server<T>,
     number: u64,
     page: &mut [u64],
 ) -> Result<(), AllocError> {

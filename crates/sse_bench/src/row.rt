@@ -2,7 +2,8 @@ use crate::searches::{LONG, SHORT};
 use crate::tables::{Labels, fill, fill_plain};
 use crate::{additions, searches};
 use keyed_fn::{Keyed, PreparedKey, Real, xor_pad};
-use server_tables::{BucketTables, SortedTables, TableFault};
+use server_core::Server;
+use server_tables::{BucketTables, SortedTables, TableFault, Tables};
 use sha2::{Digest, Sha256};
 use std::alloc::{AllocError, Global};
 
@@ -108,13 +109,26 @@ impl Row {
 
     /// So many searches; how many were found in all, modulo 2^64.
     fn search(self, alloc: Global, turns: u64) -> Result<u64, AllocError> {
+        let mut server = Server::new(BucketTables::new(alloc));
+        let sum = self.search_in(alloc, &mut server, turns);
+        drop(server);
+        sum
+    }
+
+    /// The same in a server that has taken nothing. Any tables: so nothing of those that are used is asked of its proof.
+    fn search_in<T: Tables>(
+        self,
+        alloc: Global,
+        server: &mut Server<T>,
+        turns: u64,
+    ) -> Result<u64, AllocError> {
         match self {
-            Row::BehindFew => additions::search(alloc, 10_000, turns),
-            Row::BehindMany => additions::search(alloc, 1_000_000, turns),
-            Row::Revoked => searches::search(alloc, SHORT, true, turns),
-            Row::Pages => searches::search(alloc, LONG, false, turns),
-            Row::RevokedPages => searches::search(alloc, LONG, true, turns),
-            _ => searches::search(alloc, SHORT, false, turns),
+            Row::BehindFew => additions::search(alloc, server, 10_000, turns),
+            Row::BehindMany => additions::search(alloc, server, 1_000_000, turns),
+            Row::Revoked => searches::search(alloc, server, SHORT, true, turns),
+            Row::Pages => searches::search(alloc, server, LONG, false, turns),
+            Row::RevokedPages => searches::search(alloc, server, LONG, true, turns),
+            _ => searches::search(alloc, server, SHORT, false, turns),
         }
     }
 

@@ -3,7 +3,7 @@ ghost use Rattle.std.specs.Prelude.{◌<◌, length};
 use keyed_fn::{Keyed, Real};
 use search_token::Token;
 use server_core::{Answer, Server};
-use server_tables::BucketTables;
+use server_tables::Tables;
 use sse_frames::read_frame;
 use std::alloc::{AllocError, Global};
 
@@ -50,21 +50,11 @@ const ONE: &[u8] = b"\x00\x01";
 
 pub(crate) const SEARCH: &[u8] = b"\x00\x00\x00\xa1\x08";
 
-/// Searches so often for a list, of whose identifiers none or a tenth is revoked. How many were found in all, modulo 2^64.
-pub(crate) fn search(
+/// Searches a server that has taken nothing so often for a list, of whose identifiers none or a tenth is revoked. How many were found in
+/// all, modulo 2^64.
+pub(crate) fn search<T: Tables>(
     alloc: Global,
-    list: List,
-    some_revoked: bool,
-    turns: u64,
-) -> Result<u64, AllocError> {
-    let mut server = Server::new(BucketTables::new(alloc));
-    search_in(alloc, &mut server, list, some_revoked, turns)
-}
-
-/// The same in a server that has taken nothing.
-fn search_in(
-    alloc: Global,
-    server: &mut Server<BucketTables>,
+    server: &mut Server<T>,
     list: List,
     some_revoked: bool,
     turns: u64,
@@ -126,16 +116,16 @@ fn token() -> Token {
 }
 
 /// Hands the server bytes that are a frame.
-pub(crate) fn hand(server: &mut Server<BucketTables>, bytes: &[u8], page: &mut [u64]) {
+pub(crate) fn hand<T: Tables>(server: &mut Server<T>, bytes: &[u8], page: &mut [u64]) {
     if let Ok(Some((frame, _))) = read_frame(bytes) {
         server.handle(&Real, &frame, page);
     }
 }
 
 /// Hands the server bytes that are a search, and takes what it gives, page by page: how many identifiers.
-pub(crate) fn find<K: Keyed>(
+pub(crate) fn find<K: Keyed, T: Tables>(
     keyed: &K,
-    server: &mut Server<BucketTables>,
+    server: &mut Server<T>,
     bytes: &[u8],
     page: &mut [u64],
 ) -> u64
@@ -158,11 +148,11 @@ pub(crate) fn find<K: Keyed>(
 }
 
 /// Sets up a server that has taken nothing, with the list of this token alone.
-pub(crate) fn set_up(
+pub(crate) fn set_up<T: Tables>(
     alloc: Global,
     token: &Token,
     list: List,
-    server: &mut Server<BucketTables>,
+    server: &mut Server<T>,
     page: &mut [u64],
 ) -> Result<(), AllocError> {
     let mut bytes = Vec::new(alloc);
@@ -214,12 +204,12 @@ fn cell(token: &Token, list: List) -> [u8; 513] {
 }
 
 /// Hands the server the encrypted block of this number with the numbers from `first` on, in a frame of its own.
-fn push_block(
+fn push_block<T: Tables>(
     bytes: &mut Vec<u8>,
     token: &Token,
     number: u32,
     first: u64,
-    server: &mut Server<BucketTables>,
+    server: &mut Server<T>,
     page: &mut [u64],
 ) -> Result<(), AllocError> {
     let mut block = [0u8; 2048];
@@ -238,11 +228,11 @@ fn push_block(
 }
 
 /// Deletes a tenth of the identifiers, each by a frame of its own.
-fn revoke(
+fn revoke<T: Tables>(
     alloc: Global,
     token: &Token,
     list: List,
-    server: &mut Server<BucketTables>,
+    server: &mut Server<T>,
     page: &mut [u64],
 ) -> Result<(), AllocError> {
     let mut bytes = Vec::new(alloc);
