@@ -7,12 +7,11 @@ import datetime
 import email
 import email.errors
 import email.header
-import email.policy
 import email.utils
 import email.parser
-import html.parser
 import io
 import re
+from email.message import Message  # noqa: F401
 
 # what a person reads of a header
 FIELDS = ("from", "to", "cc", "subject", "date")
@@ -38,7 +37,7 @@ OTHER_CHARSETS = {
 NO_CHARSETS = {"idna", "punycode", "undefined"}
 
 
-class AsTheyStand(email.policy.Compat32):
+class AsTheyStand(type(Message().policy)):
     """Hands out header fields as they stand, for `field_text`. The standard policies are slow, and raise errors of
     many kinds at malformed fields."""
 
@@ -67,7 +66,7 @@ def message_as_it_stands(file):
 
 
 class Raw(io.RawIOBase):
-    """A file to be read in pieces: those that the mailbox module hands out are slow where they are read by lines."""
+    """A file to be read in pieces: those that the mailbox module hands out are slow when they are read by lines."""
 
     def __init__(self, file):
         super().__init__()
@@ -156,36 +155,11 @@ def known(charset):
     return OTHER_CHARSETS.get(charset, charset)
 
 
-class Shown(html.parser.HTMLParser):
-    """Gathers the text that a reader of HTML sees."""
-
-    def __init__(self):
-        super().__init__()
-        self.pieces = []
-        self.hidden = None
-
-    def handle_starttag(self, tag, attrs):
-        if tag in ("script", "style"):
-            self.hidden = tag
-
-    def handle_endtag(self, tag):
-        if tag == self.hidden:
-            self.hidden = None
-
-    def handle_data(self, data):
-        if self.hidden is None:
-            self.pieces.append(data)
-
-
 def shown_in(text):
-    parser = Shown()
-    try:
-        parser.feed(text)
-        parser.close()
-    except AssertionError:
-        # what the parser answers to a declaration that it doesn't know: its words are taken with the tags
-        return text
-    return " ".join(parser.pieces)
+    """The text that a reader of HTML sees; what finds it is loaded only where there is HTML."""
+    from .shown import shown_in as shown  # pylint: disable=import-outside-toplevel
+
+    return shown(text)
 
 
 def pieces_of(message, place, report, fields=None):
@@ -234,6 +208,15 @@ def day_of(field):
         return datetime.date(year, month, day).isoformat()
     except (TypeError, ValueError, IndexError, OverflowError):
         return "(no date)"
+
+
+def time_of(message):
+    """When a mail was written, in seconds since 1970, and that day where it was written; None if it doesn't say."""
+    try:
+        fields = email.utils.parsedate_tz(message["date"] or "")
+        return int(email.utils.mktime_tz(fields)), datetime.date(*fields[:3]).isoformat()
+    except (TypeError, ValueError, IndexError, OverflowError):
+        return None
 
 
 def begins_a_mail(content):

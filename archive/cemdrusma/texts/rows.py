@@ -14,7 +14,7 @@ def rows_in(text):
         for number, row in enumerate(csv.reader(io.StringIO(text, newline=""), delimiter=separator), 1):
             yield number, row
     except csv.Error as error:
-        raise csv.Error(f"is no CSV behind row {number}: {error}") from error
+        raise csv.Error(f"is no CSV after row {number}: {error}") from error
 
 
 def shortened(text):
