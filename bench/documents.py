@@ -1,10 +1,9 @@
-"""The scripts of the bench, each a list of lines: documents of 60 words, a setup with b = 16 and B = 64, then updates and
+"""The scripts of the benchmark, each a list of lines: documents of 60 words, a setup with b = 16 and B = 64, then updates and
 searches.
 
 A document has the word `all`, as every document has, `m` with one of 10 numbers, `u` with its own identifier, and 57 of 1,000
-words, each of which is in 57 of 1,000 documents. So a few words are in many documents and most are in one. Beside it
-documents whose words are drawn by Zipf's law: the n-th of 20,000 words comes in proportion to 1/n.
-"""
+words, each of which is in 57 of 1,000 documents. So a few words are in many documents and most are in one. There are also
+documents whose words are drawn by Zipf's law: the n-th of 20,000 words comes in proportion to 1/n."""
 import random
 
 B_SMALL, B_LARGE = 16, 64

@@ -1,12 +1,11 @@
-"""The documents, deletions, additions and searches of a script in SQLite's FTS5, in plain text and in memory. It prints the
-processor time that they took in milliseconds, without the interpreter's start and without reading the script, and how many
-identifiers all searches found.
+"""The documents, deletions, additions and searches of a script in SQLite's FTS5, in plain text and in memory. It prints the processor
+time that they took in milliseconds, without the interpreter's start and without reading the script, and how many identifiers all
+searches found.
 
     python3 bench/fts5.py SCRIPT
 
-The documents of the setup are inserted in one transaction; each update behind it is a transaction of its own, as each is
-a command of its own here.
-"""
+The documents of the setup are inserted in one transaction; each later update is a transaction of its own, as it is a command of its own
+here."""
 import sqlite3
 import sys
 import time

@@ -1,13 +1,18 @@
 #!/usr/bin/env python3
-"""Runs the gate, or any command, and tells what it cost by crate: processor seconds of the proof, the tests and the must-fail
-edits. Each second it reads from /proc what the processes below the command have used; what a process uses behind its last
-reading, a second at most, is told as not seen. A process is told by its number and its start, since numbers are used again.
+"""Runs the gate, or any command, and prints what it cost by crate: processor seconds of the proof, the tests and the must-fail
+edits. Each second it reads from /proc what the processes below the command have used; what a process uses after its last
+reading, a second at most, is counted as not seen. A process is identified by its number and its start, since numbers are used again.
 
-    bench/gate_minutes.py [COMMAND..]      rt ci --anew, or this command, as: bench/gate_minutes.py rt ci chacha_stream
+    bench/gate_minutes.py [COMMAND..]      rt ci --anew, or this command, for example: bench/gate_minutes.py rt ci chacha_stream
+    bench/gate_minutes.py --budget         runs nothing; prints what each crate may cost, and which rules of docs/GATE.md it breaks
 
-What a run passed before is kept on the machine, so only a run of --anew, or one on a new machine, tells the whole cost. The
-table is that of docs/WORKING.md; it is printed behind what the command prints, and ends with the command's status."""
+What a run passed before is kept on the machine, so only a run of --anew, or one on a new machine, shows the whole cost. The
+table comes after what the command prints; the status is the command's. The last column is what the crate may cost, in minutes of a
+quiet machine, by docs/GATE.md; `above` marks a crate that took more. With all processors busy the same work takes 1.6 to 2 times as
+many processor seconds, so compare such a run with `--busy 1.6` before the command."""
+import glob
 import os
+import re
 import subprocess
 import sys
 import time
@@ -15,6 +20,18 @@ import time
 TICKS = os.sysconf("SC_CLK_TCK")
 KINDS = ("proof", "tests", "edits", "other")
 NO_CRATE = "no crate"
+TOP = os.path.dirname(os.path.dirname(os.path.abspath(__file__)))
+
+# What a crate may cost, in processor minutes of a quiet machine: proof, tests and edits. The table of docs/GATE.md has the same numbers.
+LAWS, LOW, MIDDLE, UPPER, PROGRAM, TESTS = "definitions and laws", "low", "middle, with edits", "upper, without edits", "program", "tests"
+BUDGET = {LAWS: (0.5, 0, 0), LOW: (1.5, 0, 2.3), MIDDLE: (1.5, 0, 2.7), UPPER: (2.5, 0, 0), PROGRAM: (1.2, 0, 0), TESTS: (0.1, 2.9, 0)}
+# up to this level a crate is low
+LOW_LEVEL = 3
+# how many functions a crate has at most: up to LOW_LEVEL, above it with edits, and above it without
+MOST_LOW, MOST_MIDDLE, MOST_UPPER = 60, 35, 50
+# how many edits a crate has, if it has any; a crate with more for a reason that docs/GATE.md gives
+EDITS = range(3, 6)
+MANY_EDITS = {"sse_journal": 8}
 
 
 def parents():
@@ -83,8 +100,80 @@ class Spent:
         return table
 
 
+class Crate:
+    """What the tree says of a crate, and so what it may cost."""
+
+    def __init__(self, name, level, is_used):
+        text = "".join(read(path) for path in glob.glob(f"{TOP}/crates/{name}/src/**/*.rt", recursive=True))
+        self.name, self.level = name, level
+        self.functions = len(re.findall(r"^\s*(?:pub(?:\(\w+\))? )?(?:const )?fn \w+", text, re.M))
+        self.tests = text.count("#[test]")
+        self.edits = len(glob.glob(f"{TOP}/crates/{name}/must-fail/*.edit"))
+        self.kind = self.kind_of(os.path.exists(f"{TOP}/crates/{name}/src/main.rt"), is_used)
+        proof, tests, edits = BUDGET[self.kind]
+        self.minutes = proof + tests + (edits if self.edits else 0)
+
+    def kind_of(self, is_program, is_used):
+        if is_program:
+            return PROGRAM
+        if not self.functions:
+            return LAWS
+        if self.tests and not is_used:
+            return TESTS
+        if self.level <= LOW_LEVEL:
+            return LOW
+        return MIDDLE if self.edits else UPPER
+
+    def broken_rules(self):
+        """The rules of docs/GATE.md that numbers show as broken, in words."""
+        found = []
+        if self.edits and self.kind in (LAWS, PROGRAM, TESTS):
+            found.append("has edits")
+        elif self.edits and self.edits not in EDITS and MANY_EDITS.get(self.name) != self.edits:
+            found.append(f"{self.edits} edits")
+        most = MOST_LOW if self.level <= LOW_LEVEL else MOST_MIDDLE if self.edits else MOST_UPPER
+        if self.kind in (LOW, MIDDLE, UPPER) and self.functions > most:
+            found.append(f"more than {most} functions")
+        if self.tests and self.kind != TESTS:
+            found.append("has tests beside functions")
+        return found
+
+
+def read(path):
+    with open(path, encoding="utf-8") as file:
+        return file.read()
+
+
+def crates():
+    """By name, the crates of crates.txt, the lowest first."""
+    lines = [line.partition("#")[0] for line in read(f"{TOP}/crates.txt").split("\n")]
+    below = {line.partition(":")[0].strip(): line.partition(":")[2].split() for line in lines if ":" in line}
+    used, levels = {name for names in below.values() for name in names}, {}
+    for name, names in below.items():
+        levels[name] = 1 + max((levels.get(one, 0) for one in names), default=0)
+    return {name: Crate(name, levels[name], name in used) for name in below}
+
+
+def print_budget():
+    found = crates()
+    print("| Crate | Kind | Level | Functions | Edits | May cost, minutes | Rules it breaks |\n|---|---|---|---|---|---|---|")
+    for crate in sorted(found.values(), key=lambda one: (one.level, one.name)):
+        print(
+            f"| {crate.name} | {crate.kind} | {crate.level} | {crate.functions} | {crate.edits or ''} | {crate.minutes:.1f}"
+            f" | {', '.join(crate.broken_rules())} |"
+        )
+    minutes, edited = sum(crate.minutes for crate in found.values()), sum(bool(crate.edits) for crate in found.values())
+    print(f"\n{len(found)} crates, {edited} of them with edits; all may cost {minutes:.0f} minutes.")
+    return 0
+
+
 def main():
-    command = sys.argv[1:] or ["rt", "ci", "--anew"]
+    command, busy, known = sys.argv[1:], 1.0, crates()
+    if command == ["--budget"]:
+        return print_budget()
+    if command[:1] == ["--busy"] and len(command) > 1:
+        busy, command = float(command[1]), command[2:]
+    command = command or ["rt", "ci", "--anew"]
     before, start = os.times(), time.time()
     ran = subprocess.Popen(command)
     spent = Spent(ran.pid)
@@ -95,9 +184,12 @@ def main():
     used = after.children_user + after.children_system - before.children_user - before.children_system
     table = spent.by_crate()
     seen = sum(sum(row.values()) for row in table.values())
-    print(f"\n| Crate | {' | '.join(kind.capitalize() for kind in KINDS)} | Minutes |\n|---{'|---' * len(KINDS)}|---|")
+    print(f"\n| Crate | {' | '.join(kind.capitalize() for kind in KINDS)} | Minutes | May cost |\n|---{'|---' * len(KINDS)}|---|---|")
     for crate, row in sorted(table.items(), key=lambda one: -sum(one[1].values())):
-        print(f"| {crate} | {' | '.join(f'{row[kind]:.0f}' for kind in KINDS)} | {sum(row.values()) / 60:.1f} |")
+        minutes = sum(row.values()) / 60
+        may = f"{known[crate].minutes * busy:.1f}" if crate in known else ""
+        mark = " above" if may and minutes > known[crate].minutes * busy else ""
+        print(f"| {crate} | {' | '.join(f'{row[kind]:.0f}' for kind in KINDS)} | {minutes:.1f} | {may}{mark} |")
     print(
         f"\nProcessor seconds; {used / 60:.1f} minutes in all, {max(used - seen, 0) / 60:.1f} of them not seen;"
         f" {(time.time() - start) / 60:.1f} minutes by the clock."

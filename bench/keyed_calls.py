@@ -1,9 +1,8 @@
-"""How many keyed calls a script needs, and how many bytes its frames have, counted from its lines alone.
+"""How many keyed calls a script needs, and how many bytes its frames have, counted from its lines only.
 
-A call is counted where a frame holds its value or a search looks it up: each value and each pad once, and each key when it
-is first needed. A client keeps a word's keys, and prepares those of which more than one value is asked; a server begins with
-the token at each search. A value under a prepared key costs two blocks of SHA-256, and so does preparing a key.
-"""
+A call is counted if a frame holds its value or a search looks it up: each value and each keystream segment once, and each key when it is
+first needed. A client keeps a word's keys, and prepares those from which it needs more than one value; a server begins each search with the
+token. A value under a prepared key costs two blocks of SHA-256, and so does preparing a key."""
 
 
 class Calls:
@@ -19,7 +18,7 @@ class Calls:
         return Calls(**{name: getattr(self, name) - getattr(other, name) for name in self.NAMES})
 
     def rows(self):
-        """The rows of sse_bench that make them, with their turns."""
+        """The rows of tool_bench that make them, with their turns."""
         return [("prepared", self.values + self.prepared), ("short_pads", self.short_pads),
                 ("cell_pads", self.cell_pads), ("block_pads", self.block_pads)]
 

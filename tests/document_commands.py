@@ -1,20 +1,20 @@
-"""The commands that stand in the documents, read out of their text: those of code blocks, with the output that is printed below each, and
-those in backquotes, in tables and elsewhere. `.ci/commands` runs them."""
+"""The commands in the documents, read out of their text: those of code blocks, with the output that is printed below each, and those in
+backquotes, in tables and elsewhere. `.ci/commands` runs them."""
 import glob
 import os
 import re
 import shutil
 
 TOP = os.path.dirname(os.path.dirname(os.path.abspath(__file__)))
-DOCUMENTS = ["README.md", "CHANGELOG.md", *sorted(os.path.relpath(path, TOP) for path in glob.glob(os.path.join(TOP, "docs", "*.md"))),
-             "examples/README.md", "tests-that-fail/README.md"]
+# the pages at the top, those of docs/, and the README of each folder at the top
+DOCUMENTS = [path for pattern in ("README.md", "[!R]*.md", "docs/*.md", "*/README.md") for path in sorted(glob.glob(pattern, root_dir=TOP))]
 
 # where programs stand, and how one of them is named: without an ending, or as a file that can be run
-PROGRAM = re.compile(r"(?:\./)?((?:bin|\.ci|tests|bench|examples|docs/pictures)/[\w.-]+)")
+PROGRAM = re.compile(r"(?:\./)?((?:bin|\.ci|tests|bench|examples|archive|docs/pictures)/[\w.-]+)")
 # programs of others that are a command alone too
 ALONE = {"make", "rt"}
 # programs that are no command alone, since their names are those of crates, documents or ordinary words, but are with words behind them
-WITH_WORDS = {"archive", "journal_records", "leak_bytes", "sse_bench", "sse_leaks", "sse_local", "sse_net", "sse_served", "sse_transcript",
+WITH_WORDS = {"archive", "tool_journal_records", "tool_leak_bytes", "tool_bench", "sse_leaks", "sse_local", "sse_net", "sse_served", "tool_transcript",
               "apt", "apt-get", "bash", "cargo", "cat", "cc", "cd", "chmod", "cp", "curl", "docker", "gcc", "git", "grep", "groff", "head", "kill", "ln",
               "ls", "man", "mkdir", "mv", "nginx", "notmuch", "openssl", "pip", "python3", "rm", "sed", "sh", "socat", "sort", "ssh", "sudo", "systemctl", "tail",
               "tar", "time", "ulimit", "wget"}
@@ -23,15 +23,13 @@ NO_PROGRAMS = {"add", "del", "doc", "file", "find", "id", "join", "key", "more",
 OPTION = re.compile(r"--[a-z]")
 
 
-
-
 def read(path):
     with open(os.path.join(TOP, path), encoding="utf-8") as file:
         return file.read()
 
 
-# the rows of sse_bench, each a command with a number behind it
-BENCH_ROWS = set(re.findall(r'^    \("(\w+)", Row::', read("crates/sse_bench/src/row.rt"), re.MULTILINE))
+# the rows of tool_bench, each a command with a number behind it
+BENCH_ROWS = set(re.findall(r'^    \("(\w+)", Row::', read("crates/tool_bench/src/row.rt"), re.MULTILINE))
 
 
 class Command:

@@ -1,5 +1,5 @@
-"""What may happen to a program, its link or its file in a run of tests/shaken.py: at a byte, behind a line, at a time, or at a call on a
-file, which a shared object meets that is made of tests/at_call.c."""
+"""What may happen to a program, its link or its file in a run of tests/shaken.py: at a byte, after a line, at a time, or at a call on a
+file, which is met by a shared object made of tests/at_call.c."""
 import os
 import resource
 import signal
@@ -122,7 +122,7 @@ class Faults:
         return Fault(f"{name} at any time", ends, action, seconds=self.draw.uniform(0, 1.2 * self.duration))
 
     def killed_behind_a_line(self):
-        return Fault("client killed behind a line", ((KILLED,), ()), kill_client, way="lines", place=self.draw.randint(1, max(self.lines, 1)))
+        return Fault("client killed after a line", ((KILLED,), ()), kill_client, way="lines", place=self.draw.randint(1, max(self.lines, 1)))
 
     def cut(self):
         return self.on_the_wire("link cut", ((5,), ()), self.draw.choice([cut, cut_at_once]))

@@ -1,13 +1,12 @@
 """What a server learns, as a plain model: what each command of a history leaks, the values that are drawn for it, and all that a
 simulator makes of these two. docs/LEAKAGE.md has the same in words.
 
-A history is a setup with the commands behind it that were accepted; they are numbered from 0, the setup first. What a command
-leaks and what is drawn for it are told by the commands before it (`past`, without the setup) and by the command itself.
+A history is a setup with the accepted commands after it, numbered from 0, the setup first. What a command leaks and what is drawn for it is
+determined by the commands before it (`past`, without the setup) and by the command itself.
 
-First come the items of leakage and the draws, then the simulator, which is given these alone: no word, no document and no key.
-Histories come next, then their leakage, then their draws, which alone know the key; last, an item as text: in short for
-tests/leakages.txt, and as the line that docs/FORMATS.md has for a person, which the program sse_leaks prints.
-"""
+First come the items of leakage and the draws, then the simulator, which is given only these: no word, no document and no key.
+Histories come next, then their leakage, then their draws, which are the only part that knows the key. Last comes an item as text: in short
+for tests/leakages.txt, and as the line that docs/FORMATS.md has for a person, which the program sse_leaks prints."""
 import functools
 import hmac
 import struct

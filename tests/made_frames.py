@@ -1,6 +1,6 @@
-"""Connections that are made up for a server, frame by frame beside the model of what it holds (tests/server_model.py), so that frames
-of every kind meet it in every state: what it takes, what it refuses for each reason, and bytes that are no frame behind them. The same
-for the same draw."""
+"""Made connections to a server, frame by frame beside the model of what it holds (tests/server_model.py), so that it meets frames of
+every kind in every state: those that it accepts, those that it refuses for each reason, and bytes that are no frame after them. The same
+draw gives the same connections."""
 import collections
 
 import leak_model

@@ -1,4 +1,4 @@
-"""Scripts that are made up, the same for the same seed."""
+"""Made scripts, the same for the same seed."""
 import random
 
 WORDS = [word.encode() for word in ("a", "b", "ab", "w0", "w1", "w2", "A", "ä", "0", "-", "add", "鍵")] + [

@@ -1,5 +1,5 @@
-"""Inputs of turns that are made up, the same for the same seed: a script that is cut at random commands and gone on with, over disks and
-links of which calls fail. docs/WORKING.md has the form of an input."""
+"""Made inputs of turns, the same for the same seed: a script that is cut at random commands and resumed, over disks and links of which
+calls fail. .ci/turns has the form of an input."""
 import random
 
 import leak_model

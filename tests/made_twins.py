@@ -1,6 +1,5 @@
-"""Two scripts with a line `twin` between them that are made up, the same for the same seed: either a history with another that was
-changed step by step, each step keeping what a server learns, so that the two leak the same; or one that was changed once more, so
-that they don't."""
+"""Made pairs of scripts with a line `twin` between them, the same for the same seed: a history and another one that was changed step by
+step, each step keeping what a server learns, so that both leak the same; or one that was changed once more, so that they don't."""
 import random
 
 import leak_model as model

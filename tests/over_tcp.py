@@ -1,6 +1,6 @@
 """What checks of the programs over TCP share: servers that are started on a free port of this machine and ended by their own number,
-clients, what has to pass for a script and to stand in both journals, a script in parts, files, and a list of checks that is gone
-through, each in a folder of its own."""
+clients, what must pass for a script and be in both journals, a script in parts, files, and a list of checks that is gone through, each in a
+folder of its own."""
 import concurrent.futures
 import multiprocessing
 import os
@@ -38,7 +38,7 @@ def same(what, seen, wanted):
     if seen != wanted:
         if isinstance(seen, bytes):
             seen, wanted = compare.shortened(seen), compare.shortened(wanted)
-        raise Differs(f"{what} is {seen}, wanted {wanted}")
+        raise Differs(f"{what} is {seen}, expected {wanted}")
 
 
 def read(path):
@@ -168,7 +168,7 @@ class Server:
 
     def ends_with(self, line, status):
         rest, _ = self.process.communicate(timeout=SECONDS)
-        same("what is printed", self.printed + rest, line)
+        same("the output", self.printed + rest, line)
         same("the status", self.process.returncode, status)
 
 
@@ -189,14 +189,14 @@ def client(address, path, mode, script):
 
 def run(address, path, mode, script, lines, status):
     printed, ended = client(address, path, mode, script)
-    same(f"what {mode} prints", printed, lines)
+    same(f"the output of {mode}", printed, lines)
     same(f"the status of {mode}", ended, status)
 
 
 def ends(program, words, line, status, script=b""):
     """Runs a program to its end."""
     ran = subprocess.run([program, *words], input=script, stdout=subprocess.PIPE, timeout=SECONDS, check=False)
-    same(f"what {words} prints", ran.stdout, line)
+    same(f"the output of {words}", ran.stdout, line)
     same(f"the status of {words}", ran.returncode, status)
 
 

@@ -1,5 +1,5 @@
-"""The records of a client's journal as a plain model, by docs/FORMATS.md: one of the setup, then one of each addition and deletion;
-and what a run that goes on makes of records."""
+"""The records of a client's journal as a plain model, by docs/FORMATS.md: one of the setup, then one of each addition and deletion; and
+what a run that resumes makes of records."""
 import leak_model
 import script_model
 from leak_model import be

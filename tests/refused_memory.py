@@ -1,5 +1,5 @@
-"""What refuses a program its requests for memory: a shared object that `cc` makes and the loader puts before the program. It refuses the
-request of one number, counted from 1, or that one and all behind it, and says so on standard error at the first."""
+"""Refuses a program its requests for memory, by a shared object that `cc` makes and the loader puts before the program. It refuses the
+request of one number, counted from 1, or that one and all after it, and says so on standard error at the first."""
 import os
 import shutil
 import subprocess

@@ -1,5 +1,5 @@
-"""What a client makes of replies, whatever they are, as a plain model by docs/FORMATS.md: the lines of a run, its status, what it sends and
-how many records it keeps."""
+"""What a client makes of any replies, as a plain model by docs/FORMATS.md: the lines of a run, its status, what it sends and how many
+records it keeps."""
 import server_model
 
 MOST_REPLY = 65540

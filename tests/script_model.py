@@ -1,8 +1,7 @@
-"""A plain model of a script: the lines that it makes the program print, and the status, by docs/FORMATS.md.
+"""A plain model of a script: the lines that the program must print for it, and the status, by docs/FORMATS.md.
 
-It knows no keys and no frames: a document is an identifier with words, and a search names the live documents that hold
-its word. So what it answers says nothing of collisions, of links and of memory: the statuses are 0, 1 and 2.
-"""
+It knows no keys and no frames: a document is an identifier with words, and a search names the live documents that hold its word. So it says
+nothing about collisions, links and memory: its statuses are 0, 1 and 2."""
 import re
 
 LINE_BYTES = 2**19

@@ -1,5 +1,5 @@
-"""A plain model of a server, by docs/FORMATS.md: which bytes are a frame, what each frame makes of what is there, and the replies. It
-stands on no code of the programs, holds its tables as dictionaries, and knows the keyed functions from tests/leak_model.py."""
+"""A plain model of a server, by docs/FORMATS.md: which bytes are a frame, what each frame makes of the state, and the replies. It uses no
+code of the programs, holds its tables as dictionaries, and has the keyed functions from tests/leak_model.py."""
 import functools
 import hmac
 

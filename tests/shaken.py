@@ -1,6 +1,6 @@
-"""A history that is told to the client's program piece by piece, whatever happens between: what is to be printed, sent, answered and
-kept of it, by the plain models (tests/script_model.py, tests/leak_model.py, tests/record_model.py, tests/journal_model.py); and one
-run of the client over an address in front of the server's, at which what passes is counted, and stopped where it is asked for."""
+"""A history that is given to the client's program piece by piece, whatever happens in between: what must be printed, sent, answered and
+kept of it, by the plain models (tests/script_model.py, tests/leak_model.py, tests/record_model.py, tests/journal_model.py); and one run of
+the client over an address in front of the server's, where the bytes are counted, and stopped if a fault asks for it."""
 import contextlib
 import os
 import selectors
@@ -116,7 +116,7 @@ def check_left(name, before, file, payloads, is_settled):
         body = journal_model.record(payloads[journal.records])[1:] + b"\0" if journal.records < len(payloads) else b""
         repaired = not journal.tail and file[end] in (0, *before[end:end + 1])
         if not repaired and not (file[end] == 0 and body.startswith(journal.tail)):
-            raise Differs(f"behind the records of {name} stands {file[end:].hex()}")
+            raise Differs(f"after the records of {name} there is {file[end:].hex()}")
     return journal
 
 
@@ -186,7 +186,7 @@ class Run:
             ready = self.waits.select(wait if self.is_open() else 0)
             is_idle = not ready
             if is_idle and due is None and self.is_open():
-                raise Differs("nothing moves any more")
+                raise Differs("neither side makes progress")
             for key, _ in ready:
                 if key.fileobj.fileno() >= 0:
                     key.data()

@@ -1,14 +1,16 @@
-"""A plain model of runs on a disk, one after the other: what the program sse_transcript prints of an input of turns, by docs/DISKS.md and
+"""A plain model of runs on a disk, one after the other: what the program tool_transcript prints of an input of turns, by docs/DISKS.md and
 docs/FORMATS.md. What passes and what stands in the files is that of tests/leak_model.py, tests/record_model.py and
 tests/journal_model.py; here is what fails, what is left then, and what is gone on with.
 
-It is for the real keyed function, for journals that a client or a server of it wrote, whole or not, and for servers that took what the
-client sent. It makes the calls of a disk in the order in which the journal makes them, so that the call of a number is the same one."""
+It is for the real keyed function, for journals that a client or a server of it wrote, whole or not, for servers that took what the
+client sent, and for replies that are given, whatever they are. It makes the calls of a disk in the order in which the journal makes them,
+so that the call of a number is the same one; a script that is short is read by one call, and a line is printed by one."""
 from dataclasses import dataclass, field
 
 import journal_model
 import leak_model
 import record_model
+import reply_model
 import script_model
 from leak_model import be, framed
 
@@ -183,6 +185,52 @@ class Link:
         return replies
 
 
+class Replies:
+    """A link that plays replies back, whatever is sent."""
+
+    def __init__(self, text):
+        self.stream = reply_model.Stream(text)
+        self.passed = []
+
+    def received(self):
+        reply = self.stream.reply()
+        self.passed.append((leak_model.RECEIVED, reply))
+        return reply
+
+    def exchange(self, frame, pages=None):
+        """Sends a frame and receives its replies, up to one that isn't expected."""
+        self.passed.append((leak_model.SENT, frame))
+        try:
+            return list(self.replies(frame, pages is not None))
+        except reply_model.Stop as stop:
+            line, status = stop.args
+            raise Stopped(status, line) from None
+
+    def replies(self, frame, is_search):
+        is_last = not is_search
+        if is_last:
+            reply = self.received()
+            if not (frame == framed(1) and reply[4:5] == b"\x81" and len(reply) == 9 or reply == framed(0x82, frame[5:9])):
+                raise reply_model.stop_by(reply)
+            yield reply
+        is_first = True
+        while not is_last:
+            reply = self.received()
+            is_last, _ = reply_model.page_in(reply, is_first)
+            is_first = False
+            yield reply
+
+
+def rising(identifiers):
+    return sorted(identifiers)
+
+
+def found_in(pages):
+    """What is printed for these pages."""
+    found = rising(identifier for page in pages for identifier in reply_model.page_in(page, True)[1])
+    return f"found {len(found)}:" + "".join(f" {identifier}" for identifier in found)
+
+
 # The client.
 
 
@@ -208,11 +256,12 @@ def fails_with(status, text, call, *given):
 
 
 class Run:
-    """A run on a disk and over a link: the client's side, and what it prints."""
+    """A run on a disk and over a link: the client's side, and what it prints. `fails` has the call of the source and of the sink that
+    fails, from 0."""
 
-    def __init__(self, disk, link):
-        self.disk, self.link = disk, link
-        self.lines, self.status = [], 0
+    def __init__(self, disk, link, fails):
+        self.disk, self.link, self.fails = disk, link, fails
+        self.lines, self.status, self.printed = [], 0, 0
         self.store, self.documents, self.later = script_model.Store(), [], []
         self.key = self.setup = self.end = None
 
@@ -230,7 +279,19 @@ class Run:
             self.run(word, lines)
         except Stopped as stop:
             self.status, why = stop.args
-            self.lines.append(f"stopped: {why}")
+            # a sink that failed is given no more, and where it fails now the status stays
+            if self.status != 4 and self.takes_line():
+                self.lines.append(f"stopped: {why}")
+
+    def takes_line(self):
+        """Counts a line, and tells whether the sink takes it."""
+        self.printed += 1
+        return self.fails.get("sink") != self.printed - 1
+
+    def tell(self, line):
+        if not self.takes_line():
+            raise Stopped(4, "sink")
+        self.lines.append(line)
 
     def run(self, word, lines):
         records, self.end = self.on_disk(start, self.disk)
@@ -238,6 +299,8 @@ class Run:
             raise Stopped(10, "journal has records" if records else "no journal")
         commands = self.commands(lines)
         self.key = next(commands)
+        if isinstance(self.key, Stopped):
+            raise self.key
         if word == "more":
             self.go_on(records)
         elif (number := self.greet()) != 0:
@@ -245,8 +308,10 @@ class Run:
         self.carry_out_all(list(commands))
 
     def commands(self, lines):
-        """The key, then each command; at last a stop where there is a bad line, or no key."""
-        number = 0
+        """The key, then each command; at last a stop where there is a bad line, or no key, or the source fails."""
+        number, failed = 0, self.fails.get("source")
+        if failed == 0:
+            raise Stopped(3, "source")
         for number, line in enumerate(lines, 1):
             try:
                 command = script_model.command_in(line)
@@ -259,7 +324,10 @@ class Run:
                 return
             if command:
                 yield bytes.fromhex(script_model.KEY.search(line)[0].decode()) if self.key is None else command
-        if self.key is None:
+        # the call behind the one that gave all finds the end
+        if failed == 1:
+            yield Stopped(3, "source")
+        elif self.key is None:
             raise Stopped(2, f"line {number + 1}")
 
     def greet(self):
@@ -271,8 +339,9 @@ class Run:
         payloads = []
         for record in records:
             payloads.append(self.on_disk(payload_at, self.disk, *record))
-            if not payloads[0].startswith(record_model.SETUP + record_model.mark_of(self.key)):
-                raise Stopped(11, "key")
+            why, store = record_model.gone_on(self.key, payloads)
+            if store is None:
+                raise Stopped(11 if why == "key" else 10, why)
         self.setup, *self.later = map(record_model.command_in, payloads)
         for document in self.setup.documents:
             self.store.add(*document)
@@ -290,7 +359,7 @@ class Run:
         left = commands[-1][number - low:]
         for frame, _ in left:
             self.over_link(frame)
-        self.lines.append(f"resumed {len(left)} frames")
+        self.tell(f"resumed {len(left)} frames")
 
     def carry_out_all(self, commands):
         """What each command brings and prints, then these over disk and link, one after the other."""
@@ -317,17 +386,21 @@ class Run:
             if what is None:
                 self.status = 1
             else:
-                self.send(what, next(frames))
-            self.lines.append(shown)
+                replies = self.send(what, next(frames))
+                if isinstance(self.link, Replies) and isinstance(what, leak_model.Search):
+                    shown = found_in(replies)
+            self.tell(shown)
 
     def send(self, what, frames):
-        """Keeps the record of an update, then sends the frames."""
+        """Keeps the record of an update, then sends the frames; the replies to the last one."""
         if not isinstance(what, leak_model.Search):
             is_setup = isinstance(what, leak_model.Setup)
             payload = record_model.setup_record(self.key, what) if is_setup else record_model.update_record(what)
             self.end = self.on_disk(append, self.disk, self.end, payload)
+        replies = []
         for frame, pages in frames:
-            self.over_link(frame, pages)
+            replies = self.over_link(frame, pages)
+        return replies
 
 
 # Turns.
@@ -346,15 +419,22 @@ def answers(text):
     for part in text.removesuffix(PARTING).split(PARTING):
         line, *lines = script_model.lines_of(part)
         _, word, name, call, *server = line.decode().split(" ")
+        fails = {}
+        while server and server[0] in ("source", "sink"):
+            name_of, number, *server = server
+            fails[name_of] = int(number)
         if name != "same":
             client = Disk(another(name, client))
         client.left = int(call)
-        if server:
+        over = link
+        if server and server[0] == "replies":
+            over = Replies(bytes.fromhex(server[1][1:]))
+        elif server:
             name, call, *cuts = server
-            link = Link(Server(another(name, link.server.disk), int(call)), {int(cut[:-1]): cut[-1] == "+" for cut in reversed(cuts)})
-        run, before = Run(client, link), len(link.passed)
+            over = link = Link(Server(another(name, link.server.disk), int(call)), {int(cut[:-1]): cut[-1] == "+" for cut in reversed(cuts)})
+        run, before = Run(client, over, fails), len(over.passed)
         run.carry_out(word, lines)
-        passed = [f"{way} {text.hex()}" for way, text in link.passed[before:]]
+        passed = [f"{way} {text.hex()}" for way, text in over.passed[before:]]
         yield passed, run.lines, run.status, client.file, link.server.disk.file
 
 

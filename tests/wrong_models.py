@@ -1,5 +1,5 @@
-"""Models that are wrong in one place, each a part of a module or a class with another one in its place: what tests/fuzz compares with one
-has to be found to differ, or it compares nothing."""
+"""Models that are wrong in one place, each a part of a module or a class replaced by another one. What tests/fuzz compares with such a
+model must be found to differ; otherwise it compares nothing."""
 import contextlib
 import re
 
@@ -69,12 +69,12 @@ WRONG = [
     ("frames", "cells have any size", Server, "is_in_place", is_in_place_of_any_size),
     ("frames", "a list ends at a hole", server_model, "leading", leading_before_a_hole),
     ("frames", "labels may be equal", Fields, "rising", rising_or_equal),
-    ("frames", "bytes may stand behind the last field", Fields, "end", lambda self: None),
+    ("frames", "bytes may follow the last field", Fields, "end", lambda self: None),
     ("frames", "update frames have one number more", server_model, "MOST_NUMBER", 2**32 - 1),
     ("journals", "a server takes each record", Server, "refusal", lambda self, frame: None),
     ("journals", "no setup lacks Q", record_model, "OLD_SETUP", b"\x15"),
     ("journals", "each key is another one", record_model, "mark_of", lambda key: b""),
-    ("journals", "what isn't there is deleted", script_model.Store, "carry_out", carry_out_deletions_of_nothing),
+    ("journals", "a missing document is deleted", script_model.Store, "carry_out", carry_out_deletions_of_nothing),
     ("replies", "a page may hold anything", reply_model, "page_in", page_of_anything),
     ("replies", "a store fault is the client's disk", reply_model, "stop_by", stop_by_a_store_fault),
     ("replies", "replies are longer", reply_model, "MOST_REPLY", 2**20),

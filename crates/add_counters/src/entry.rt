@@ -34,6 +34,8 @@ pub struct Entry {
     pub sealed: [u8; 8],
 }
 
+// Promise P63 (caller): An addition's entry is the one the key formulas give; there is none if and only if the counter is 2^32-1.
+//   clauses: entry, full; assumes: own keys
 /// The entry of a word's next addition, from its keys and its counter, the number of its additions so far. It takes no
 /// memory. Error: `CounterFull` exactly where the counter is 2^32-1.
 pub fn next_entry<K: Keyed>(

@@ -1,14 +1,15 @@
-//! The pads of the store: byte strings of any length from a 32-byte key and a number.
-//!
-//! Pad number n is the ChaCha20 key stream of RFC 8439 under the key, the nonce being four zero bytes
-//! and then n, low byte first, with the block counter from 0. The bytes come from `rand_chacha`; that
-//! they are the standard's is proved, by definitions of its own text (specs/Rfc8439.antt).
-//! `pad_into` writes `chacha_pad`, `xor_in_place` XORs it into bytes and takes no memory. A shorter pad
-//! is a prefix of a longer one, so a pad number is to be spent once; nothing here keeps count of that.
+//! The keystream that encrypts cells, blocks and identifiers: byte strings of any length from a 32-byte key and a
+//! number. Segment n, here called pad n, is the ChaCha20 keystream of RFC 8439 under the key; the nonce is four zero
+//! bytes and then n, low byte first, and the block counter begins at 0. The bytes come from `rand_chacha`. `pad_into`
+//! writes a pad, and `xor_in_place` XORs it into bytes without taking memory; a pad has at most 2^38 bytes, the range
+//! of the 32-bit block counter.
+//! Proved: a pad is the standard's keystream, by definitions that follow its text (specs/Rfc8439.antt).
+//! Not here: that a number is used once. A shorter pad is a prefix of a longer one, and nothing here counts uses.
+//! Side: both.
 #![tactic(auto)]
 
-mod masking;
 mod pad;
+mod pad_xor;
 
-pub use masking::xor;
 pub use pad::{pad_into, xor_in_place};
+pub use pad_xor::xor;

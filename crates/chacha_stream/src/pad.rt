@@ -7,6 +7,8 @@ use rand_chacha::ChaCha20Rng;
 use rand_core::utils::NextWord;
 use rand_core::{Rng, SeedableRng};
 
+// Promise P93 (caller): A pad is the key stream of RFC 8439 under its key and number.
+//   clauses: ensures; assumes: sizes in bounds; not: That pads look random, which is assumed.
 /// Writes pad number `n` over `out`: the first bytes of the ChaCha20 key stream (RFC 8439, 2.4) under
 /// `key`, the nonce being four zero bytes and then `n`, low byte first, the block counter from 0.
 ///
@@ -19,6 +21,7 @@ pub fn pad_into(key: &[u8; 32], n: u64, out: &mut [u8])
     stream.fill_bytes(out);
 }
 
+// Promise P93, also here; clauses: ensures
 /// XORs pad number `n` under `key` into the bytes, which encrypts them, or decrypts what it encrypted
 /// (RFC 8439, 2.4). The pad is that of [`pad_into`], made word by word: no memory is taken.
 ///

@@ -2,7 +2,7 @@
 use Rattle.std.proofs.Common.{◌≡◌, ℕ, zero, suc, ◌+◌, ◌<◌, ◌≤◌, List, [], ◌∷◌, map, length, get_or, take, drop, refl, sym, ap, ◌∙◌, arith}
 use Rattle.std.proofs.lemmas.List.{drop-drop, length-drop, length-map, nil_from_length}
 use Rattle.sse_frames.specs.Frames.{FrameText, frame_bytes}
-use Rattle.sse_frames.specs.Sending.{numbered}
+use Rattle.sse_frames.specs.SentParts.{numbered}
 use Rattle.client_core.proofs.FramesAt.{length-numbered}
 
 tail : (q : ℕ) (fs : List (ℕ → FrameText)) → map frame_bytes (numbered (q + 1) (drop 1 fs)) ≡ drop 1 (map frame_bytes (numbered q fs))

@@ -7,7 +7,7 @@ use Rattle.list_packing.specs.Parts.{parts}
 use Rattle.list_packing.proofs.PartsLemmas.{parts-at}
 use Rattle.sse_frames.specs.Frames.{FrameText, SetupEnd, InGrammar, IsFrame, IsNumber, IsSetupArray, IsSetupDict, Rises, frame_bytes, labels_of}
 use Rattle.sse_frames.specs.FrameViews.{entries_in, items_in}
-use Rattle.sse_frames.specs.Sending.{numbered}
+use Rattle.sse_frames.specs.SentParts.{numbered}
 use Rattle.sse_frames.proofs.Cut.{AreBytes, AreBytes-drop, AreBytes-take}
 use Rattle.index_setup.specs.Built.{IsIndex}
 use Rattle.index_setup.specs.declared.index.Index.{Index}

@@ -11,7 +11,7 @@ use Rattle.client_registry.specs.Run.{Offsets, Run, at_first}
 use Rattle.client_registry.specs.Setup.{Setup}
 use Rattle.keyed_fn.specs.KeyedFn.{KeyedFn}
 use Rattle.sse_frames.specs.Frames.{FrameText, frame_bytes}
-use Rattle.sse_frames.specs.Sending.{numbered}
+use Rattle.sse_frames.specs.SentParts.{numbered}
 use Rattle.sse_model.proofs.Counts.{length-frames_of_setup}
 use Rattle.sse_model.specs.Names.{table}
 use Rattle.sse_model.specs.Wire.{frames_of, frames_of_setup, next_number, wire}
@@ -21,7 +21,7 @@ use Rattle.client_core.proofs.StandsForLaws.{one_update}
 use Rattle.client_core.specs.Plans.{UpdatePlan}
 use Rattle.client_core.specs.Owes.{AreNumbered, Owes, last_frames}
 use Rattle.client_core.specs.Owed.{setup_left}
-use Rattle.client_core.specs.Sending.{first_number, to_send}
+use Rattle.client_core.specs.TakenViews.{first_number, to_send}
 use Rattle.client_core.specs.States.{BehindState, ReadyState}
 use Rattle.client_core.specs.declared.owed_setup.OwedSetup.{OwedSetup}
 use Rattle.client_core.specs.Setup.{frames_in, index_frames}
@@ -120,6 +120,7 @@ module _ (f : KeyedFn) (keys : ℕ → List ℕ) (o : Offsets) (run : Run) (k : 
 
 -- A stale plan.
 
+-- Promise P69, also here
 -- a plan that the client could commit can't be committed once it has taken an update as done: the number is another's
 pub stale_plan : (f : KeyedFn) (keys : ℕ → List ℕ) (o : Offsets) (run : Run) (u : Update) (old new : ReadyState) (planned : UpdatePlan)
     → StandsFor f keys o run old → StandsFor f keys o (with_command run (command_of_update u)) new → CanCommit old planned → CanCommit new planned → ⊥

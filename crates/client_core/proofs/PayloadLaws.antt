@@ -14,6 +14,7 @@ use Rattle.client_core.specs.States.{ClientOf}
 use Rattle.client_core.specs.Updates.{command_of_update}
 use Rattle.client_core.specs.declared.restored.Restored.TheVariants as restored
 
+-- Promise P68, also here
 -- the record of its setup's plan, then those of the plans of its updates, in order, are the records of a run
 pub payloads-records : (mark : List ℕ) (run : Run) (first : SetupPlan) (plans : List UpdatePlan) → setup_payload first ≡ setup_record mark run.setup
     → map (λ plan. command_of_update plan.update) plans ≡ filter is_update run.later → setup_payload first ∷ map update_payload plans ≡ records_of mark run
@@ -23,6 +24,7 @@ payloads-records mark run first plans setup updates = λ i. setup i ∷ (each pl
     each [] = refl
     each (plan ∷ some) = ap (λ (rest : List (List ℕ)). update_payload plan ∷ rest) (each some)
 
+-- Promise P68, also here
 -- the client of the records of a run remembers that run, without its searches
 pub restored-records : (mark n : List ℕ) (run : Run) (client : ClientOf Last) → length mark ≡ 16 → IsKept (Some run) → IsRestored n (records_of mark run) (restored.Recorded client)
     → Remembers (record { setup = run.setup; later = filter is_update run.later }) client.state

@@ -16,7 +16,7 @@ use Rattle.client_core.proofs.ResumeLaws.{first-setup}
 use Rattle.client_core.specs.Owes.{Owes}
 use Rattle.client_core.specs.ResumeFaults.{collision_fault, setup_fault}
 use Rattle.client_core.specs.Resumes.{Replans, first_of_last}
-use Rattle.client_core.specs.Sending.{first_number}
+use Rattle.client_core.specs.TakenViews.{first_number}
 use Rattle.client_core.specs.States.{BehindState, ClientOf}
 use Rattle.client_core.specs.declared.resume_fault.ResumeFault.{ResumeFault}
 use Rattle.client_core.specs.declared.resume_fault.ResumeFault.TheVariants as faults

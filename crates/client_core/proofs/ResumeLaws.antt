@@ -37,7 +37,7 @@ use Rattle.client_core.specs.Owes.{AreNumbered, Owes, last_frames}
 use Rattle.client_core.specs.ResumeFaults.{collision_fault, update_fault}
 use Rattle.client_core.specs.Restores.{Remembers}
 use Rattle.client_core.specs.Resumes.{Lacks, Replans, Resumes, first_of_last, first_recorded, last_collision}
-use Rattle.client_core.specs.Sending.{first_number, to_send}
+use Rattle.client_core.specs.TakenViews.{first_number, to_send}
 use Rattle.client_core.specs.StandsFor.{StandsFor, collision_next, frames_next, with_command}
 use Rattle.client_core.specs.States.{BehindState, ClientOf, ReadyState}
 use Rattle.client_core.specs.UpdateFaults.{clash_fault}
@@ -45,7 +45,7 @@ use Rattle.client_core.specs.declared.command_fault.CommandFault.{CommandFault}
 use Rattle.client_core.specs.declared.command_fault.CommandFault.TheVariants as commands
 use Rattle.client_core.specs.declared.resume_fault.ResumeFault.{ResumeFault}
 use Rattle.client_core.specs.declared.resume_fault.ResumeFault.TheVariants as faults
-use Rattle.client_core.specs.declared.resuming.Resumed.TheVariants as resumed
+use Rattle.client_core.specs.declared.resumed.Resumed.TheVariants as resumed
 
 -- Passing over frames.
 

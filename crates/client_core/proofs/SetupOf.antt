@@ -20,10 +20,10 @@ use Rattle.client_registry.specs.Setup.{Setup}
 use Rattle.sse_frames.specs.Frames.{Entry, FrameText, SetupBegin, SetupDict, SetupArray, SetupEnd, IsBytes, IsEntry, Rises, labels_of, update_number, frame_bytes}
 use Rattle.sse_frames.proofs.Joined.{items_in-joined, sizes_of}
 use Rattle.sse_frames.proofs.Sorted.{AllDiffer, All-by_bytes, Rises-by_bytes, length-by_bytes}
-use Rattle.sse_frames.proofs.Spelling.{entries_in-entry_bytes}
+use Rattle.sse_frames.proofs.FrameBytesLaws.{entries_in-entry_bytes}
 use Rattle.sse_frames.specs.Order.{by_bytes}
 use Rattle.sse_frames.specs.FrameViews.{entries_in, items_in}
-use Rattle.sse_frames.specs.Sending.{numbered, dict_frames, array_frames, setup_frames}
+use Rattle.sse_frames.specs.SentParts.{numbered, dict_frames, array_frames, setup_frames}
 use Rattle.sse_model.proofs.Counts.{AllByRecursion-append, AllByRecursion-each}
 use Rattle.sse_model.proofs.KeyValues.{IsValue-table}
 use Rattle.sse_model.proofs.SealedEntries.{HasNames, AllDiffer-words, cells_have_names, blocks_have_names}
@@ -151,6 +151,7 @@ module _ (P : ℕ → List FrameText → Type 0) (nil : (q : ℕ) → P q []) (c
         AllByRecursion-append Numbered (dict_frames shape entries ++ array_frames shape blocks) last (AllByRecursion-append Numbered (dict_frames shape entries) (array_frames shape blocks) dict array) (λ n. refl, tt),
       )
 
+  -- Promise P53, also here
   -- so a setup's frames are numbered one after the other, from the number of its first
   pub frames_of_setup-numbered : (t : Table) (o : Offsets) (s : Setup) → P o.frame (frames_of_setup t o s)
   frames_of_setup-numbered t o s =

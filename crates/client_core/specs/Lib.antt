@@ -1,5 +1,5 @@
 pub mod Owed
-pub mod Sending
+pub mod TakenViews
 pub mod Setup
 pub mod Plans
 pub mod PlanView

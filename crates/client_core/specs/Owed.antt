@@ -1,7 +1,7 @@
--- Which frames a client owes, by the fields of what it keeps of them.
+-- The frames that a client still has to send, by the fields in which it keeps them.
 use Rattle.std.specs.Prelude.{ℕ, List, [], ◌∷◌, map, drop}
 use Rattle.sse_frames.specs.Frames.{frame_bytes}
-use Rattle.sse_frames.specs.Sending.{numbered}
+use Rattle.sse_frames.specs.SentParts.{numbered}
 use Rattle.client_core.specs.Setup.{index_frames}
 use Rattle.client_core.specs.declared.behind.Owed.{Owed}
 use Rattle.client_core.specs.declared.behind.Owed.TheVariants as owes

@@ -1,15 +1,15 @@
--- What a client owes that has unacknowledged frames: the last ones of its history's last command.
+-- A client with unacknowledged frames: they are the last ones of its history's last command.
 use Rattle.std.specs.Prelude.{◌≡◌, ℕ, ◌+◌, ◌<◌, List, [], ◌∷◌, length, map, drop, slice_index_or, Some}
 use Rattle.client_registry.specs.Run.{Run, Offsets}
 use Rattle.keyed_fn.specs.KeyedFn.{KeyedFn}
 use Rattle.sse_frames.specs.Frames.{FrameText, frame_bytes, update_number}
 use Rattle.sse_model.specs.Names.{table}
 use Rattle.sse_model.specs.Wire.{wire}
-use Rattle.client_core.specs.Sending.{first_number, to_send}
+use Rattle.client_core.specs.TakenViews.{first_number, to_send}
 use Rattle.client_core.specs.StandsFor.{StandsFor}
 use Rattle.client_core.specs.States.{BehindState}
-use Rattle.client_core.specs.declared.sending.Taken.{Taken}
-use Rattle.client_core.specs.declared.sending.Taken.TheVariants as taken
+use Rattle.client_core.specs.declared.taken.Taken.{Taken}
+use Rattle.client_core.specs.declared.taken.Taken.TheVariants as taken
 
 -- update frames that are numbered one after the other, the first by q
 abbrev pub AreNumbered : ℕ → List FrameText → Type 0

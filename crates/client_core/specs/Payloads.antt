@@ -1,4 +1,4 @@
--- The records that a client's journal keeps of plans, by what contracts see of them.
+-- The journal records of plans, by the contract's view of a plan.
 use Rattle.std.specs.Prelude.{ℕ, List}
 use Rattle.client_records.specs.Records.{setup_record, update_record}
 use Rattle.client_registry.specs.Setup.{setup_with}

@@ -1,4 +1,4 @@
--- What the fields of a plan of a setup stand for.
+-- The meaning of the fields of a plan of a setup.
 use Rattle.std.specs.Prelude.{◌≡◌, ℕ, ◌+◌, ◌*◌, List, None, map, vec_len}
 use Rattle.client_registry.specs.Acceptance.{frames_needed, size_refusal}
 use Rattle.client_registry.specs.Collected.{Collected}
@@ -6,7 +6,7 @@ use Rattle.client_registry.specs.Setup.{Setup, setup_with}
 use Rattle.index_setup.specs.declared.index.Index.{Index}
 use Rattle.sse_frames.specs.Frames.{Rises, frame_bytes, labels_of}
 use Rattle.sse_frames.specs.FrameViews.{entries_in}
-use Rattle.sse_frames.specs.Sending.{numbered}
+use Rattle.sse_frames.specs.SentParts.{numbered}
 use Rattle.client_core.specs.Plans.{SetupPlan}
 use Rattle.client_core.specs.Setup.{frames_in, index_frames}
 use Rattle.client_core.specs.declared.planned.Planned.TheInside.{Inside}

@@ -1,4 +1,4 @@
--- What a contract sees of a plan.
+-- A contract's view of a plan.
 use Rattle.std.specs.Prelude.{ℕ, List}
 use Rattle.client_registry.specs.Collected.{Collected}
 use Rattle.client_core.specs.declared.update.Update.{Update}

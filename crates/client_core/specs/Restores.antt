@@ -1,4 +1,4 @@
--- Which history a client stands for that was made of records.
+-- The history of a client that was made from records.
 use Rattle.std.specs.Prelude.{◌≡◌, ℕ, List, [], Some}
 use Rattle.client_registry.specs.Histories.{IsKept}
 use Rattle.client_registry.specs.Run.{Run}

@@ -1,4 +1,4 @@
--- What the faults of a command that is planned again mean to a client that goes on.
+-- The faults of a command that is planned again, as faults of a client that resumes.
 use Rattle.std.specs.Prelude.{Option, None, Some}
 use Rattle.index_setup.specs.declared.fault.BuildFault.{BuildFault}
 use Rattle.index_setup.specs.declared.fault.BuildFault.TheVariants as builds

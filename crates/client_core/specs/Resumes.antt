@@ -1,5 +1,5 @@
--- How a client goes on whose last command's frames a server may lack, by the number of the update frame that the server expects.
--- The history is whole, and one key is that of each epoch.
+-- How a client resumes whose last command's frames the server may be missing, by the number of the update frame that the server expects. The
+-- history is whole, and one key is that of each epoch.
 use Rattle.std.specs.Prelude.{◌≡◌, ◌⊎◌, ℕ, ◌+◌, ◌-◌, ◌<◌, ◌≤◌, List, [], ◌∷◌, length, slice_index_or, Option, None, Some, option_map, Result, Ok, Err}
 use Rattle.client_registry.specs.Over.{over}
 use Rattle.client_registry.specs.Run.{Offsets, Run, at_first}
@@ -11,13 +11,13 @@ use Rattle.sse_model.specs.Compared.{Collision, collision_of, collision_of_setup
 use Rattle.sse_model.specs.Names.{table}
 use Rattle.client_core.specs.Owes.{Owes, last_frames}
 use Rattle.client_core.specs.ResumeFaults.{collision_fault}
-use Rattle.client_core.specs.Sending.{first_number, to_send}
+use Rattle.client_core.specs.TakenViews.{first_number, to_send}
 use Rattle.client_core.specs.StandsFor.{StandsFor}
 use Rattle.client_core.specs.States.{BehindState, ClientOf}
 use Rattle.client_core.specs.declared.resume_fault.ResumeFault.{ResumeFault}
 use Rattle.client_core.specs.declared.resume_fault.ResumeFault.TheVariants.{NoMemory, PeerElsewhere}
-use Rattle.client_core.specs.declared.resuming.Resumed.{Resumed}
-use Rattle.client_core.specs.declared.resuming.Resumed.TheVariants as resumed
+use Rattle.client_core.specs.declared.resumed.Resumed.{Resumed}
+use Rattle.client_core.specs.declared.resumed.Resumed.TheVariants as resumed
 
 -- two values of a run's last command that have to differ and are equal; it is the setup where none is behind it
 abbrev pub last_collision : KeyedFn → (ℕ → List ℕ) → Offsets → Run → Option Collision

@@ -1,10 +1,10 @@
--- Which frames carry the index of a setup.
+-- The frames that carry the index of a setup.
 use Rattle.std.specs.Prelude.{◌≡◌, ℕ, ◌+◌, ◌*◌, List, [], ◌∷◌, ◌++◌, length, map}
 use Rattle.std.specs.Int.{div_ceil}
 use Rattle.list_packing.specs.Parts.{parts}
 use Rattle.sse_frames.specs.Frames.{Entry, FrameText, SetupBegin, SetupDict, SetupArray, SetupEnd, frame_bytes}
 use Rattle.sse_frames.specs.FrameViews.{entries_in, items_in}
-use Rattle.sse_frames.specs.Sending.{numbered}
+use Rattle.sse_frames.specs.SentParts.{numbered}
 use Rattle.index_setup.specs.declared.index.Index.{Index}
 
 -- the frames of a setup whose entries and blocks are sent in this order, each yet to be numbered: the entries, 1,024

@@ -1,5 +1,4 @@
--- Which history a client stands for, and what a command after it does. A history begins at its offsets, and has a key for
--- each epoch.
+-- The history that a client stands for, and the effect of a command after it. A history begins at its offsets, and has a key for each epoch.
 use Rattle.std.specs.Prelude.{◌≡◌, ◌+◌, ◌-◌, ◌<◌, ◌^◌, ℕ, Bool, not, nat_le, true, false, List, [], ◌∷◌, ◌++◌, All, length, position, Option, None, Some, is_some, option_map, IsSome, if◌then◌else◌}
 use Rattle.std.specs.Option.{option_or}
 use Rattle.client_registry.specs.Command.{Command as Meant, Add, Delete}

@@ -1,4 +1,4 @@
--- What a contract sees of a client and of its states.
+-- A contract's view of a client and of its states.
 use Rattle.std.specs.Prelude.{ℕ, List}
 use Rattle.client_registry.specs.Registered.{Registered}
 use Rattle.client_core.specs.Keys.{WordKeys}

@@ -1,4 +1,4 @@
--- What is printed where an addition or a deletion is not planned. Words are numbered from 0 in the document.
+-- The text printed when an addition or a deletion is not planned. Words are numbered from 0 in the document.
 use Rattle.std.specs.Prelude.{ℕ, List, ◌++◌, codes, decimal}
 use Rattle.client_core.specs.declared.command_fault.CommandFault.{CommandFault}
 use Rattle.client_core.specs.declared.command_fault.CommandFault.TheVariants.{AlreadyLive, UnknownDocument, CounterFull, HistoryFull, LabelClash, NumberClash, NoMemory}

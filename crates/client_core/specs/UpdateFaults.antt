@@ -1,4 +1,4 @@
--- Which fault names two equal values of an update.
+-- The fault that names two equal values of an update.
 use Rattle.std.specs.Prelude.{ℕ, List, map, slice_index, Option, option_map}
 use Rattle.client_registry.specs.FirstClash.{first_clash}
 use Rattle.revocation_ids.specs.declared.numbered_word.NumberedWord.{NumberedWord}

@@ -1,4 +1,4 @@
--- What the joined lists of an update's frame keep.
+-- The parts that the joined lists of an update's frame keep.
 use Rattle.std.specs.Prelude.{◌+◌, ◌≤◌, ℕ, List, length}
 use Rattle.sse_frames.specs.Frames.{IsNumber, Rises, labels_of}
 use Rattle.sse_frames.specs.FrameViews.{entries_in, items_in}

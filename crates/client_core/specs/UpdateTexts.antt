@@ -1,4 +1,4 @@
--- What an update sends, by the facts of the history before it.
+-- The frame of an update, by the facts of the history before it.
 use Rattle.std.specs.Prelude.{◌≡◌, ℕ, Bool, true, not, List, All, length, map, filter, Option, option_map}
 use Rattle.std.specs.Option.{option_or}
 use Rattle.add_counters.specs.NewEntry.{new_entry}

@@ -67,6 +67,8 @@ impl fmt::Display for CommandFault {
 
 impl Error for CommandFault {}
 
+// Promise P70 (caller): The number of update frames is their sum; the history is full if and only if that exceeds 2^32-1.
+//   clauses: sum, full
 /// How many update frames there are after so many more. Error: exactly where there would be more than 2^32-1.
 pub fn frames_after(total: u32, more: u32) -> Result<u32, HistoryFull>
     ensures sum { total + more < 2 ^ 32 → result ≡ Ok (total + more) }

@@ -1,11 +1,13 @@
 ghost use Rattle.std.specs.Prelude.{◌≡◌, ℕ, List, length};
-ghost use Rattle.tag_order.specs.Tagged.{IsOrderOf};
+ghost use Rattle.client_tag_order.specs.Tagged.{IsOrderOf};
 ghost use Rattle.client_core.specs.UpdateFaults.{equal_at, label_fault, number_fault};
 
 use crate::command_fault::CommandFault;
+use client_tag_order::{Tagged, first_clash};
 use revocation_ids::NumberedWord;
-use tag_order::{Tagged, first_clash};
 
+// Promise P66 (inside): Once an update's labels or numbers are sorted, the first equal two are found without memory.
+//   clauses: ensures; not: That a plan ends with this fault rather than out of memory: tests show it.
 /// The fault of two equal labels, which are sorted, each with its place among these. It takes no memory, and is all that is
 /// told of two equal labels, so that no want of memory is told in place of them.
 pub(crate) fn label_clash(sorted: &[Tagged], places: &[NumberedWord]) -> Option<CommandFault>
@@ -18,6 +20,7 @@ pub(crate) fn label_clash(sorted: &[Tagged], places: &[NumberedWord]) -> Option<
     }
 }
 
+// Promise P66, also here; clauses: ensures
 /// The same of revocation numbers.
 pub(crate) fn number_clash(sorted: &[Tagged], places: &[NumberedWord]) -> Option<CommandFault>
     requires { (numbers : List (List ℕ)) × IsOrderOf numbers sorted.now × (length numbers ≡ length places.now) }

@@ -14,7 +14,7 @@ ghost use Rattle.index_setup.specs.Entries.{key_table};
 ghost use Rattle.index_setup.specs.Refused.{build_refusal, clash_refusal, refused_by_size};
 ghost use Rattle.client_core.specs.Owes.{Owes};
 ghost use Rattle.client_core.specs.Payloads.{setup_payload};
-ghost use Rattle.client_core.specs.Sending.{first_number, frames_left, to_send};
+ghost use Rattle.client_core.specs.TakenViews.{first_number, frames_left, to_send};
 ghost use Rattle.client_core.specs.Setup.{SendsSetup};
 ghost use Rattle.client_core.specs.StandsFor.{StandsFor};
 
@@ -42,6 +42,12 @@ impl Client<Fresh> {
         Client { key, state: Fresh }
     }
 
+    // Promise P49, also here; clauses: refused, own_words, own_blocks
+    // Promise P51, also here; clauses: clash, built, accepted
+    // Promise P53 (caller): A planned setup's frames are the defined ones for its documents and key, in the grammar and numbered from 0.
+    //   clauses: frames, grammar, sends, refused, clash, built, accepted
+    // Promise P68 (caller): Every plan yields its command's journal record, of 1 to 2^27 bytes; out of memory leaves the bytes as they were.
+    //   clauses: payload; assumes: earlier calls, kept limits; not: That the record is kept: P12 says it of the run.
     /// Plans the setup of these documents with b numbers per cell (1 to 64) and `big` numbers per block (1 to 256), filled
     /// with dummies up to multiples of `pad` (a power of two from 1 to 4,096), and takes its memory: the frames are those of
     /// `sse_model` for this setup under the client's key, numbered from 0, and its record has that key's mark. Errors: as
@@ -74,6 +80,10 @@ impl Client<Fresh> {
         Ok(Planned::new(alloc, mark, index, docs)?)
     }
 
+    // Promise P54 (caller): A client sends its plan's frames in order; only the acknowledgement of a frame's number takes it off, else the client stops.
+    //   clauses: owed, first
+    // Promise P69 (caller): After a commit the client stands for the history with the plan's command and has exactly its frames to send, without taking memory.
+    //   clauses: key, stands, owed, first, owes; assumes: earlier calls
     /// Takes the plan as done, with the documents that it was made of: from here on its frames are owed to the server. It
     /// takes no memory.
     pub fn commit(self, alloc: Global, planned: Planned, docs: Docs) -> Client<Behind>

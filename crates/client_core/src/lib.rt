@@ -1,10 +1,13 @@
-//! The client's protocol: what it sends for a command, and which state a reply leads to. It depends on `index_setup` for
-//! the index of a setup, on `add_counters` and `revocation_ids` for what an update sends, on `tag_order` for equal values, on
-//! `client_replies` for the fault of a reply, on `client_rebuild` for a history that is gone on with, and on `sse_frames` for
-//! the bytes. A client is a value in one of five states, and each step consumes it, so a frame can't be planned over a state
-//! that has gone by. The theorems that callers use: a client stands for a history by `StandsFor` of specs/StandsFor.antt, a
-//! reply makes of it what `AfterReply` of specs/Sending.antt says, and one that was rebuilt from records goes on as `Resumes`
-//! of specs/Resumes.antt says. It touches no link, disk or output: `sse_client` does.
+//! The client's protocol: what it sends for a command, and which state a reply leads to. It depends on `index_setup`,
+//! `add_counters` and `revocation_ids` for what is sent, on `client_tag_order` for equal values, on `client_replies` for
+//! faults, on `client_rebuild` to resume, and on `sse_frames`. A client is in one of five states and each step
+//! consumes it, so no frame can be planned over a state that is gone. A plan of an update takes all its memory, so
+//! that taking it as done can't fail; a plan writes its record only on request, since a setup's has up to 71 MB.
+//! Proved: a client represents a history (`StandsFor`), a reply makes of it what `AfterReply` says, and one rebuilt
+//! from records resumes as `Resumes` says. A command is planned as the frames of the definitions, or refused by the
+//! first cause, or it is out of memory.
+//! Not here: links, disks and output (`sse_client`).
+//! Side: client.
 #![tactic(auto)]
 
 mod behind;
@@ -18,17 +21,17 @@ mod owed_setup;
 mod owed_update;
 mod planned;
 mod planned_update;
-mod planning;
 mod ready;
-mod replanning;
+mod ready_plans;
+mod recorded_plans;
 mod restored;
 mod resume_fault;
-mod resuming;
-mod sending;
+mod resumed;
 mod setup_frames;
+mod taken;
 mod update;
 mod update_frames;
-mod updating;
+mod update_plans;
 
 pub use behind::Behind;
 pub use client::{Client, Spent};
@@ -40,7 +43,7 @@ pub use planned_update::PlannedUpdate;
 pub use ready::Ready;
 pub use restored::Restored;
 pub use resume_fault::ResumeFault;
-pub use resuming::Resumed;
-pub use sending::Taken;
+pub use resumed::Resumed;
 pub use std::alloc::AllocError as NoMemory;
+pub use taken::Taken;
 pub use update::Update;

@@ -6,17 +6,17 @@ ghost use Rattle.client_registry.specs.Registered.{facts, known_words};
 ghost use Rattle.keyed_fn.specs.KeyedFn.{keyed_fn};
 ghost use Rattle.sse_frames.specs.Frames.{Rises, entry_bytes, joined};
 ghost use Rattle.sse_frames.specs.Order.{by_bytes};
-ghost use Rattle.tag_order.specs.Tagged.{tagged_from};
+ghost use Rattle.client_tag_order.specs.Tagged.{tagged_from};
 ghost use Rattle.client_core.specs.Keys.{Keeps};
 ghost use Rattle.client_core.specs.UpdateTexts.{next_entry_of, number_of, HaveSizes};
 
 use crate::kept_keys::KeptKeys;
 use add_counters::Entry;
 use client_registry::{DocId, Registry};
+use client_tag_order::Tagged;
 use keyed_fn::Keyed;
 use revocation_ids::{NumberedWord, Numbers};
 use std::alloc::{AllocError, Global};
-use tag_order::Tagged;
 use word_keys::PreparedMaster;
 
 /// The entry of the next addition of each of these words, in their order. None of them is at its last counter.

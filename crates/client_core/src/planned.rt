@@ -76,6 +76,7 @@ impl Planned {
         self.index.own_blocks()
     }
 
+    // Promise P68, also here; clauses: ok, err, some, most
     /// Appends the record that the client's journal keeps of the setup, 1 to 2^27 bytes, from the documents that it was made
     /// of. Without memory the bytes are as before.
     pub fn payload_into(&self, docs: &Docs, out: &mut Vec<u8>) -> Result<(), AllocError>

@@ -25,6 +25,7 @@ impl Model for PlannedUpdate {
 }
 
 impl PlannedUpdate {
+    // Promise P68, also here; clauses: ok, err, some, most
     /// Appends the record that the client's journal keeps of the update, 1 to 2^27 bytes. Without memory the bytes are as
     /// before.
     pub fn payload_into(&self, out: &mut Vec<u8>) -> Result<(), AllocError>

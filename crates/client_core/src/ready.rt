@@ -19,7 +19,7 @@ ghost use Rattle.client_core.specs.UpdateTexts.{add_collision, add_text, delete_
 use crate::client::Client;
 use crate::command_fault::{CommandFault, HistoryFull, frames_after};
 use crate::kept_keys::KeptKeys;
-use crate::updating::{add_update, delete_update};
+use crate::update_plans::{add_update, delete_update};
 use client_registry::{Doc, DocId, Docs, MAX_WORDS, Registry, Word};
 use keyed_fn::Keyed;
 use sse_frames::search_frame;
@@ -45,6 +45,8 @@ impl Model for Ready {
 }
 
 impl Client<Ready> {
+    // Promise P48 (caller): A search sends the frame with its word's token, as the key formulas give it.
+    //   clauses: ensures
     /// The Search frame of a word: four length bytes, the kind byte 08 and the token of 160 bytes. `master` is the
     /// client's key, prepared once for all searches. It takes no memory.
     pub fn search_frame<K: Keyed>(

@@ -17,6 +17,9 @@ pub enum Restored {
 }
 
 impl Restored {
+    // Promise P120 (caller): A restored client resumes at the server's next number with exactly the frames the server is missing, or names why it can't.
+    //   clauses: key, restored, hash_keys; assumes: earlier calls; not: That the server holds the frames before that number. Out of memory may come, but never in place of
+    //     `PeerElsewhere`.
     /// The client of the records that were taken. It takes no memory.
     pub fn of(rebuild: Rebuild) -> Restored
         ensures key { restored_key result ≡ rebuild.key }

@@ -2,7 +2,7 @@
 use Rattle.std.proofs.Common.{◌≡◌, ◌≢◌, ℕ, List, [], ◌∷◌, length, refl, sym, ap, subst, ◌∙◌, None, Some, Ok, Err, arith}
 use Rattle.std.specs.Prelude.{Option, Result, IfSome, is_some, option_map}
 use Rattle.std.specs.Result.{IsErrAnd}
-use Rattle.sse_journal.proofs.FileRecords.{gives_records, journal_records}
+use Rattle.sse_journal.proofs.FileRecords.{gives_records, records_of_journal}
 use Rattle.sse_journal.proofs.Once.{gives_once}
 use Rattle.sse_journal.specs.FileRecords.{records_in_file}
 use Rattle.sse_journal.specs.Files.{Gives}
@@ -73,7 +73,7 @@ module _ (bytes : List ℕ) (j : Journal) (content : Option (List ℕ)) (images 
   no_none_from some given = some_of from.payloads (λ e. some (from.journal.records_are ∙ e)) (gives_once from.payloads [] bytes from.gives given)
 
   pub records_from : option_map records_in_file content ≡ Some (records_in_file bytes)
-  records_from = journal_records from.payloads j content images from.journal ∙ ap (λ (ps : List (List ℕ)). Some ps) (sym (gives_records from.payloads bytes from.gives))
+  records_from = records_of_journal from.payloads j content images from.journal ∙ ap (λ (ps : List (List ℕ)). Some ps) (sym (gives_records from.payloads bytes from.gives))
 
 pub same_records : (old new : Option (List ℕ)) → is_some new ≡ is_some old → IfSome old (λ bytes. option_map records_in_file new ≡ Some (records_in_file bytes)) → option_map records_in_file new ≡ option_map records_in_file old
 same_records None None told same = refl

@@ -1,4 +1,4 @@
--- What the faults of a journal and of its records come to, and why a run ends for each.
+-- The faults of a journal and of its records, and the stop of a run for each.
 use Rattle.std.specs.Prelude.{◌≡◌, ◌≢◌, Result, Err, IsOk}
 use Rattle.client_rebuild.specs.declared.fault.RebuildFault.{RebuildFault}
 use Rattle.client_rebuild.specs.declared.fault.RebuildFault.TheVariants as takes
@@ -8,8 +8,8 @@ use Rattle.client_journal.specs.declared.faults.RecordsFault.{RecordsFault}
 use Rattle.client_journal.specs.declared.faults.RecordsFault.TheVariants as records
 use Rattle.client_journal.specs.declared.faults.ReopenFault.{ReopenFault}
 use Rattle.client_journal.specs.declared.faults.ReopenFault.TheVariants as reopens
-use Rattle.run_texts.specs.declared.journal_stop.JournalStop.{JournalStop}
-use Rattle.run_texts.specs.declared.journal_stop.JournalStop.TheVariants as stops
+use Rattle.script_run_texts.specs.declared.journal_stop.JournalStop.{JournalStop}
+use Rattle.script_run_texts.specs.declared.journal_stop.JournalStop.TheVariants as stops
 use Rattle.sse_journal.specs.declared.read_fault.ReadFault.{ReadFault}
 use Rattle.sse_journal.specs.declared.read_fault.ReadFault.TheVariants as reads
 use Rattle.sse_journal.specs.declared.start_fault.StartFault.{StartFault}

@@ -1,4 +1,4 @@
--- What a file is to a run that is to begin on it or to go on from it.
+-- Files as a run meets them that begins on one or resumes from one.
 use Rattle.std.specs.Prelude.{◌≢◌, ◌⊎◌, ℕ, List, [], Option}
 use Rattle.sse_journal.specs.Files.{Gives}
 use Rattle.sse_journal.specs.JournalView.{IsJournalOf}

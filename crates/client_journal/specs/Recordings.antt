@@ -1,4 +1,4 @@
--- What the records of a journal come to, one after the other, under the mark of a key.
+-- The histories that a journal's records lead to, one record after another, under the mark of a key.
 use Rattle.std.specs.Prelude.{◌≡◌, ℕ, ◌+◌, ◌≤◌, List, [], ◌∷◌, ◌++◌, length, take, Option, None, Some, Result, Ok, Err}
 use Rattle.client_records.specs.Openings.{OpensElsewhere, OpensNowhere, OpensTo}
 use Rattle.client_rebuild.specs.Rebuilds.{Rebuilds}

@@ -2,7 +2,7 @@ ghost use Rattle.std.specs.Prelude.{◌≡◌};
 ghost use Rattle.client_journal.specs.Faults as faults;
 
 use client_rebuild::RebuildFault;
-use run_texts::JournalStop;
+use script_run_texts::JournalStop;
 use sse_journal::{ReadFault, StartFault};
 
 /// Why a journal isn't started, or isn't one to go on from.

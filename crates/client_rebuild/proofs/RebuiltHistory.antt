@@ -8,6 +8,7 @@ use Rattle.client_rebuild.specs.Rebuilds.{Rebuilds}
 use Rattle.client_rebuild.specs.Recalls.{RecallsIn}
 use Rattle.client_rebuild.specs.declared.rebuild.Rebuild.{Rebuild}
 
+-- Promise P68, also here
 -- a rebuild that took the records of a history keeps the last command of that history, without its searches
 pub rebuilds-records : (mark : List ℕ) (h : History) (r : Rebuild) → length mark ≡ 16 → IsKept h → Rebuilds (records_of_history mark h) r → RecallsIn (without_searches h) r.last
 rebuilds-records mark h r size kept took = subst (λ (other : History). RecallsIn other r.last) (opens_only mark r.mark h took.history size kept took.opened) took.recalls

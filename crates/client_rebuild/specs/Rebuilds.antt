@@ -1,4 +1,4 @@
--- Which records a rebuild took, and what it makes of one more.
+-- The records that a rebuild took, and its answer to one more.
 use Rattle.std.specs.Prelude.{◌≡◌, ℕ, List, [], ◌∷◌, ◌++◌, length, None, Some, Option, Result, Ok, Err, true}
 use Rattle.client_registry.specs.Acceptance.{size_refusal}
 use Rattle.client_registry.specs.Command.{Command, Add, Delete}

@@ -1,4 +1,4 @@
--- Which history the last record taken, and what is kept of those before it, stand for.
+-- The history of the last record taken, with the parts that are kept of the earlier ones.
 use Rattle.std.specs.Prelude.{◌≡◌, ℕ, ◌+◌, ◌-◌, ◌^◌, Bool, ◌&&◌, nat_lt, [], None, Some, Option, Result, Ok, Err}
 use Rattle.client_registry.specs.Command.{Command}
 use Rattle.client_registry.specs.Facts.{Facts, facts_of, facts_after}

@@ -1,4 +1,4 @@
--- What the update of a record is to a history.
+-- The command of a history that a record's update is.
 use Rattle.std.specs.Prelude.{ℕ, ◌<◌, Bool, true, not, List, is_some}
 use Rattle.client_registry.specs.Command.{Command, Add, Delete, Search}
 use Rattle.client_registry.specs.Facts.{Facts}

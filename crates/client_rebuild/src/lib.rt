@@ -1,18 +1,22 @@
-//! A client's history, rebuilt from the records of its journal, one after the other. It depends on `client_records` for what
-//! bytes say, on `client_registry` for documents and limits, and on `word_keys` for the mark of a key. The theorem that callers
-//! use: the records taken open to a history, and [`Rebuild`] stands for it, by `Rebuilds` of specs/Rebuilds.antt; a record that
-//! isn't one, or isn't accepted after those before it, is named by its number. The last record's command is kept apart, since
-//! which of its frames a server has isn't known: they may have to be made again. It makes no frame and touches no disk.
+//! Rebuilds a client's history from the records of its journal, one after the other. It depends on `client_records`
+//! for what the bytes say, on `client_registry` for documents and limits, and on `word_keys` for the check value of a
+//! key. The last record's command is kept apart and not carried out: only the server's greeting shows which of its
+//! frames arrived, and they may have to be planned again.
+//! Proved: the accepted records open to a history, and `Rebuild` represents it (`Rebuilds` of specs/Rebuilds.antt); a
+//! record that isn't one, or isn't accepted after those before it, is named by its number; another key is reported at
+//! the first record.
+//! Not here: frames and disks.
+//! Side: client.
 #![tactic(auto)]
 
-mod carrying;
+mod carried_command;
 mod fault;
-mod following;
+mod followed_record;
 mod last;
 mod rebuild;
 mod recorded_setup;
 mod recorded_update;
-mod taking;
+mod taken_record;
 mod update;
 
 pub use fault::RebuildFault;

@@ -11,7 +11,7 @@ ghost use Rattle.client_rebuild.specs.Rebuilds.{Rebuilds, Takes, records_in};
 
 use crate::fault::RebuildFault;
 use crate::last::Last;
-use crate::taking::{take_first, take_later};
+use crate::taken_record::{take_first, take_later};
 use client_records::{ReadFault, Record, read_record};
 use client_registry::HashKeys;
 use keyed_fn::Keyed;
@@ -30,6 +30,8 @@ pub struct Rebuild {
 }
 
 impl Rebuild {
+    // Promise P119 (caller): A rebuild takes a record if and only if the records with it open to a history under the key; else the fault is named.
+    //   clauses: mark, none; assumes: earlier calls; not: That no values of a command collide. Out of memory may come in place of each.
     /// No record yet, under this master key. It takes no memory.
     pub fn new<K: Keyed>(keyed: &K, key: MasterKey) -> Rebuild
         ensures key { result.key ≡ key }
@@ -67,12 +69,13 @@ impl Rebuild {
     {
         match mem::replace(&mut self.last, None) {
             None => {
-                self.last = Some(take_first(&self.mark, next)?);
+                let first = Some(take_first(&self.mark, next)?);
+                drop(mem::replace(&mut self.last, first));
                 Ok(())
             }
             Some(last) => {
                 let (last, taken) = take_later(last, next);
-                self.last = Some(last);
+                drop(mem::replace(&mut self.last, Some(last)));
                 taken
             }
         }
@@ -92,6 +95,7 @@ impl Rebuild {
         }
     }
 
+    // Promise P119, also here; clauses: taken, before, bad, wrong, opens, nowhere, elsewhere
     /// Takes the next record, all of these bytes.
     ///
     /// Errors: `BadRecord(number)` exactly where the bytes are no record that is accepted after those taken, whose count is the
@@ -116,6 +120,7 @@ impl Rebuild {
         self.take_next(alloc, payload)
     }
 
+    // Promise P119, also here; clauses: key, last
     /// The key, and the last record taken, where there is one.
     pub fn finish(self) -> (MasterKey, Option<Last>)
         ensures key { result.0 ≡ self.key }

@@ -16,7 +16,7 @@ use Rattle.client_registry.specs.Documents.{all_words, docs_refusal, is_live, pa
 use Rattle.client_registry.specs.declared.faults.DocsFault.{DocsFault}
 use Rattle.client_registry.specs.declared.faults.DocsFault.TheVariants.{AlreadyLive, TooManyDocuments, TooManyPairs}
 use Rattle.client_records.specs.Records.{word_field, document_field, documents_field}
-use Rattle.client_records.specs.Reading.{IsWord, AreDocuments, AreWords, IsNotInFront, IsNotWhole}
+use Rattle.client_records.specs.ReaderFaults.{IsWord, AreDocuments, AreWords, IsNotInFront, IsNotWhole}
 use Rattle.client_records.proofs.Once.{number16_once, number32_once, number64_once, word_once, front_once, all_once, few_words, document_once}
 
 -- where some were read and no other stands behind them, there aren't more

@@ -13,7 +13,7 @@ use Rattle.client_registry.specs.DocumentRule.{IsDocument, doc_refusal, first_re
 use Rattle.client_registry.specs.Documents.{IsCollected}
 use Rattle.client_registry.specs.declared.faults.DocFault.TheVariants.{TooManyWords, RepeatedWord}
 use Rattle.client_records.specs.Records.{word_field, document_field, documents_field}
-use Rattle.client_records.specs.Reading.{IsWord}
+use Rattle.client_records.specs.ReaderFaults.{IsWord}
 
 -- bytes that are cut at one place
 pub cut_once : (a b r s : List ℕ) → length a ≡ length b → a ++ r ≡ b ++ s → (a ≡ b) × (r ≡ s)

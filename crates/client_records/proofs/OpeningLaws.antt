@@ -67,6 +67,7 @@ records_once m n (first ∷ others) run other x y =
     let later = updates_once others run.later other.later x.1 y.1 in
     (ap (marked m) one, λ i. record { setup = ap (set_up run.setup) one i; later = later i })
 
+-- Promise P119, also here
 -- records open to one history, under one mark
 pub opens_once : (m n : List ℕ) (payloads : List (List ℕ)) (run other : Run) → Opens m payloads run → Opens n payloads other → (m ≡ n) × (run ≡ other)
 opens_once m n payloads run other x y = records_once m n payloads run other x.say y.say

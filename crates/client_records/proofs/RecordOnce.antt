@@ -40,6 +40,7 @@ no_deletion : (payload m : List ℕ) (s : Setup) (id : ℕ) → Spells payload (
 no_deletion payload m s id (inl e) f = differ 0x14 0x13 _ _ (sym (e ∙ setup_record-tail m s) ∙ f) refl
 no_deletion payload m s id (inr e) f = differ 0x11 0x13 _ _ (sym (e.1 ∙ old_setup_record-tail m s) ∙ f) refl
 
+-- Promise P118, also here
 -- the same bytes are records of the same
 pub record_once : (payload : List ℕ) (a b : RecordText) → IsRecordOf payload a → IsRecordOf payload b → a ≡ b
 record_once payload (SetsUp m s) (SetsUp n t) x y = setups_once m n s t x.limits y.limits payload x.spelled y.spelled

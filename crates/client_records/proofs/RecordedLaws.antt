@@ -26,6 +26,7 @@ use Rattle.client_records.proofs.OpeningLaws.{accepted_last, opens-setup_record,
 recorded-append : (front back : List Command) → recorded (front ++ back) ≡ recorded front ++ recorded back
 recorded-append front back = ap (map update_record) (filter-append is_update front back) ∙ map-append update_record (filter is_update front) (filter is_update back)
 
+-- Promise P68, also here
 -- commands behind a history leave their records behind its
 pub records-longer : (mark : List ℕ) (h : History) (commands : List Command) → is_set_up h ≡ true → records_of_history mark (longer commands h) ≡ records_of_history mark h ++ recorded commands
 records-longer mark None commands up = absurd (true≢false (sym up))
@@ -123,11 +124,13 @@ pub IsKept-without_searches : (h : History) → IsKept h → IsKept (without_sea
 IsKept-without_searches None kept = tt
 IsKept-without_searches (Some run) kept = kept-updates run.setup run.later kept
 
+-- Promise P68, also here
 -- its records open to it without its searches
 pub opens-records : (mark : List ℕ) (h : History) → length mark ≡ 16 → IsKept h → OpensTo mark (records_of_history mark h) (without_searches h)
 opens-records mark None size kept = refl
 opens-records mark (Some run) size kept = opens-run run.setup mark size run.later kept
 
+-- Promise P68, also here
 -- and to no other
 pub opens_only : (mark n : List ℕ) (h other : History) → length mark ≡ 16 → IsKept h → OpensTo n (records_of_history mark h) other → other ≡ without_searches h
 opens_only mark n None None size kept opened = refl

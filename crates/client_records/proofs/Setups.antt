@@ -7,7 +7,7 @@ use Rattle.client_registry.specs.Document.{Document}
 use Rattle.client_registry.specs.Documents.{IsCollected}
 use Rattle.client_registry.specs.Setup.{Setup, setup_of, setup_with}
 use Rattle.client_records.specs.Records.{SetsUp, Adds, Deletes, documents_field, setup_record, old_setup_record, IsNoRecord, IsRecordOf, IsSetupText}
-use Rattle.client_records.specs.Reading.{IsNotWhole}
+use Rattle.client_records.specs.ReaderFaults.{IsNotWhole}
 use Rattle.client_records.proofs.Once.{cut_once}
 
 -- the first bytes tell kinds apart

@@ -17,7 +17,7 @@ use Rattle.client_registry.specs.Setup.{Setup}
 use Rattle.client_registry.specs.WordBytes.{word_bytes}
 use Rattle.client_registry.specs.declared.word.Word.{Word}
 use Rattle.client_records.specs.Records.{word_field, document_field, documents_field, setup_record}
-use Rattle.client_records.specs.Reading.{IsWord}
+use Rattle.client_records.specs.ReaderFaults.{IsWord}
 use Rattle.client_records.proofs.Setups.{setup_record-tail}
 
 -- what one more of them adds

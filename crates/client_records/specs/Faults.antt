@@ -1,4 +1,4 @@
--- What a fault of a word or a document means of the record that has it.
+-- The fault of a record whose word or document is bad.
 use Rattle.client_registry.specs.declared.faults.DocFault.{DocFault}
 use Rattle.client_registry.specs.declared.faults.DocFault.TheVariants as doc
 use Rattle.client_registry.specs.declared.faults.DocsFault.{DocsFault}

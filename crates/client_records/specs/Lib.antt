@@ -1,6 +1,6 @@
 pub mod Records
 pub mod RecordView
 pub mod Faults
-pub mod Reading
+pub mod ReaderFaults
 pub mod Openings
 pub mod Recorded

@@ -1,4 +1,4 @@
--- Which records open to which history: that of a setup, then those of updates, each accepted after those before it.
+-- The history to which records open: that of a setup, then those of updates, each accepted after those before it.
 use Rattle.std.specs.Prelude.{◌≡◌, ℕ, ◌+◌, List, [], ◌∷◌, ◌++◌, take, None, Some}
 use Rattle.client_registry.specs.Command.{Command, Add, Delete, Search}
 use Rattle.client_registry.specs.Histories.{IsKept}

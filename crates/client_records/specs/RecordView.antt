@@ -1,4 +1,4 @@
--- What a record of the code says.
+-- The meaning of a record of the code.
 use Rattle.std.specs.Prelude.{◌≡◌, ℕ, List, Result, Ok, Err}
 use Rattle.client_registry.specs.IdNumber.{id_number}
 use Rattle.client_registry.specs.Setup.{setup_with}

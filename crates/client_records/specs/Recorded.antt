@@ -1,4 +1,4 @@
--- Which records a history leaves in a client's journal.
+-- The records that a history leaves in a client's journal.
 use Rattle.std.specs.Prelude.{ℕ, List, [], None, Some, map, filter}
 use Rattle.client_registry.specs.Command.{Command, is_update}
 use Rattle.client_registry.specs.Run.{History}

@@ -1,4 +1,4 @@
--- The records of a client's journal: the bytes of each, and what bytes say.
+-- The records of a client's journal: the bytes of each, and the record that bytes are (docs/FORMATS.md).
 use Rattle.std.specs.Prelude.{◌≡◌, ℕ, ◌⊎◌, ◌^◌, ◌<◌, ◌≤◌, List, [], ◌∷◌, ◌++◌, length, map, filter}
 use Rattle.std.specs.Int.{w16, w32, w64, to_be_bytes}
 use Rattle.std.specs.List.{flat_map}

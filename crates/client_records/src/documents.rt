@@ -6,7 +6,7 @@ ghost use Rattle.client_registry.specs.HashNumbers.{hash_numbers};
 ghost use Rattle.client_registry.specs.IdNumber.{id_number};
 ghost use Rattle.client_registry.specs.WordBytes.{word_bytes};
 ghost use Rattle.client_records.specs.Records.{word_field, document_field, documents_field};
-ghost use Rattle.client_records.specs.Reading.{IsWord, AreDocuments, AreWords, IsNotInFront, IsNotWhole};
+ghost use Rattle.client_records.specs.ReaderFaults.{IsWord, AreDocuments, AreWords, IsNotInFront, IsNotWhole};
 
 use crate::fault::ReadFault;
 use crate::unread::Unread;

@@ -1,8 +1,12 @@
-//! The records of a client's journal, from and to bytes: the setup with the mark of its key, then each addition and
-//! deletion. It depends on the words and documents of `client_registry` alone, and on no key. A writer appends exactly the
-//! bytes of specs/Records.antt; [`read_record`] takes exactly the bytes that are a record, to their last one, and keep
-//! the limits of words and documents, and a record has one spelling, but for the setup that an older client wrote with
-//! no Q. Whether a record may follow those before it, and whose mark it has, isn't asked here; nor is it kept here.
+//! The records of a client's journal, to and from bytes: the setup with the check value of its key, then each
+//! addition and deletion. It depends only on the words and documents of `client_registry`; a record is read without a
+//! key and without the records before it. In a record b, B and Q are numbers of 16 bits, so that one test finds a
+//! setup outside its limits.
+//! Proved: a writer appends exactly the bytes of specs/Records.antt. `read_record` accepts exactly bytes that are one
+//! record to their last byte, within the limits of words and documents. A record has one spelling, except for a setup
+//! that an older client wrote without Q.
+//! Not here: whether a record may follow those before it (`client_rebuild`), whose key it has, and where it is kept.
+//! Side: client.
 #![tactic(auto)]
 
 mod client_record;
@@ -10,8 +14,8 @@ mod documents;
 mod fault;
 mod kinds;
 mod lengths;
-mod putting;
 mod reader;
+mod record_bytes;
 mod unread;
 mod writer;
 

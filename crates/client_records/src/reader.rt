@@ -83,6 +83,7 @@ fn record_of(alloc: Global, keys: HashKeys, payload: &[u8]) -> Result<Record, Re
     }
 }
 
+// Promise P118, also here; clauses: found, only, none, keys
 /// The record that all of the bytes are. The documents of a setup are to be hashed under these keys.
 ///
 /// Words, documents and the documents of a setup keep their limits in it; b, B and Q may be any numbers. Errors:

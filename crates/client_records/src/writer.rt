@@ -7,10 +7,12 @@ ghost use Rattle.client_records.specs.Records.{setup_record, update_record};
 
 use crate::kinds::{ADD, DELETE, MARK_LEN, SETUP};
 use crate::lengths::{documents_len, words_len};
-use crate::putting::{put, put_documents, put_head, put_words};
+use crate::record_bytes::{put, put_documents, put_head, put_words};
 use client_registry::{Doc, DocId, Docs};
 use std::alloc::AllocError;
 
+// Promise P118 (caller): A client's record has exactly its defined bytes, and bytes are read as the one record they are, or as none.
+//   clauses: ok, err, most; not: That a record may follow those before it, or that its mark is a key's (P119). Out of memory may come in place of reading.
 /// Appends the record of a setup of these documents under the key of this mark, with `b` numbers in a cell and `big` in
 /// a block, filled up to multiples of `pad`. Without memory the bytes are as before.
 ///
@@ -47,6 +49,7 @@ fn put_shape(out: &mut Vec<u8>, mark: &[u8; MARK_LEN], b: u16, big: u16, pad: u1
     put(out, &pad.to_be_bytes());
 }
 
+// Promise P118, also here; clauses: ok, err, most
 /// Appends the record of an addition of this document. Without memory the bytes are as before.
 ///
 /// A record has at most 266,251 bytes: 11, and 65 for each of 4,096 words.
@@ -63,6 +66,7 @@ pub fn write_add(out: &mut Vec<u8>, doc: &Doc) -> Result<(), AllocError>
     Ok(())
 }
 
+// Promise P118, also here; clauses: ok, err
 /// Appends the record of the deletion of this identifier, 9 bytes. Without memory the bytes are as before.
 pub fn write_delete(out: &mut Vec<u8>, id: DocId) -> Result<(), AllocError>
     ensures ok { OnOk result (out.new.items ≡ out.old.items ++ update_record (Delete (id_number id))) }

@@ -93,6 +93,7 @@ counted a b n id = ap (λ m. n + m) (by (a && not b))
     by true = refl
     by false = refl
 
+-- Promise P159, also here
 -- after an addition of a document whose identifier isn't live
 pub facts-add : (s : Setup) (past : List Command) (d : Document) → (facts_of s past).live d.id ≡ None → facts_after (facts_of s past) (Add d) ≡ facts_of s (past ++ Add d ∷ [])
 facts-add s past d new = λ i. record {
@@ -101,6 +102,7 @@ facts-add s past d new = λ i. record {
   counter = λ word. (counted (has_word word d) (is_listed s past word d.id) (length (added_list s past word)) d.id ∙ sym (length-append (added_list s past word) (newly_listed s word past (Add d))) ∙ ap length (sym (added_list-push s past (Add d) word))) i;
 }
 
+-- Promise P159, also here
 -- after a deletion
 pub facts-delete : (s : Setup) (past : List Command) (id : ℕ) → facts_after (facts_of s past) (Delete id) ≡ facts_of s (past ++ Delete id ∷ [])
 facts-delete s past id = λ i. record {

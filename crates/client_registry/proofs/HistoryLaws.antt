@@ -52,6 +52,7 @@ whole_run run whole p = λ i. record { setup = p.0 i; later = p.1.1 i }
 fewer_frames : (run : Run) (more : List Command) → length (filter is_update run.later) ≤ length (filter is_update (run.later ++ more))
 fewer_frames run more = omega (arith, ap length (filter-append is_update run.later more), length-append (filter is_update run.later) (filter is_update more))
 
+-- Promise P159, also here
 -- the first part of a history that keeps its rules keeps them
 pub IsKept-first : (part whole : History) → IsFirstOf part whole → IsKept whole → IsKept part
 IsKept-first None whole p kept = tt
@@ -65,10 +66,12 @@ pub frames_in-below : (h : History) → IsKept h → frames_in h < 2 ^ 32
 frames_in-below None kept = omega arith
 frames_in-below (Some run) kept = kept.1
 
+-- Promise P159, also here
 -- an accepted setup begins one
 pub IsKept-begun : (s : Setup) → IsCollected s.documents → size_refusal s ≡ None → IsKept (begun_by s)
 IsKept-begun s collected accepted = let alone = IsSized-setup s collected accepted in (alone.history, alone.frames)
 
+-- Promise P159, also here
 -- and an accepted command whose frame can be numbered keeps it
 pub IsKept-longer : (h : History) (c : Command) → IsKept h → IsSizedCommand c → accepts h c ≡ true → frames_in h + length (filter is_update (c ∷ [])) < 2 ^ 32 → IsKept (longer (c ∷ []) h)
 IsKept-longer None c kept sized ok frames = tt

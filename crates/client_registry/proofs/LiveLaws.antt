@@ -19,6 +19,8 @@ use Rattle.client_registry.specs.Setup.{Setup, setup_list}
 
 -- A search changes nothing.
 
+-- Promise P159 (inside): Searches change nothing; live documents have different identifiers; a search shows exactly the identifiers found; parts of a history keep its limits.
+--   assumes: kept limits
 pub live-updates : (docs : List Document) (cs : List Command) → live docs (filter is_update cs) ≡ live docs cs
 live-updates docs [] = refl
 live-updates docs (Add d ∷ cs) = live-updates (docs ++ d ∷ []) cs
@@ -31,6 +33,7 @@ adds_pair-updates word id (Add d ∷ cs) = ap (λ b. (d.id == id && has_word wor
 adds_pair-updates word id (Delete other ∷ cs) = adds_pair-updates word id cs
 adds_pair-updates word id (Search other ∷ cs) = adds_pair-updates word id cs
 
+-- Promise P159, also here
 pub is_listed-updates : (s : Setup) (cs : List Command) (word : List ℕ) (id : ℕ) → is_listed s (filter is_update cs) word id ≡ is_listed s cs word id
 is_listed-updates s cs word id = ap (λ b. holds_pair s.documents word id || b) (adds_pair-updates word id cs)
 
@@ -44,15 +47,18 @@ newly_listed-search s word past (Add d) e = absurd (true≢false e)
 newly_listed-search s word past (Delete id) e = absurd (true≢false e)
 newly_listed-search s word past (Search other) e = refl
 
+-- Promise P159, also here
 pub added_list-updates : (s : Setup) (cs : List Command) (word : List ℕ) → added_list s (filter is_update cs) word ≡ added_list s cs word
 added_list-updates s cs word = flat-over-filter (newly_listed s word) is_update (newly_listed-updates s word) (newly_listed-search s word) [] cs
 
 pub counter-updates : (s : Setup) (cs : List Command) (word : List ℕ) → counter s (filter is_update cs) word ≡ counter s cs word
 counter-updates s cs word = ap length (added_list-updates s cs word)
 
+-- Promise P159, also here
 pub shown-updates : (s : Setup) (cs : List Command) (word : List ℕ) → shown s (filter is_update cs) word ≡ shown s cs word
 shown-updates s cs word = λ i. filter (holds_pair (live-updates s.documents cs i) word) (setup_list s word ++ added_list-updates s cs word i)
 
+-- Promise P159, also here
 pub matching_ids-updates : (s : Setup) (cs : List Command) (word : List ℕ) → matching_ids s (filter is_update cs) word ≡ matching_ids s cs word
 matching_ids-updates s cs word = ap (λ docs. in_order (ids_with docs word)) (live-updates s.documents cs)
 

@@ -86,8 +86,8 @@ module _ (r : Inside) (sound : IsSound r) (id : ℕ) (words : List (List ℕ)) (
   in_table = All-weaker (λ n. n < length r.words.entries) (λ n. n < length table) (λ n lt. omega (arith, lt, length-map {B = List ℕ} r.words.entries (λ e. word_bytes e.0))) ns within
 
   -- a word is listed with the identifier where its number is among those kept
-  listed_at : (n : ℕ) → n < length table → list_any (nat_eq n) old.numbers.items ≡ (facts (registered_of r)).listed (get_or table n []) id
-  listed_at n lt =
+  failure_at : (n : ℕ) → n < length table → list_any (nat_eq n) old.numbers.items ≡ (facts (registered_of r)).listed (get_or table n []) id
+  failure_at n lt =
       number_among table sound.words_differ n lt old.numbers.items kept.numbered
       ∙ ap (λ ws. list_any (bytes_eq (get_or table n [])) (words_by_number ws old.numbers.items)) (sym (known_table r))
       ∙ sym (listed_found r id (Some old) at (get_or table n []))
@@ -100,7 +100,7 @@ module _ (r : Inside) (sound : IsSound r) (id : ℕ) (words : List (List ℕ)) (
       let here = in_table k d lt in
       let p = λ (word : List ℕ). (facts (registered_of r)).listed word id || nat_lt ((facts (registered_of r)).counter word) (2 ^ 32 - 1) in
       let passes = counters_at table p ns (ap (list_all p) numbers ∙ free) k d lt in
-      let unlisted : (facts (registered_of r)).listed (get_or table n []) id ≡ false = sym (listed_at n here) ∙ new in
+      let unlisted : (facts (registered_of r)).listed (get_or table n []) id ≡ false = sym (failure_at n here) ∙ new in
       let small = sym (ap (λ b. b || nat_lt ((facts (registered_of r)).counter (get_or table n [])) (2 ^ 32 - 1)) unlisted) ∙ passes in
       subst (λ c. c < 2 ^ 32 - 1) (counter_known r sound n here) (ltb-true ((facts (registered_of r)).counter (get_or table n [])) (2 ^ 32 - 1) small)
 
@@ -188,7 +188,7 @@ module _ (r : Inside) (sound : IsSound r) (id : ℕ) (words : List (List ℕ)) (
                   let lt = slice_get_within table n word found in
                   let here : get_or table n [] ≡ word = get_or_from_slice_get table n word [] found in
                   let held = number_among table sound.words_differ n lt ns in_table ∙ ap (λ w. list_any (bytes_eq w) (words_by_number table ns)) here ∙ ap (list_any (bytes_eq word)) numbers in
-                  let known = listed_at n lt ∙ ap (λ w. (facts (registered_of r)).listed w id) here in
+                  let known = failure_at n lt ∙ ap (λ w. (facts (registered_of r)).listed w id) here in
                   counter_by s same_words word (Some n) is
                   ∙ counts n
                   ∙ (λ i. sym (counter_by r refl word (Some n) is) i + (if held i && not (known i) then 1 else 0))

@@ -48,6 +48,7 @@ listed_apart s word apart = from_end (λ xs. AreApart (setup_list s word ++ adde
 abbrev pub are_accepted : Setup → List Command → Bool
 are_accepted s cs = list_all (λ accepted. accepted) (over (is_accepted s) [] cs)
 
+-- Promise P159, also here
 -- live documents have different identifiers
 pub live_apart : (s : Setup) → AreApart (ids_of s.documents) → (cs : List Command) → are_accepted s cs ≡ true → AreApart (ids_of (live s.documents cs))
 live_apart s apart = from_end (λ xs. are_accepted s xs ≡ true → AreApart (ids_of (live s.documents xs))) (λ _. apart) push
@@ -79,6 +80,7 @@ live_apart s apart = from_end (λ xs. are_accepted s xs ≡ true → AreApart (i
         by (Delete id) ok = AreApart-map_filter (λ d. d.id) (λ d. not (d.id == id)) docs before
         by (Search word) ok = before
 
+-- Promise P159, also here
 -- the identifiers that a search shows, put in order, are those found
 pub in_order-shown : (s : Setup) (cs : List Command) (word : List ℕ) → IsCollected s.documents → are_accepted s cs ≡ true → in_order (shown s cs word) ≡ matching_ids s cs word
 in_order-shown s cs word collected accepted =

@@ -1,4 +1,4 @@
--- Which setups are accepted, and how large their index is.
+-- The setups that are accepted, and the size of their index (docs/FORMATS.md).
 use Rattle.std.specs.Prelude.{ℕ, ◌+◌, ◌-◌, ◌*◌, ◌^◌, ◌==◌, nat_lt, Bool, length, sum_by, position, slice_index, Option, None, Some, is_none, option_map, if◌then◌else◌}
 use Rattle.std.specs.Int.{div_ceil}
 use Rattle.std.specs.List.{list_any, range_with_len}

@@ -1,4 +1,4 @@
--- What contracts see of the documents that are collected for a setup.
+-- A contract's view of the documents that are collected for a setup.
 use Rattle.std.specs.Prelude.{ℕ, List}
 use Rattle.client_registry.specs.Document.{Document}
 

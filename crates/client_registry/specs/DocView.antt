@@ -1,4 +1,4 @@
--- What the fields of a document stand for.
+-- The meaning of the fields of a document.
 use Rattle.std.specs.Prelude.{map}
 use Rattle.client_registry.specs.Document.{Document}
 use Rattle.client_registry.specs.WordBytes.{word_bytes}

@@ -1,4 +1,4 @@
--- What the fields of the collected documents stand for.
+-- The meaning of the fields of the collected documents.
 use Rattle.std.specs.Prelude.{◌≡◌, ◌<◌, ℕ, List, All, Some, length, map}
 use Rattle.indexmap.specs.IndexMap.{hasher_of}
 use Rattle.client_registry.specs.Collected.{Collected}

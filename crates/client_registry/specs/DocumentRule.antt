@@ -1,4 +1,4 @@
--- Which words make a document, and why others don't: the first cause that holds.
+-- The words that make a document, and the first cause why others don't (docs/FORMATS.md).
 use Rattle.std.specs.Prelude.{◌≡◌, ℕ, ◌^◌, ◌<◌, ◌≤◌, nat_lt, List, length, All, Option, None, Some, option_map, if◌then◌else◌}
 use Rattle.client_registry.specs.Document.{Document}
 use Rattle.client_registry.specs.FirstClash.{first_clash}

@@ -1,5 +1,4 @@
--- What a client has to know of a history to plan its next command: which documents are live, which pairs are listed, and
--- the counter of each word.
+-- The facts of a history that a client needs to plan its next command: the live documents, the listed pairs, and the counter of each word.
 use Rattle.std.specs.Prelude.{ℕ, ◌+◌, ◌-◌, ◌^◌, Bool, not, ◌&&◌, ◌||◌, ◌==◌, nat_lt, List, find, Option, None, Some, option_map, if◌then◌else◌}
 use Rattle.std.specs.List.{list_all}
 use Rattle.client_registry.specs.Command.{Command, Add, Delete, Search}

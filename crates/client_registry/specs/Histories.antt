@@ -1,4 +1,4 @@
--- A history, whatever it is made of: what a script asks of it, and how it grows.
+-- A history, whatever it is made of: the demands of a script on it, and how it grows.
 use Rattle.std.specs.Prelude.{◌≡◌, ℕ, ◌^◌, ◌<◌, Bool, true, false, List, [], ◌∷◌, ◌++◌, flat_map, None, Some}
 use Rattle.client_registry.specs.Command.{Command, Add, Delete, Search}
 use Rattle.client_registry.specs.Documents.{is_live}

@@ -1,4 +1,4 @@
--- Which documents are live, and which pairs of a word and a document are listed.
+-- The live documents, and the listed pairs of a word and a document.
 use Rattle.std.specs.Prelude.{ℕ, Bool, false, not, ◌&&◌, ◌||◌, ◌==◌, nat_le, List, [], ◌∷◌, ◌++◌, length, fold, filter, flat_map, None, Some, if◌then◌else◌}
 use Rattle.std.specs.List.{list_any}
 use Rattle.client_registry.specs.Command.{Command, Add, Delete, Search}

@@ -1,4 +1,4 @@
--- What is made of each item of a list and the items before it.
+-- A value for each item of a list, made from it and the items before it.
 use Rattle.std.specs.Prelude.{Bool, List, [], ◌∷◌, ◌++◌, if◌then◌else◌}
 
 -- what f gives of each item and the items before it, beginning with those of the past

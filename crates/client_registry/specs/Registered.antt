@@ -1,4 +1,4 @@
--- What a registry keeps, and the facts that it tells.
+-- The contents of a registry, and the facts that it answers.
 use Rattle.std.specs.Prelude.{◌≡◌, ◌+◌, ◌≤◌, ℕ, true, false, ◌==◌, List, All, length, map, take, find, bytes_eq, unwrap_or, option_map, option_and_then, Option, Some}
 use Rattle.std.specs.List.{list_any}
 use Rattle.std.specs.Map.{lookup}

@@ -1,4 +1,4 @@
--- What the fields of a registry stand for.
+-- The meaning of the fields of a registry.
 use Rattle.std.specs.Prelude.{◌≡◌, ◌<◌, ◌≤◌, ◌^◌, ℕ, List, [], All, length, map, take, drop, min, unwrap_or, vec_capacity, Some, bytes_eq}
 use Rattle.std.specs.List.{IsDistinct}
 use Rattle.std.specs.List.Sorted.{IsNonDecreasing}

@@ -1,4 +1,4 @@
--- A setup, and what stands in its lists.
+-- A setup, and the lists of its words.
 use Rattle.std.specs.Prelude.{ℕ, List}
 use Rattle.two_level.specs.Shape.{Shape}
 use Rattle.client_registry.specs.Document.{Document}

@@ -1,4 +1,4 @@
--- Which commands are accepted, and which runs keep all limits.
+-- The commands that are accepted, and the runs that keep all limits (docs/FORMATS.md).
 use Rattle.std.specs.Prelude.{◌≡◌, ℕ, ◌+◌, ◌^◌, ◌<◌, ◌≤◌, Bool, true, not, ◌&&◌, ◌||◌, ◌-◌, nat_lt, List, [], ◌∷◌, ◌++◌, length, filter, flat_map, All, None}
 use Rattle.std.specs.List.{list_all}
 use Rattle.client_registry.specs.Acceptance.{frames_needed, size_refusal}

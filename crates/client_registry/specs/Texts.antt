@@ -1,4 +1,4 @@
--- What is printed of each fault of a word, a document, the documents, and the size of their index.
+-- The text printed for each fault of a word, a document, the documents, and the size of their index.
 use Rattle.std.specs.Prelude.{ℕ, List, ◌++◌, codes, decimal, ◌==◌, if◌then◌else◌}
 use Rattle.client_registry.specs.declared.faults.WordFault.{WordFault}
 use Rattle.client_registry.specs.declared.faults.WordFault.TheVariants.{Empty, TooLong, BadByte}

@@ -1,4 +1,4 @@
--- Which bytes are a word, and why others are none: the first cause that holds.
+-- The bytes that are a word, and the first cause why others are none (docs/FORMATS.md).
 use Rattle.std.specs.Prelude.{ℕ, Bool, ◌||◌, ◌==◌, nat_lt, nat_le, min, List, length, position, unwrap_or, Option, None, Some, if◌then◌else◌}
 use Rattle.std.specs.Str.Lossy.{utf8_valid_len}
 use Rattle.client_registry.specs.declared.faults.WordFault.{WordFault}

@@ -1,4 +1,4 @@
--- What contracts see of a word table.
+-- A contract's view of a word table.
 use Rattle.std.specs.Prelude.{◌≡◌, ℕ, List, ◌++◌, map}
 use Rattle.client_registry.specs.WordBytes.{word_bytes}
 use Rattle.client_registry.specs.declared.word.Word.{Word}

@@ -7,8 +7,8 @@ use crate::hash_keys::HashKeys;
 use crate::limits::{MAX_DOCUMENTS, MAX_PAIRS};
 use crate::listed::Listed;
 use crate::numbered::Numbered;
-use crate::numbering::count_all;
 use crate::word::Word;
+use crate::word_numbers::count_all;
 use crate::word_table::Words;
 use indexmap::IndexMap;
 use std::alloc::Global;
@@ -45,6 +45,8 @@ impl Docs {
     ghost use Rattle.client_registry.specs.Numbered.{document_by};
     ghost use Rattle.client_registry.specs.WordBytes.{word_bytes};
 
+    // Promise P59 (caller): Documents and registries keep the two hash keys that `Docs::new` received, through every push, addition and deletion.
+    //   clauses: keys; not: That these keys are the master key's (P97 gives those).
     /// No document. Words and identifiers are to be hashed under these keys.
     pub fn new(alloc: Global, keys: HashKeys) -> Docs
         ensures none { result.documents ≡ [] }
@@ -57,6 +59,8 @@ impl Docs {
         }
     }
 
+    // Promise P58, also here; clauses: ok, err, refused, accepted
+    // Promise P59, also here; clauses: keys
     /// Adds a document after the others.
     ///
     /// At most 2^18 documents, and 2^20 pairs of a word and a document. Errors, the first that stands:

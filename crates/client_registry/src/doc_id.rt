@@ -31,6 +31,8 @@ impl DocId {
     ghost use Rattle.std.specs.Prelude.{IfOk, ◌↔◌};
     ghost use Rattle.client_registry.specs.IdNumber.{id_number};
 
+    // Promise P58 (caller): A document has its own identifier and at most 4,096 different words, a setup keeps its limits; a refusal changes nothing.
+    //   clauses: ok, zero
     /// The identifier of this number. Error: `Zero` exactly where the number is 0.
     pub fn new(number: u64) -> Result<DocId, Zero>
         ensures ok { IfOk result (λ id. id_number id ≡ number) }

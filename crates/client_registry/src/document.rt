@@ -33,6 +33,7 @@ impl Doc {
     ghost use Rattle.client_registry.specs.IdNumber.{id_number};
     ghost use Rattle.client_registry.specs.DocumentRule.{doc_refusal, IsDocument};
 
+    // Promise P58, also here; clauses: ok, many, refused, accepted
     /// The document of this identifier with these words.
     ///
     /// Errors, the first that stands: `TooManyWords(n)` where there are n words, more than 4,096;

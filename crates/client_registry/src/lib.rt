@@ -1,12 +1,12 @@
-//! What a client knows of its documents: words, documents, and the documents collected for a setup, with each
-//! word numbered by its first appearance and the number of documents that hold it; after the setup a [`Registry`],
-//! which tells what is live, listed and counted, and is changed by each addition and deletion. It depends on the plan of
-//! a list alone (`two_level`), so that [`size_of`] tells the size of an index, or why there is none, without a key.
-//! Callers see a [`Doc`] as a `Document` of specs/Document.antt and [`Docs`] as the list of them, and a registry by the
-//! history that it represents (`Represents` of specs/Registered.antt); what is refused is exactly what a definition named
-//! `refusal` gives, or a clause of its own, and nothing is changed then. What is accepted as a word is UTF-8 of 1 to 64
-//! bytes, by the laws `length-word`, `IsUtf8-word` and `bytes_of_words_fit` (proofs/WordLaws.antt). Histories and their
-//! laws are here too, as definitions. It makes no index and searches nothing.
+//! What a client knows of its documents: their words, the documents collected for a setup and, after the setup, a
+//! `Registry` of what is live, listed and counted. Words have 1 to 64 bytes of UTF-8, are stored once and numbered by
+//! first appearance. They are hashed under keys derived from the master key: whoever writes a mail chooses its words,
+//! and could make them collide under fixed keys. It depends on `two_level` for the plan of a list, so that `size_of`
+//! gives an index's size without a key. Definitions and laws of histories are here too.
+//! Proved: a registry represents its history (`Represents` of specs/Registered.antt); a refusal is exactly what a
+//! definition named `refusal`, or a clause of its own, gives, and changes nothing.
+//! Not here: making an index, and searching.
+//! Side: client.
 #![tactic(auto)]
 
 mod collected;
@@ -17,11 +17,11 @@ mod hash_keys;
 mod limits;
 mod listed;
 mod numbered;
-mod numbering;
 mod registry;
 mod size;
 mod updates;
 mod word;
+mod word_numbers;
 mod word_table;
 
 pub use collected::Docs;

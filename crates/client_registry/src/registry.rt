@@ -47,6 +47,9 @@ impl Registry {
     ghost use Rattle.client_registry.specs.WordBytes.{word_bytes};
     ghost use Rattle.two_level.specs.Shape.{Shape};
 
+    // Promise P59, also here; clauses: keys
+    // Promise P60 (caller): A registry gives the live documents, listed pairs and counters of its history, and follows each addition and deletion.
+    //   clauses: setup; assumes: earlier calls; not: A new pair of a word at its last counter: `full_counter` reports it.
     /// The registry of a setup of these documents: all of them are live, each word keeps its number, and they are hashed
     /// as before. It takes no memory.
     pub fn from_docs(docs: Docs) -> Registry
@@ -70,6 +73,7 @@ impl Registry {
         }
     }
 
+    // Promise P60, also here; clauses: live, id, numbered, valid
     /// The live document of an identifier, where there is one: its numbers are those of [`Registry::word`].
     pub fn get(&self, id: DocId) -> Option<Numbered<'_>>
         ensures live { option_map (λ doc. words_by_number (known_words self.now) doc.numbers.now) result ≡ (facts self.now).live (id_number id) }
@@ -92,6 +96,7 @@ impl Registry {
         self.get(id).is_some()
     }
 
+    // Promise P60, also here; clauses: ensures
     /// Whether the pair of a word and an identifier was ever listed.
     pub fn is_listed(&self, word: &Word, id: DocId) -> bool
         ensures { result ≡ (facts self.now).listed (word_bytes word.now) (id_number id) }
@@ -102,6 +107,7 @@ impl Registry {
         }
     }
 
+    // Promise P60, also here; clauses: ensures
     /// How many pairs of a word were first listed by an addition, which is the number of the next one: its counter.
     pub fn counter(&self, word: &Word) -> u32
         ensures { result ≡ (facts self.now).counter (word_bytes word.now) }

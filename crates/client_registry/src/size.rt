@@ -26,6 +26,8 @@ pub struct Size {
     pub padded_blocks: u32,
 }
 
+// Promise P71 (caller): The size of a setup is its index's, with and without dummies, or the first cause why there is none.
+//   clauses: shape, pad, words, blocks, padded_words, padded_blocks, refused, accepted
 /// The size of the index of these documents, with `b` numbers in a cell and `big` numbers in a block, filled with
 /// dummies up to multiples of `pad`.
 ///

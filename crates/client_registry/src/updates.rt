@@ -20,6 +20,8 @@ use arrayvec::ArrayVec;
 use std::alloc::AllocError;
 
 impl Registry {
+    // Promise P59, also here; clauses: keys
+    // Promise P61, also here; clauses: room, facts
     /// Takes the memory of a following [`Registry::add`] of this document, and numbers its words.
     ///
     /// What is live, listed and counted stays as it is, also after an error.
@@ -34,6 +36,9 @@ impl Registry {
         self.reserve_for(doc, &mut numbers)
     }
 
+    // Promise P59, also here; clauses: keys
+    // Promise P62 (caller): A document's words are numbered once when memory is reserved; adding by these numbers then takes no memory.
+    //   clauses: numbers, within, room; assumes: earlier calls
     /// As [`Registry::reserve`], and gives the number of each of the document's words, in their order, so that a following
     /// [`Registry::add_numbered`] looks no word up.
     pub fn reserve_numbered(&mut self, doc: &Doc) -> Result<Vec<u32>, AllocError>
@@ -51,6 +56,10 @@ impl Registry {
         Ok(copy)
     }
 
+    // Promise P59, also here; clauses: keys
+    // Promise P60, also here; clauses: ok, history, words
+    // Promise P61 (caller): An addition is refused if and only if its identifier is live, a deletion if and only if it isn't; a refusal changes nothing.
+    //   clauses: already, accepted, room, err; not: An addition whose memory wasn't reserved may run out of memory; a deletion takes none.
     /// Adds a document. None of its words whose pair would be new is at its last counter.
     ///
     /// Errors: `AlreadyLive(id)` exactly where a document of this identifier is live; else `NoMemory` where there is no
@@ -76,6 +85,8 @@ impl Registry {
         Ok(())
     }
 
+    // Promise P59, also here; clauses: keys
+    // Promise P62, also here; clauses: facts, history
     /// Adds a document whose identifier isn't live by the numbers of its words, after [`Registry::reserve_numbered`] or
     /// with other room. None of its words whose pair would be new is at its last counter. It takes no memory.
     pub fn add_numbered(&mut self, doc: &Doc, numbers: &[u32])
@@ -97,6 +108,9 @@ impl Registry {
         listed.revive(&mut self.next, &mut self.again);
     }
 
+    // Promise P59, also here; clauses: keys
+    // Promise P60, also here; clauses: ok, history, words
+    // Promise P61, also here; clauses: unknown, accepted, err
     /// Deletes the document of this identifier. Its pairs stay listed. It takes no memory.
     ///
     /// Error: `UnknownDocument(id)` exactly where no document of this identifier is live; nothing has changed then.

@@ -16,6 +16,8 @@ pub struct Word {
 impl Word {
     ghost use Rattle.client_registry.specs.WordBytes.{word_bytes};
 
+    // Promise P57 (caller): A word is 1 to 64 bytes of UTF-8 without forbidden bytes; otherwise the first cause is named.
+    //   clauses: ok, refused, accepted
     /// Reads a word out of all the bytes. It takes no memory.
     ///
     /// Errors, the first that stands: `Empty` where there is no byte; `TooLong(n)` where there are n bytes,

@@ -6,7 +6,7 @@ use Rattle.std.specs.Simd.{first_chunks}
 use Rattle.std.proofs.lemmas.Grind.{div_ceil_times}
 use Rattle.std.proofs.lemmas.List.{append-nil, take_all, take_at, drop_at}
 use Rattle.list_packing.specs.Parts.{parts}
-use Rattle.sse_frames.specs.Sending.{pages_of, pages}
+use Rattle.sse_frames.specs.SentParts.{pages_of, pages}
 
 -- all but the last are full, and none behind the first is empty
 abbrev pub AreTaken : List ℕ → List (List ℕ) → Type 0
@@ -38,6 +38,7 @@ parts_taken ids (more ∷ others) some taken =
     part_before ids (flat_map (λ (x : List ℕ). x) (more ∷ others)) taken.0 (some_left more others taken.1)
     ∙ ap (λ (ps : List (List ℕ)). ids ∷ ps) (parts_taken more others taken.1 taken.2)
 
+-- Promise P56, also here
 -- pages that were taken are those of all their identifiers
 pub pages-taken : (ids : List ℕ) (others : List (List ℕ)) → AreTaken ids others → pages (flat_map (λ (x : List ℕ). x) (ids ∷ others)) ≡ pages_of (ids ∷ others)
 pages-taken [] [] taken = refl

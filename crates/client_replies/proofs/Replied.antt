@@ -1,8 +1,8 @@
 -- Bytes are one reply at most, and that reply says which fault they are.
 use Rattle.std.proofs.Common.{◌≡◌, ℕ, List, [], ◌++◌, refl, sym, ap, ◌∙◌}
 use Rattle.sse_frames.specs.Replies.{ReplyText, Next, Took, Number, Clash, Page, BadList, NoMemory, StoreFault, BadFrame, OutOfPlace}
-use Rattle.sse_frames.specs.Reading.{IsReply}
-use Rattle.sse_frames.proofs.ReplySpelling.{one_reply}
+use Rattle.sse_frames.specs.ReadOutcomes.{IsReply}
+use Rattle.sse_frames.proofs.ReplyBytesLaws.{one_reply}
 use Rattle.client_replies.specs.declared.reply_fault.ReplyFault.{ReplyFault}
 use Rattle.client_replies.specs.declared.reply_fault.ReplyFault.TheVariants as faults
 use Rattle.client_replies.specs.Faults.{fault_told, IsFaultOf}

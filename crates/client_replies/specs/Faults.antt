@@ -1,6 +1,6 @@
--- Which fault a reply is where it isn't one that is expected.
+-- The fault that an unexpected reply is.
 use Rattle.std.specs.Prelude.{◌≡◌, ℕ, List}
-use Rattle.sse_frames.specs.Reading.{IsReply}
+use Rattle.sse_frames.specs.ReadOutcomes.{IsReply}
 use Rattle.sse_frames.specs.Replies.{ReplyText, Clash, NoMemory, StoreFault}
 use Rattle.client_replies.specs.declared.reply_fault.ReplyFault.{ReplyFault}
 use Rattle.client_replies.specs.declared.reply_fault.ReplyFault.TheVariants as faults

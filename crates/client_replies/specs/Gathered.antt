@@ -1,4 +1,4 @@
--- What a contract sees of the pages of a search that came so far.
+-- A contract's view of the pages of a search that came so far.
 use Rattle.std.specs.Prelude.{ℕ, List}
 
 -- their identifiers in the order in which they came, how many pages they are, and for how many more identifiers there is

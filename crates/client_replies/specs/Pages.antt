@@ -1,9 +1,9 @@
--- What a contract sees of the pages that a search brings.
+-- A contract's view of the pages that a search brings.
 use Rattle.std.specs.Prelude.{◌≡◌, ℕ, ◌+◌, ◌<◌, ◌^◌, ◌≤◌, Bool, true, false, List, ◌++◌, length, Result, Ok, Err}
 use Rattle.sse_frames.specs.Replies.{ReplyText, Page}
 use Rattle.sse_frames.specs.FrameViews.{numbers_in}
 use Rattle.sse_frames.specs.Sizes.{AreIds}
-use Rattle.sse_frames.specs.Reading.{IsReply}
+use Rattle.sse_frames.specs.ReadOutcomes.{IsReply}
 use Rattle.client_replies.specs.Faults.{IsFaultOf}
 use Rattle.client_replies.specs.Gathered.{Gathered}
 use Rattle.client_replies.specs.declared.found.Progress.{Progress}

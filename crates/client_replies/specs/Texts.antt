@@ -1,4 +1,4 @@
--- What is printed of the fault that a reply reports.
+-- The text printed for the fault that a reply reports.
 use Rattle.std.specs.Prelude.{ℕ, List, ◌++◌, codes, decimal, ◌==◌, if◌then◌else◌}
 use Rattle.client_replies.specs.declared.reply_fault.ReplyFault.{ReplyFault}
 use Rattle.client_replies.specs.declared.reply_fault.ReplyFault.TheVariants.{Clash, NoMemory, StoreFault, BadReply, OutOfMemory}

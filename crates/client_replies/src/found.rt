@@ -39,7 +39,7 @@ pub enum Progress {
 impl Found {
     ghost use Rattle.std.specs.Prelude.{[], false, IsErrOf};
     ghost use Rattle.client_registry.specs.Live.{in_order};
-    ghost use Rattle.sse_frames.specs.Reading.{IsReply};
+    ghost use Rattle.sse_frames.specs.ReadOutcomes.{IsReply};
     ghost use Rattle.sse_frames.specs.Replies.{reply_bytes, Page, StoreFault};
     ghost use Rattle.client_replies.specs.Pages.{AfterPage};
 
@@ -54,6 +54,8 @@ impl Found {
         }
     }
 
+    // Promise P56 (caller): A reply to a search is taken if and only if it is a page that may follow; its identifiers come out rising.
+    //   clauses: after, taken; not: Out of memory may come in place of taking a page. Repeated identifiers stay.
     /// Takes the next page, with its four length bytes. A page that isn't the last holds 8,192
     /// identifiers, a last one that isn't the first at least one, and there are at most 2^20 pages;
     /// else it is `BadReply`. After a refusal the pages taken are as before. `OutOfMemory` comes only where a page that may
@@ -78,6 +80,7 @@ impl Found {
         Ok(progress_of(last))
     }
 
+    // Promise P56, also here; clauses: ensures
     /// The identifiers that came, rising, repeats included.
     pub fn finish(self) -> Vec<u64>
         ensures { result.items ≡ in_order self.ids }

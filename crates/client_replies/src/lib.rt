@@ -1,7 +1,9 @@
-//! What a reply means to a client that doesn't expect an acknowledgement: the pages of an answer are gathered, and any
-//! other reply is the fault that it reports. It depends on `sse_frames` for the bytes of replies. The theorems that callers
-//! use: `IsFaultOf` of specs/Faults.antt, `AfterPage` of specs/Pages.antt, and `pages-taken` of proofs/PagesTaken.antt. It
-//! sends nothing and keeps no key.
+//! What a reply means to a client that isn't waiting for an acknowledgement: pages of an answer are gathered, and any
+//! other reply is the fault that it reports. It depends on `sse_frames` for the bytes of replies.
+//! Proved: a page is accepted exactly if it may follow those before it (`AfterPage` of specs/Pages.antt;
+//! `pages-taken`), unless memory runs out; any other reply is the fault of specs/Faults.antt.
+//! Not here: sending, and keys.
+//! Side: client.
 #![tactic(auto)]
 
 mod found;

@@ -1,7 +1,7 @@
 ghost use Rattle.std.specs.Prelude.{◌≡◌, ℕ, Bool, List, false, None, IfSome};
 ghost use Rattle.sse_frames.specs.Replies.{Page};
 ghost use Rattle.sse_frames.specs.FrameViews.{reply_view};
-ghost use Rattle.sse_frames.specs.Reading.{IsReply};
+ghost use Rattle.sse_frames.specs.ReadOutcomes.{IsReply};
 ghost use Rattle.client_replies.specs.Pages.{IsPageIn, is_page};
 
 use sse_frames::{Reply, read_whole_reply};

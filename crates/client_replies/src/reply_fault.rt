@@ -1,7 +1,7 @@
 ghost use Rattle.std.specs.Prelude.{◌≡◌};
 ghost use Rattle.sse_frames.specs.Replies.{ReplyText, reply_bytes, StoreFault};
 ghost use Rattle.sse_frames.specs.FrameViews.{reply_view};
-ghost use Rattle.sse_frames.specs.Reading.{IsReply};
+ghost use Rattle.sse_frames.specs.ReadOutcomes.{IsReply};
 ghost use Rattle.client_replies.specs.Faults.{fault_told, IsFaultOf};
 
 use sse_frames::{Reply, read_whole_reply};
@@ -54,6 +54,7 @@ impl fmt::Display for ReplyFault {
 
 impl Error for ReplyFault {}
 
+// Promise P54, also here; clauses: fault, told
 /// The fault that a reply, all of these bytes, reports where it isn't one that is expected: what the server says
 /// went wrong there, else `BadReply`.
 pub fn fault_of(reply: &[u8]) -> ReplyFault

@@ -1,4 +1,4 @@
--- What the states of HMAC hold.
+-- The texts that the states of HMAC have taken in.
 use Rattle.std.specs.Prelude.{ℕ, List, ◌++◌}
 use Rattle.sha2.specs.Hashers.{Holds256}
 use Rattle.hmac_sha256.specs.Fips198.{key_block_of, masked}

@@ -17,6 +17,7 @@ impl HmacKey {
     ghost use Rattle.hmac_sha256.specs.Fips198.{hmac_of};
     ghost use Rattle.hmac_sha256.specs.IsMac.{IsMac, IsHmacKey};
 
+    // Promise P92, also here; clauses: ensures
     /// Prepares a key of any length.
     pub fn new(key: &[u8]) -> HmacKey
         ensures { IsHmacKey result key.now }
@@ -32,6 +33,7 @@ impl HmacKey {
         HmacKey { inner, outer }
     }
 
+    // Promise P92, also here; clauses: ensures
     /// Begins with this key and no text.
     pub fn begin(&self) -> Hmac
         ensures { (key : List ℕ) → IsHmacKey self.now key → IsMac result key [] }
@@ -42,6 +44,7 @@ impl HmacKey {
         }
     }
 
+    // Promise P92, also here; clauses: ensures
     /// The 32 bytes of the code of a text of any length under this key.
     pub fn code(&self, text: &[u8]) -> [u8; 32]
         ensures { (key : List ℕ) → IsHmacKey self.now key → result ≡ hmac_of key text.now }

@@ -16,9 +16,9 @@ use Rattle.sse_model.specs.Names.{cell_size}
 use Rattle.sse_model.specs.Positions.{Position, blocks_from, dummy_block, dummy_entry, entries_from, ranks_of, sealed, word_blocks}
 use Rattle.index_setup.specs.Entries.{array_texts, entry_texts, index_labels, index_tags, key_table, setup_blocks, setup_entries, setup_ranks, word_labels}
 use Rattle.index_setup.specs.Placed.{dummy_block_texts, dummy_entry_texts, placed}
-use Rattle.tag_order.specs.Tagged.{IsOrderOf}
-use Rattle.tag_order.specs.declared.tagged.Tagged.{Tagged}
-use Rattle.tag_order.proofs.FoundClash.{nothing}
+use Rattle.client_tag_order.specs.Tagged.{IsOrderOf}
+use Rattle.client_tag_order.specs.declared.tagged.Tagged.{Tagged}
+use Rattle.client_tag_order.proofs.FoundClash.{nothing}
 use Rattle.index_setup.proofs.EntryPlaces.{labelled, places_counted}
 use Rattle.index_setup.proofs.KeyTags.{index_labels-are}
 use Rattle.index_setup.proofs.ListWrites.{length-setup_ranks, ranks_low}

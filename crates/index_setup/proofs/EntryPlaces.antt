@@ -9,9 +9,9 @@ use Rattle.keyed_fn.specs.KeyedFn.{KeyedFn}
 use Rattle.keyed_fn.specs.KeyFormulas.{part_key, plain_key, list_label}
 use Rattle.sse_model.specs.Positions.{ranks_of}
 use Rattle.index_setup.specs.Entries.{index_labels, word_labels}
-use Rattle.tag_order.specs.Tagged.{IsOrderOf}
-use Rattle.tag_order.specs.declared.tagged.Tagged.{Tagged}
-use Rattle.tag_order.proofs.FoundClash.{at}
+use Rattle.client_tag_order.specs.Tagged.{IsOrderOf}
+use Rattle.client_tag_order.specs.declared.tagged.Tagged.{Tagged}
+use Rattle.client_tag_order.proofs.FoundClash.{at}
 use Rattle.index_setup.proofs.KeyTags.{index_labels-are, length-index_labels}
 use Rattle.index_setup.proofs.RankWrites.{length-ranks_of, length-sorted, position_at_rank}
 

@@ -23,10 +23,10 @@ use Rattle.sse_model.specs.Positions.{Position, block_position, entry_position, 
 use Rattle.word_keys.specs.PadName.{PadName, cell_name, name_after, named_pad}
 use Rattle.index_setup.specs.Entries.{array_texts, entry_texts, index_tags, key_table, setup_ranks}
 use Rattle.index_setup.specs.Placed.{block_texts, placed}
-use Rattle.tag_order.specs.Tagged.{tagged_from}
+use Rattle.client_tag_order.specs.Tagged.{tagged_from}
 use Rattle.index_setup.proofs.KeyTags.{length-index_tags}
 use Rattle.index_setup.proofs.RankWrites.{length-ranks_of, position_at_rank}
-use Rattle.tag_order.proofs.InOrder.{key as tag_of}
+use Rattle.client_tag_order.proofs.InOrder.{key as tag_of}
 
 -- ---- texts placed in two steps
 

@@ -11,12 +11,12 @@ use Rattle.list_packing.proofs.PartsLemmas.{joined-parts}
 use Rattle.sse_frames.specs.Order.{by_bytes}
 use Rattle.sse_model.specs.Positions.{ranks_of}
 use Rattle.index_setup.specs.Placed.{placed}
-use Rattle.tag_order.specs.Tagged.{tagged_from}
-use Rattle.tag_order.specs.declared.tagged.Tagged.{Tagged}
-use Rattle.tag_order.proofs.FoundClash.{at, nothing}
-use Rattle.tag_order.proofs.Neighbours.{length-order}
+use Rattle.client_tag_order.specs.Tagged.{tagged_from}
+use Rattle.client_tag_order.specs.declared.tagged.Tagged.{Tagged}
+use Rattle.client_tag_order.proofs.FoundClash.{at, nothing}
+use Rattle.client_tag_order.proofs.Neighbours.{length-order}
 use Rattle.index_setup.proofs.RankWrites.{length-ranks_of, rank_at, placed_at, position_at_rank}
-use Rattle.tag_order.proofs.InOrder.{key, pos, by_bytes-map}
+use Rattle.client_tag_order.proofs.InOrder.{key, pos, by_bytes-map}
 
 pub length-placed : {X : Type 0} (slots : List X) (ranks : List ℕ) (texts : List X) → length (placed slots ranks texts) ≡ length slots
 length-placed slots [] texts = refl

@@ -6,9 +6,9 @@ use Rattle.std.proofs.lemmas.List.FromFn.{get_or-map-range_with_len}
 use Rattle.sse_frames.specs.Order.{is_below}
 use Rattle.sse_frames.proofs.Sorted.{length-by_bytes}
 use Rattle.sse_model.specs.Positions.{comes_before, ranks_of}
-use Rattle.tag_order.specs.Tagged.{tagged_from}
-use Rattle.tag_order.specs.declared.tagged.Tagged.{Tagged}
-use Rattle.tag_order.proofs.InOrder.{all_at, all_tagged, before, count_before, count-by_bytes, key, length-tagged_from, make, pos, sorted_tagged, InOrder-by_bytes, IsPlaced, PositionsRise-tagged_from, sorted-IsPlaced}
+use Rattle.client_tag_order.specs.Tagged.{tagged_from}
+use Rattle.client_tag_order.specs.declared.tagged.Tagged.{Tagged}
+use Rattle.client_tag_order.proofs.InOrder.{all_at, all_tagged, before, count_before, count-by_bytes, key, length-tagged_from, make, pos, sorted_tagged, InOrder-by_bytes, IsPlaced, PositionsRise-tagged_from, sorted-IsPlaced}
 
 counted : (P : ℕ → Bool) (Q : Tagged → Bool) (a : ℕ) (ts : List (List ℕ)) → ((k : ℕ) → k < length ts → P (a + k) ≡ Q (make (get_or ts k []) (a + k)))
     → length (filter P (range_with_len a (length ts))) ≡ length (filter Q (tagged_from a ts))

@@ -5,11 +5,11 @@ use Rattle.std.proofs.lemmas.List.{ext_get_or, get_or_default, get_or-set_same, 
 use Rattle.std.proofs.lemmas.List.FromFn.{length-map-range_with_len}
 use Rattle.sse_frames.specs.Order.{by_bytes}
 use Rattle.sse_model.specs.Positions.{ranks_of}
-use Rattle.tag_order.specs.Tagged.{tagged_from, IsOrderOf}
-use Rattle.tag_order.specs.declared.tagged.Tagged.{Tagged}
-use Rattle.tag_order.proofs.FoundClash.{at, nothing}
-use Rattle.tag_order.proofs.Neighbours.{sorted_place, length-order}
-use Rattle.tag_order.proofs.InOrder.{key, pos, make, length-tagged_from, get_or-tagged_from, IsPlaced, sorted-IsPlaced, all_at}
+use Rattle.client_tag_order.specs.Tagged.{tagged_from, IsOrderOf}
+use Rattle.client_tag_order.specs.declared.tagged.Tagged.{Tagged}
+use Rattle.client_tag_order.proofs.FoundClash.{at, nothing}
+use Rattle.client_tag_order.proofs.Neighbours.{sorted_place, length-order}
+use Rattle.client_tag_order.proofs.InOrder.{key, pos, make, length-tagged_from, get_or-tagged_from, IsPlaced, sorted-IsPlaced, all_at}
 use Rattle.index_setup.proofs.RankLaws.{rank_of_place}
 
 pub length-ranks_of : (tags : List (List ℕ)) → length (ranks_of tags) ≡ length tags

@@ -5,9 +5,9 @@ use Rattle.std.specs.List.{range_with_len}
 use Rattle.std.proofs.lemmas.List.{append-nil, length-map, length-take-le, map_more, take_more, take-append-drop}
 use Rattle.std.proofs.lemmas.List.Concat.{flat_map-append}
 use Rattle.std.proofs.lemmas.List.FromFn.{length-map-range_with_len, map-range_with_len_more}
-use Rattle.tag_order.specs.Tagged.{tagged_from}
-use Rattle.tag_order.specs.declared.tagged.Tagged.{Tagged}
-use Rattle.tag_order.proofs.InOrder.{make, tagged_from-push, length-tagged_from}
+use Rattle.client_tag_order.specs.Tagged.{tagged_from}
+use Rattle.client_tag_order.specs.declared.tagged.Tagged.{Tagged}
+use Rattle.client_tag_order.proofs.InOrder.{make, tagged_from-push, length-tagged_from}
 
 pub tagged_from-append : (i : ℕ) (xs ys : List (List ℕ)) → tagged_from i (xs ++ ys) ≡ tagged_from i xs ++ tagged_from (i + length xs) ys
 tagged_from-append i [] ys = ap (λ k. tagged_from k ys) (sym (add-zero i))

@@ -1,4 +1,4 @@
--- What a contract sees of an index.
+-- A contract's view of an index.
 use Rattle.std.specs.Prelude.{◌≡◌, ℕ, ◌+◌, ◌*◌, ◌≤◌, ◌^◌, List, length}
 
 -- the numbers per cell and per block, and Q; how many entries and blocks it has, dummies included, and how many words and

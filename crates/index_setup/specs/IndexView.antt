@@ -1,4 +1,4 @@
--- What the fields of an index stand for.
+-- The meaning of the fields of an index.
 use Rattle.index_setup.specs.Built.{Built}
 use Rattle.index_setup.specs.declared.index.Index.TheInside.{Inside}
 

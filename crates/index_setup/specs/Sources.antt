@@ -1,11 +1,11 @@
--- What the entries and blocks of a setup's index are written from.
+-- The sources of a setup's entries and blocks.
 use Rattle.std.specs.Prelude.{◌≡◌, ℕ, List, flat_map}
 use Rattle.client_registry.specs.Documents.{ids_with}
 use Rattle.client_registry.specs.Setup.{Setup, setup_words}
 use Rattle.keyed_fn.specs.KeyedFn.{KeyedFn}
 use Rattle.sse_model.specs.Positions.{ranks_of}
-use Rattle.tag_order.specs.Tagged.{IsOrderOf}
-use Rattle.tag_order.specs.declared.tagged.Tagged.{Tagged}
+use Rattle.client_tag_order.specs.Tagged.{IsOrderOf}
+use Rattle.client_tag_order.specs.declared.tagged.Tagged.{Tagged}
 use Rattle.index_setup.specs.Entries.{index_labels, setup_ranks}
 
 -- the labels by rising label, the place of each entry by its position, the identifiers of all lists by word number, and the

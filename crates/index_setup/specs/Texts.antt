@@ -1,4 +1,4 @@
--- What is printed where an index can't be built. Words and blocks are numbered from 0, dummies behind them.
+-- The text printed when an index can't be built. Words and blocks are numbered from 0, dummies after them.
 use Rattle.std.specs.Prelude.{ℕ, List, ◌++◌, codes, decimal, ◌==◌, if◌then◌else◌}
 use Rattle.index_setup.specs.declared.fault.BuildFault.{BuildFault}
 use Rattle.index_setup.specs.declared.fault.BuildFault.TheVariants.{BadParameter, ListTooLong, TooManyBytes, LabelClash, PlaceClash, NoMemory}

@@ -5,14 +5,14 @@ ghost use Rattle.keyed_fn.specs.KeyFormulas.{plain_key};
 ghost use Rattle.keyed_fn.specs.KeyedFn.{keyed_fn};
 ghost use Rattle.keyed_fn.specs.Xored.{xored};
 ghost use Rattle.list_packing.specs.Parts.{parts};
-ghost use Rattle.tag_order.specs.Tagged.{tagged_from};
+ghost use Rattle.client_tag_order.specs.Tagged.{tagged_from};
 ghost use Rattle.word_keys.specs.PadName.{named_pad};
 ghost use Rattle.index_setup.specs.Placed.{dummy_block_texts, dummy_entry_texts, placed};
 
-use crate::writing::entry_size;
+use crate::entry_bytes::entry_size;
+use client_tag_order::Tagged;
 use keyed_fn::Keyed;
 use std::alloc::AllocError;
-use tag_order::Tagged;
 use two_level::Shape;
 use word_keys::{PadSlot, PreparedMaster, seal};
 

@@ -147,6 +147,7 @@ impl Index {
         part(&self.array, 8 * self.big as usize, i as usize)
     }
 
+    // Promise P50, also here; clauses: bytes, limits
     /// The entries by rising label, joined: for each its label of 16 bytes, then its encrypted cell.
     pub fn entries(&self) -> &[u8]
         ensures bytes { result.now ≡ self.now.entries }
@@ -155,6 +156,7 @@ impl Index {
         &self.entries
     }
 
+    // Promise P50, also here; clauses: bytes, limits
     /// The encrypted blocks by rising place tag, joined.
     pub fn array(&self) -> &[u8]
         ensures bytes { result.now ≡ self.now.array }

@@ -6,13 +6,13 @@ ghost use Rattle.keyed_fn.specs.KeyFormulas.{part_key, place_tag};
 ghost use Rattle.two_level.specs.Plan as layout;
 ghost use Rattle.index_setup.specs.Entries.{index_labels, index_tags};
 ghost use Rattle.index_setup.specs.SizeOf.{setup_sized, IsSizeOf};
-ghost use Rattle.tag_order.specs.Tagged.{tagged_from};
+ghost use Rattle.client_tag_order.specs.Tagged.{tagged_from};
 
 use crate::dummies::{push_dummy_labels, push_dummy_tags};
 use client_registry::{Docs, Size, Word};
+use client_tag_order::Tagged;
 use keyed_fn::Keyed;
 use std::alloc::{AllocError, Global};
-use tag_order::Tagged;
 use two_level::Shape;
 use word_keys::{PlaceTags, PreparedMaster};
 

@@ -1,9 +1,9 @@
 ghost use Rattle.std.specs.Prelude.{◌≡◌, ◌<◌, ◌≤◌, ◌^◌, ℕ, List, All, length, IfOk};
 ghost use Rattle.sse_model.specs.Positions.{ranks_of};
-ghost use Rattle.tag_order.specs.Tagged.{IsOrderOf};
+ghost use Rattle.client_tag_order.specs.Tagged.{IsOrderOf};
 
+use client_tag_order::Tagged;
 use std::alloc::{AllocError, Global};
-use tag_order::Tagged;
 
 /// The place of each position among the sorted. Error: where there is no memory.
 pub fn ranks(alloc: Global, sorted: &[Tagged]) -> Result<Vec<u32>, AllocError>

@@ -1,4 +1,4 @@
--- A keyed function as a value of definitions: what a type that implements `Keyed` computes.
+-- A keyed function as a value of definitions, as a type that implements `Keyed` computes it.
 use Rattle.std.specs.Prelude.{◌≡◌, ℕ, ◌<◌, ◌≤◌, List, length, take, All}
 
 -- 32 bytes from a key and an input; and from a key, a number and a length, so many bytes of a pad

@@ -1,4 +1,4 @@
--- What the toy keyed function keeps, as every keyed function does.
+-- The laws that the toy keyed function keeps, as every keyed function does.
 use Rattle.std.specs.Prelude.{◌≡◌, ℕ, ◌+◌, ◌%◌, ◌<◌, ◌≤◌, List, length, take, All, slice_index}
 use Rattle.std.specs.List.{range_with_len}
 use Rattle.std.proofs.Common.{arith}

@@ -27,6 +27,8 @@ impl Model for KeptKey {
 }
 
 impl KeptKey {
+    // Promise P95 (caller): A prepared key gives the same values as its 32 bytes, under every keyed function.
+    //   clauses: ensures
     /// Prepares the key of these bytes.
     pub fn new(bytes: &[u8; 32]) -> KeptKey
         ensures { result ≡ bytes.now }

@@ -12,14 +12,18 @@ pub trait Keyed {
 
     ghost pad: { List ℕ → ℕ → ℕ → List ℕ };
 
+    // Promise P94 (caller): `Real` and `Toy` are keyed functions: their values have the stated sizes, and a shorter pad is a prefix of a longer one.
+    //   clauses: ensures
     /// The 32 bytes of the function under `key` at `input`, which may have any length.
     fn prf(&self, key: &[u8; 32], input: &[u8]) -> [u8; 32]
         ensures { result ≡ prf key.now input.now };
 
+    // Promise P95, also here; clauses: ensures
     /// The same 32 bytes under a key that is kept prepared.
     fn prf_kept(&self, key: &KeptKey, input: &[u8]) -> [u8; 32]
         ensures { result ≡ prf key.now input.now };
 
+    // Promise P94, also here; clauses: ensures
     /// Fills `out` with the front of pad number `n` under `key`. At most 2^38 bytes, which is as far
     /// as the keystream of RFC 8439 goes.
     fn pad_into(&self, key: &[u8; 32], n: u64, out: &mut [u8])
@@ -38,6 +42,7 @@ pub trait Keyed {
 
     ghost pad_prefix: { (key : List ℕ) (n a b : ℕ) → a ≤ b → take a (pad key n b) ≡ pad key n a };
 
+    // Promise P94, also here
     /// The laws together, as definitions over any keyed function take them.
     ghost laws: { IsKeyedFn (keyed_fn prf pad) } = { record {
       prf_length = prf_length;

@@ -28,6 +28,7 @@ impl<K: Keyed> Drop for PreparedKey<K> {
 }
 
 impl<K: Keyed> PreparedKey<K> {
+    // Promise P95, also here; clauses: ensures
     /// Prepares the key of these bytes.
     pub fn new(_keyed: &K, bytes: &[u8; 32]) -> PreparedKey<K>
         ensures { result ≡ bytes.now }
@@ -38,6 +39,7 @@ impl<K: Keyed> PreparedKey<K> {
         }
     }
 
+    // Promise P95, also here; clauses: ensures
     /// The 32 bytes of the function under the key at `input`, which may have any length.
     pub fn prf(&self, keyed: &K, input: &[u8]) -> [u8; 32]
         ensures { result ≡ K.prf self.now input.now }
@@ -45,6 +47,7 @@ impl<K: Keyed> PreparedKey<K> {
         keyed.prf_kept(&self.key, input)
     }
 
+    // Promise P95, also here; clauses: ensures
     /// The first 16 bytes of the function under the key at a number, which is written high byte first.
     pub fn front_at(&self, keyed: &K, number: u64) -> [u8; 16]
         ensures { result ≡ take 16 (K.prf self.now (to_be_bytes w64 number)) }

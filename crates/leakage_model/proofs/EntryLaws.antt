@@ -14,8 +14,8 @@ use Rattle.client_registry.proofs.Positions.{position-cons, position-map}
 use Rattle.client_registry.proofs.SeenWords.{front_more, length_front}
 use Rattle.client_registry.specs.WordBytes.{word_bytes}
 use Rattle.client_registry.specs.declared.word.Word.{Word}
-use Rattle.sse_leakage.specs.Firsts.{place_of}
-use Rattle.leakage_model.specs.Following.{ChangesAt, ChangesEach, facts_in}
+use Rattle.def_leakage.specs.Firsts.{place_of}
+use Rattle.leakage_model.specs.TrailFacts.{ChangesAt, ChangesEach, facts_in}
 use Rattle.leakage_model.specs.WordFacts.{WordFacts, unnamed}
 
 -- the entry of a word is set

@@ -16,12 +16,12 @@ use Rattle.client_registry.specs.Setup.{Setup, setup_of}
 use Rattle.client_registry.specs.Sized.{is_accepted}
 use Rattle.client_registry.specs.WordBytes.{word_bytes}
 use Rattle.client_registry.specs.declared.word.Word.{Word}
-use Rattle.sse_leakage.specs.Firsts.{first_search}
-use Rattle.sse_leakage.specs.Leaking.{home, leak_by, seen_by, sent_at, word_added, word_deleted}
+use Rattle.def_leakage.specs.Firsts.{first_search}
+use Rattle.def_leakage.specs.CommandLeaks.{home, leak_by, seen_by, sent_at, word_added, word_deleted}
 use Rattle.sse_simulator.specs.Leaks.{NewEntry, SearchLeak}
 use Rattle.two_level.specs.Shape.{Shape}
 use Rattle.leakage_model.proofs.PairLaws.{found-listed_leaks, lists-listed_leaks, number-listed_leaks}
-use Rattle.leakage_model.specs.Following.{facts_in}
+use Rattle.leakage_model.specs.TrailFacts.{facts_in}
 use Rattle.leakage_model.specs.WordFacts.{WordFacts, added_leak, deleted_leak, listed_leaks, search_leak, unnamed, word_facts}
 
 -- what is found of a word is what the entries tell of it

@@ -9,7 +9,7 @@ use Rattle.indexmap.specs.IndexMap.{insert_entry, set_value_at}
 use Rattle.client_registry.proofs.Positions.{position-cons}
 use Rattle.client_registry.specs.IdNumber.{id_number}
 use Rattle.client_registry.specs.declared.doc_id.DocId.{DocId}
-use Rattle.simulated_frames.specs.Views.{origin_view}
+use Rattle.leakage_frames.specs.Views.{origin_view}
 use Rattle.sse_simulator.specs.Leaks.{ListedLeak, Origin}
 use Rattle.leakage_model.specs.Pairs.{pair_view, pairs_in}
 use Rattle.leakage_model.specs.WordFacts.{lists, number_among, sent_among, sent_pair}

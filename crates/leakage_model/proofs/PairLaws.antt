@@ -17,10 +17,10 @@ use Rattle.client_registry.specs.Live.{holds_pair, adds_pair, is_listed, is_live
 use Rattle.client_registry.specs.Over.{over}
 use Rattle.client_registry.specs.Run.{at_first}
 use Rattle.client_registry.specs.Setup.{Setup}
-use Rattle.sse_leakage.proofs.ListedPairs.{ids, ids-listed_pairs}
-use Rattle.sse_leakage.proofs.Places.{earliest-push}
-use Rattle.sse_leakage.specs.Firsts.{origin, number_origin, place_where, update_words}
-use Rattle.sse_leakage.specs.Leaking.{listed_by, listed_in_setup, listed_pairs, pair_leak}
+use Rattle.def_leakage.proofs.ListedPairs.{ids, ids-listed_pairs}
+use Rattle.def_leakage.proofs.Places.{earliest-push}
+use Rattle.def_leakage.specs.Firsts.{origin, number_origin, place_where, update_words}
+use Rattle.def_leakage.specs.CommandLeaks.{listed_by, listed_in_setup, listed_pairs, pair_leak}
 use Rattle.sse_model.specs.Drawn.{sends_number}
 use Rattle.sse_simulator.specs.Leaks.{ListedLeak, Origin}
 use Rattle.leakage_model.specs.WordFacts.{listed_leaks, lists, number_among}

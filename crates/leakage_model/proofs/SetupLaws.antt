@@ -17,8 +17,8 @@ use Rattle.client_registry.specs.Documents.{has_word, ids_with}
 use Rattle.client_registry.specs.Live.{holds_pair}
 use Rattle.client_registry.specs.Run.{at_first}
 use Rattle.client_registry.specs.Setup.{Setup, setup_list, setup_words}
-use Rattle.sse_leakage.specs.Firsts.{origin, place_of}
-use Rattle.sse_leakage.specs.Leaking.{home, listed_in_setup, pair_leak}
+use Rattle.def_leakage.specs.Firsts.{origin, place_of}
+use Rattle.def_leakage.specs.CommandLeaks.{home, listed_in_setup, pair_leak}
 use Rattle.sse_model.specs.Positions.{word_blocks}
 use Rattle.sse_simulator.specs.Leaks.{Home, ListedLeak}
 use Rattle.leakage_model.specs.WordFacts.{WordFacts, listed_leaks, lists, new_pair, placed_at, sent_among, set_up_with, unnamed, word_facts}

@@ -13,9 +13,9 @@ use Rattle.client_registry.specs.Documents.{has_word}
 use Rattle.client_registry.specs.Live.{after, live, holds_pair, is_listed, is_live_with}
 use Rattle.client_registry.specs.Run.{at_first}
 use Rattle.client_registry.specs.Setup.{Setup}
-use Rattle.sse_leakage.proofs.Places.{earliest-push}
-use Rattle.sse_leakage.specs.Firsts.{origin, earliest, first_search, number_origin, place_of, place_where, searched_at, update_words}
-use Rattle.sse_leakage.specs.Leaking.{home, listed_by, listed_pairs}
+use Rattle.def_leakage.proofs.Places.{earliest-push}
+use Rattle.def_leakage.specs.Firsts.{origin, earliest, first_search, number_origin, place_of, place_where, searched_at, update_words}
+use Rattle.def_leakage.specs.CommandLeaks.{home, listed_by, listed_pairs}
 use Rattle.sse_model.specs.Drawn.{sends_number}
 use Rattle.sse_model.specs.Wire.{words_live}
 use Rattle.sse_simulator.specs.Leaks.{ListedLeak, Origin}

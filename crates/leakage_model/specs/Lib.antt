@@ -2,4 +2,4 @@ pub mod WordFacts
 pub mod Pairs
 pub mod PairsView
 pub mod WordView
-pub mod Following
+pub mod TrailFacts

@@ -1,9 +1,9 @@
--- What a pair of the table of a word is.
+-- The meaning of a pair in a word's table.
 use Rattle.std.specs.Prelude.{ℕ, ◌-◌, List, [], ◌∷◌, map, option_map}
 use Rattle.std.specs.List.{range_with_len}
 use Rattle.client_registry.specs.IdNumber.{id_number}
 use Rattle.client_registry.specs.declared.doc_id.DocId.{DocId}
-use Rattle.simulated_frames.specs.Views.{origin_view}
+use Rattle.leakage_frames.specs.Views.{origin_view}
 use Rattle.sse_simulator.specs.Leaks.{Home, ListedLeak}
 use Rattle.leakage_model.specs.declared.pair.Pair.{Pair}
 use Rattle.leakage_model.specs.declared.pair.HomeAt.{HomeAt}

@@ -1,4 +1,4 @@
--- What the fields of the pairs of a word stand for, and which of them are found by halving.
+-- The meaning of the fields of a word's pairs, and which of them are found by halving.
 use Rattle.std.specs.Prelude.{◌≡◌, ◌-◌, ◌<◌, ℕ, ◌++◌, List, true, false, length, nat_eq, slice_index}
 use Rattle.std.specs.List.{list_any}
 use Rattle.std.specs.List.Sorted.{IsStrictlyIncreasing}

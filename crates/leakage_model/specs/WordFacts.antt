@@ -1,12 +1,12 @@
--- What a server can know of a word: what a search of it shows, and how an update or a search changes it.
+-- A server's knowledge of a word: the leakage of its search, and the effect of an update or a search on it.
 use Rattle.std.specs.Prelude.{ℕ, Bool, true, false, ◌==◌, List, [], ◌∷◌, ◌++◌, length, map, filter, find, not, Option, None, Some, if◌then◌else◌}
 use Rattle.std.specs.List.{list_any}
 use Rattle.std.specs.Option.{option_or, option_and_then}
 use Rattle.client_registry.specs.Command.{Command}
 use Rattle.client_registry.specs.Run.{at_first}
 use Rattle.client_registry.specs.Setup.{Setup}
-use Rattle.sse_leakage.specs.Firsts.{first_search, origin}
-use Rattle.sse_leakage.specs.Leaking.{home, listed_pairs, pair_leak, sent_at, seen_by}
+use Rattle.def_leakage.specs.Firsts.{first_search, origin}
+use Rattle.def_leakage.specs.CommandLeaks.{home, listed_pairs, pair_leak, sent_at, seen_by}
 use Rattle.sse_simulator.specs.Leaks.{Home, Leak, SearchLeak, ListedLeak, NewEntry, Origin, WordLeak}
 
 pub record WordFacts : Type 0 where

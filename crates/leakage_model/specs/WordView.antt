@@ -1,4 +1,4 @@
--- What the fields of the trail of a word stand for.
+-- The meaning of the fields of the trail of a word.
 use Rattle.std.specs.Prelude.{option_map}
 use Rattle.leakage_model.specs.Pairs.{home_view}
 use Rattle.leakage_model.specs.WordFacts.{WordFacts}

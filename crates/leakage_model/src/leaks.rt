@@ -1,23 +1,25 @@
-ghost use Rattle.std.specs.Prelude.{◌≡◌, ◌+◌, ◌<◌, ◌^◌, ℕ, All, IfOk, List, None, length, map};
+ghost use Rattle.std.specs.Prelude.{◌≡◌, ◌+◌, ◌<◌, ◌^◌, ◌++◌, ◌∷◌, [], ℕ, All, IfOk, List, None, OnOk, length, map, true};
 ghost use Rattle.client_registry.specs.Acceptance.{size_refusal};
 ghost use Rattle.client_registry.specs.Command.{Command as Meant, Delete as deletes, Search as searches};
 ghost use Rattle.client_registry.specs.IdNumber.{id_number};
 ghost use Rattle.client_registry.specs.Numbered.{words_by_number};
-ghost use Rattle.client_registry.specs.Registered.{known_words};
+ghost use Rattle.client_registry.specs.Over.{over};
+ghost use Rattle.client_registry.specs.Registered.{facts, known_words};
 ghost use Rattle.client_registry.specs.Run.{at_first};
 ghost use Rattle.client_registry.specs.Setup.{Setup};
 ghost use Rattle.client_registry.specs.WordBytes.{word_bytes};
-ghost use Rattle.command_history.specs.Commands.{command_of};
-ghost use Rattle.leakage_model.specs.Following.{Follows};
-ghost use Rattle.simulated_frames.specs.Views.{leak_view, word_view};
-ghost use Rattle.sse_leakage.specs.Leaking as leakage;
+ghost use Rattle.leakage_history.specs.Commands.{command_of};
+ghost use Rattle.leakage_history.specs.Refusal.{is_accepted_by};
+ghost use Rattle.leakage_model.specs.TrailFacts.{Follows};
+ghost use Rattle.leakage_frames.specs.Views.{leak_view, word_view};
+ghost use Rattle.def_leakage.specs.CommandLeaks as leakage;
 ghost use Rattle.sse_simulator.specs.Leaks.{DeleteLeak};
 
 use crate::setup_size::size_of_setup;
 use crate::trail::Trail;
 use client_registry::{DocId, Word};
-use command_history::{Command, History};
-use simulated_frames::{Leak, WordLeak};
+use leakage_frames::{Leak, WordLeak};
+use leakage_history::{Command, History};
 use sse_frames::Items;
 use std::alloc::{AllocError, Global};
 
@@ -36,6 +38,7 @@ fn setup_leak(history: &History) -> Leak
 }
 
 impl Trail {
+    // Promise P43, also here; clauses: ensures
     /// What the next command would leak.
     pub fn leak(&self, alloc: Global, command: &Command) -> Result<Leak, AllocError>
         ensures { (s : Setup) (past : List Meant) → Follows self.now s past → IfOk result (λ leak. leak_view leak ≡ leakage.leak_by at_first s past (command_of command.now)) }
@@ -113,6 +116,59 @@ impl Trail {
     }
 }
 
+/// Appends what a command leaks, and takes the command.
+fn leak_next(
+    alloc: Global,
+    leaks: &mut Items<Leak>,
+    trail: &mut Trail,
+    command: &Command,
+) -> Result<(), AllocError>
+    requires accepted { is_accepted_by (facts trail.old.registry) (command_of command.now) ≡ true }
+    requires numbered { trail.old.next + 1 < 2 ^ 32 }
+    ensures leaked { OnOk result ((s : Setup) (past : List Meant) → Follows trail.old s past → map leak_view leaks.new ≡ map leak_view leaks.old ++ leakage.leak_by at_first s past (command_of command.now) ∷ []) }
+    ensures follows { OnOk result ((s : Setup) (past : List Meant) → Follows trail.old s past → Follows trail.new s (past ++ command_of command.now ∷ [])) }
+{
+    let leak = trail.leak(alloc, command)?;
+    leaks.push(leak)?;
+    trail.take(command)?;
+    Ok(())
+}
+
+/// Appends what each command after the setup leaks. The trail is that of the setup alone.
+fn leak_commands(
+    alloc: Global,
+    history: &History,
+    leaks: &mut Items<Leak>,
+    trail: &mut Trail,
+) -> Result<(), AllocError>
+    requires begun { Follows trail.old history.now.setup [] }
+    requires numbered { length history.now.later + 1 < 2 ^ 32 }
+    ensures { OnOk result (map leak_view leaks.new ≡ map leak_view leaks.old ++ over (leakage.leak_by at_first history.now.setup) [] history.now.later) }
+{
+    for command in history.commands() {
+        leak_next(alloc, leaks, trail, command)?;
+    }
+    Ok(())
+}
+
+/// Appends what the setup and each command after it leak.
+fn leak_into(alloc: Global, history: &History, leaks: &mut Items<Leak>) -> Result<(), AllocError>
+    requires sized { size_refusal history.now.setup ≡ None }
+    requires numbered { length history.now.later + 1 < 2 ^ 32 }
+    ensures { OnOk result (map leak_view leaks.new ≡ map leak_view leaks.old ++ leakage.leak at_first history.now) }
+{
+    leaks.push(setup_leak(history))?;
+    if history.commands().is_empty() {
+        return Ok(());
+    }
+    let mut trail = Trail::begin(alloc, history)?;
+    let leaked = leak_commands(alloc, history, leaks, &mut trail);
+    drop(trail);
+    leaked
+}
+
+// Promise P42 (caller): A program gets the leakage of each command of a history, by the definitions of docs/LEAKAGE.md; or memory runs out.
+//   clauses: ensures; assumes: accepted setup, countable history; checks: .ci/leakage; not: How long it takes.
 /// What each command of a history leaks, the setup first: the shape of the index and its counts; of each word of an update
 /// what is sent for it and whether it was searched before; of a search the first search of its word, where the setup holds it, and
 /// what is listed with it and found. The history's setup has an index, and its commands can be numbered in 32 bits. It takes time in
@@ -126,14 +182,11 @@ pub fn leak(alloc: Global, history: &History) -> Result<Items<Leak>, AllocError>
     ensures { IfOk result (λ leaks. map leak_view leaks ≡ leakage.leak at_first history.now) }
 {
     let mut leaks = Items::new(alloc);
-    leaks.push(setup_leak(history))?;
-    if history.commands().is_empty() {
-        return Ok(leaks);
+    match leak_into(alloc, history, &mut leaks) {
+        Ok(()) => Ok(leaks),
+        Err(error) => {
+            drop(leaks);
+            Err(error)
+        }
     }
-    let mut trail = Trail::begin(alloc, history)?;
-    for command in history.commands() {
-        leaks.push(trail.leak(alloc, command)?)?;
-        trail.take(command)?;
-    }
-    Ok(leaks)
 }

@@ -1,7 +1,11 @@
-//! What a history leaks, as a call: a program can tell, before anything is sent, what a server would learn of it. This
-//! crate depends on `command_history` for histories, on `sse_leakage` for what leaks, and on `simulated_frames` for the values
-//! that tell it. It goes once over the commands with a [`Trail`], a table by word of what a server can know of it. The theorem
-//! that callers use: [`leak`] is the leakage of the definitions, command by command. Nothing is sent or kept here.
+//! Computes what a history leaks, so that a program can tell before anything is sent what a server would learn. It
+//! depends on `leakage_history` for histories, on `def_leakage` for the definitions, and on `leakage_frames` for
+//! the items. One pass goes over the commands with a `Trail`, a table by word of what a search of it would show. As
+//! long as identifiers rise, an addition only writes at the end of its words' lists, so a history costs in proportion
+//! to its commands and pairs.
+//! Proved: `leak` is the leakage of the definitions, command by command, or it is out of memory.
+//! Not here: sending and keeping anything.
+//! Side: client.
 #![tactic(auto)]
 
 mod leaks;

@@ -1,9 +1,9 @@
 ghost use Rattle.std.specs.Prelude.{◌≡◌, ◌+◌, ◌<◌, ◌^◌, IfOk, Some, map, option_map};
 ghost use Rattle.std.specs.Option.{option_or};
 ghost use Rattle.leakage_model.specs.Pairs.{home_view as home_of};
-ghost use Rattle.simulated_frames.specs.Views.{home_view, origin_view};
+ghost use Rattle.leakage_frames.specs.Views.{home_view, origin_view};
 
-use simulated_frames::{Home, Origin};
+use leakage_frames::{Home, Origin};
 use sse_frames::Items;
 use std::alloc::{AllocError, Global};
 

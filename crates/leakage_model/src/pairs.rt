@@ -4,12 +4,12 @@ ghost use Rattle.std.specs.List.Sorted.{IsStrictlyIncreasing};
 ghost use Rattle.client_registry.specs.IdNumber.{id_number};
 ghost use Rattle.leakage_model.specs.Pairs.{pair_with, pairs_in};
 ghost use Rattle.leakage_model.specs.WordFacts.{listed_with, lists, number_among, sent_among};
-ghost use Rattle.simulated_frames.specs.Views.{listed_view, origin_view};
+ghost use Rattle.leakage_frames.specs.Views.{listed_view, origin_view};
 
 use crate::pair::Pair;
 use client_registry::{DocId, HashKeys};
 use indexmap::IndexMap;
-use simulated_frames::{ListedLeak, Origin};
+use leakage_frames::{ListedLeak, Origin};
 use sse_frames::Items;
 use std::alloc::{AllocError, Global};
 use std::marker::Model;

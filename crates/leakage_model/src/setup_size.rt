@@ -2,7 +2,7 @@ ghost use Rattle.std.specs.Prelude.{◌≡◌, None};
 ghost use Rattle.client_registry.specs.Acceptance.{blocks_of, padded_blocks, padded_words, size_refusal};
 
 use client_registry::{Size, size_of};
-use command_history::History;
+use leakage_history::History;
 
 /// The size of the index of a history's setup.
 pub(crate) fn size_of_setup(history: &History) -> Size

@@ -7,20 +7,20 @@ ghost use Rattle.client_registry.specs.Registered.{Represents, facts};
 ghost use Rattle.client_registry.specs.Run.{at_first};
 ghost use Rattle.client_registry.specs.Setup.{Setup};
 ghost use Rattle.client_registry.specs.WordBytes.{word_bytes};
-ghost use Rattle.command_history.specs.Commands.{command_of};
-ghost use Rattle.command_history.specs.Refusal.{is_accepted_by};
-ghost use Rattle.leakage_model.specs.Following.{Follows};
-ghost use Rattle.simulated_frames.specs.Views.{origin_view, word_view};
-ghost use Rattle.sse_leakage.specs.Firsts.{first_search, number_origin};
-ghost use Rattle.sse_leakage.specs.Leaking.{word_added, word_deleted};
+ghost use Rattle.leakage_history.specs.Commands.{command_of};
+ghost use Rattle.leakage_history.specs.Refusal.{is_accepted_by};
+ghost use Rattle.leakage_model.specs.TrailFacts.{Follows};
+ghost use Rattle.leakage_frames.specs.Views.{origin_view, word_view};
+ghost use Rattle.def_leakage.specs.Firsts.{first_search, number_origin};
+ghost use Rattle.def_leakage.specs.CommandLeaks.{word_added, word_deleted};
 
 use crate::setup_size::size_of_setup;
 use crate::trail_setup::{place_words, set_up_documents};
 use crate::trail_table::{Table, take};
 use client_registry::{DocId, Registry, Word};
-use command_history::{Command, History, register};
 use indexmap::IndexMap;
-use simulated_frames::{Origin, Sent, WordLeak};
+use leakage_frames::{Origin, Sent, WordLeak};
+use leakage_history::{Command, History, register};
 use std::alloc::{AllocError, Global};
 
 /// What a server can know after the commands of a history so far: of each word that one of them named its first search, where
@@ -34,6 +34,8 @@ pub struct Trail {
 }
 
 impl Trail {
+    // Promise P43 (caller): A trail gives, after the commands it took, a word's first search, its listed pairs, their numbers' origins, and a command's leakage.
+    //   clauses: ensures; assumes: earlier calls, kept limits; not: A trail after it ran out of memory.
     /// The trail of the setup of a history alone, which has an index.
     pub fn begin(alloc: Global, history: &History) -> Result<Trail, AllocError>
         requires { size_refusal history.now.setup ≡ None }
@@ -52,6 +54,7 @@ impl Trail {
         })
     }
 
+    // Promise P43, also here; clauses: ensures
     /// Takes the next command of the history. Error: where there is no memory; then the trail is of no use.
     pub fn take(&mut self, command: &Command) -> Result<(), AllocError>
         requires accepted { is_accepted_by (facts self.old.registry) (command_of command.now) ≡ true }
@@ -64,6 +67,7 @@ impl Trail {
         Ok(())
     }
 
+    // Promise P43, also here; clauses: ensures
     /// The first search of a word, where there was one.
     pub fn first_search(&self, word: &Word) -> Option<u32>
         ensures { (s : Setup) (past : List Meant) → Follows self.now s past → result ≡ first_search at_first past (word_bytes word.now) }
@@ -71,6 +75,7 @@ impl Trail {
         self.words.get(word)?.first_search()
     }
 
+    // Promise P43, also here; clauses: ensures
     /// Whether the pair of a word and an identifier was ever listed.
     pub fn is_listed(&self, word: &Word, id: DocId) -> bool
         ensures { (s : Setup) (past : List Meant) → Follows self.now s past → result ≡ is_listed s past (word_bytes word.now) (id_number id) }
@@ -81,6 +86,7 @@ impl Trail {
         }
     }
 
+    // Promise P43, also here; clauses: ensures
     /// Where the revocation number of a pair was first sent, where it was.
     pub fn number_origin(&self, word: &Word, id: DocId) -> Option<Origin>
         ensures { (s : Setup) (past : List Meant) → Follows self.now s past → option_map origin_view result ≡ number_origin at_first s past (word_bytes word.now) (id_number id) }
@@ -91,6 +97,7 @@ impl Trail {
         }
     }
 
+    // Promise P43, also here; clauses: ensures
     /// What the commands so far make live, list and count.
     pub fn registry(&self) -> &Registry
         ensures { (s : Setup) (past : List Meant) → Follows self.now s past → Represents result.now s past }

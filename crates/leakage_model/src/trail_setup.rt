@@ -6,7 +6,7 @@ ghost use Rattle.client_registry.specs.Documents.{IsCollected};
 ghost use Rattle.client_registry.specs.IdNumber.{id_number};
 ghost use Rattle.client_registry.specs.Setup.{setup_of};
 ghost use Rattle.client_registry.specs.WordBytes.{word_bytes};
-ghost use Rattle.leakage_model.specs.Following.{ChangesAt, ChangesEach, IsPlaced, Tells, facts_in};
+ghost use Rattle.leakage_model.specs.TrailFacts.{ChangesAt, ChangesEach, IsPlaced, Tells, facts_in};
 ghost use Rattle.leakage_model.specs.Pairs.{home_view};
 ghost use Rattle.leakage_model.specs.WordFacts.{placed_at, set_up_with};
 

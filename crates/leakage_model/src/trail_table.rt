@@ -9,17 +9,17 @@ ghost use Rattle.client_registry.specs.Live.{live};
 ghost use Rattle.client_registry.specs.Registered.{Represents, facts, known_words};
 ghost use Rattle.client_registry.specs.Setup.{Setup};
 ghost use Rattle.client_registry.specs.WordBytes.{word_bytes};
-ghost use Rattle.command_history.specs.Commands.{command_of};
-ghost use Rattle.leakage_model.specs.Following.{ChangesAt, ChangesEach, Tells, facts_in};
+ghost use Rattle.leakage_history.specs.Commands.{command_of};
+ghost use Rattle.leakage_model.specs.TrailFacts.{ChangesAt, ChangesEach, Tells, facts_in};
 ghost use Rattle.leakage_model.specs.WordFacts.{added_at, deleted_at, searched_by};
-ghost use Rattle.simulated_frames.specs.Views.{origin_view};
-ghost use Rattle.sse_leakage.specs.Firsts.{origin};
+ghost use Rattle.leakage_frames.specs.Views.{origin_view};
+ghost use Rattle.def_leakage.specs.Firsts.{origin};
 
 use crate::word_trail::WordTrail;
 use client_registry::{DocId, HashKeys, Registry, Word};
-use command_history::Command;
 use indexmap::IndexMap;
-use simulated_frames::Origin;
+use leakage_frames::Origin;
+use leakage_history::Command;
 use std::alloc::AllocError;
 
 /// What a server can know of each word that a command named, by the word.

@@ -2,13 +2,13 @@ ghost use Rattle.std.specs.Prelude.{◌≡◌, ◌+◌, ◌<◌, ◌≤◌, ◌^
 ghost use Rattle.client_registry.specs.IdNumber.{id_number};
 ghost use Rattle.leakage_model.specs.Pairs.{home_view as home_of};
 ghost use Rattle.leakage_model.specs.WordFacts.{added_at, added_leak, deleted_at, deleted_leak, lists, number_among, search_leak, searched_by, set_up_with, unnamed};
-ghost use Rattle.simulated_frames.specs.Views.{leak_view, origin_view, seen_view, sent_view, word_view};
-ghost use Rattle.sse_leakage.specs.Leaking.{sent_at, seen_by};
+ghost use Rattle.leakage_frames.specs.Views.{leak_view, origin_view, seen_view, sent_view, word_view};
+ghost use Rattle.def_leakage.specs.CommandLeaks.{sent_at, seen_by};
 
 use crate::pair::HomeAt;
 use crate::pairs::Pairs;
 use client_registry::{DocId, HashKeys};
-use simulated_frames::{Leak, Origin, Seen, Sent, WordLeak};
+use leakage_frames::{Leak, Origin, Seen, Sent, WordLeak};
 use std::alloc::{AllocError, Global};
 use std::marker::Model;
 

@@ -6,7 +6,7 @@ use Rattle.std.specs.List.{list_all, position_from}
 use Rattle.std.proofs.lemmas.Bool.{ne_eqb}
 use Rattle.std.proofs.lemmas.List.Elements.{All-head, All-tail}
 use Rattle.list_packing.specs.Parts.{filled}
-use Rattle.list_packing.specs.Leading.{leading, leading_count, first_hole_from, first_hole}
+use Rattle.list_packing.specs.LeadingNumbers.{leading, leading_count, first_hole_from, first_hole}
 
 -- ---- holes
 

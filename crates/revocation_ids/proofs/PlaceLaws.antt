@@ -48,6 +48,7 @@ module _ (r : Registered) (p : List ℕ → Bool) where
       by true e = ap (λ ws. word n ∷ ws) e
       by false e = e
 
+  -- Promise P64, also here
   -- and their positions, after these words
   pub positions_of_places : (front : List (List ℕ)) (numbers : List ℕ) (n : ℕ) → length front ≡ n
       → map (λ place. place.position) (filter (λ place. p (word_at r place)) (places_from n numbers))
@@ -77,11 +78,13 @@ module _ (r : Registered) (p : List ℕ → Bool) where
       by true e = ap (λ is. n ∷ is) e
       by false e = e
 
+-- Promise P64, also here
 -- the words of a split: those whose pair isn't listed, and those whose pair is
 pub fresh-words : (r : Registered) (id : ℕ) (numbers : List ℕ)
     → map (word_at r) (fresh_places r id numbers) ≡ filter (λ word. not ((facts r).listed word id)) (words_by_number (known_words r) numbers)
 fresh-words r id numbers = words_of_places r (λ word. not ((facts r).listed word id)) 0 numbers
 
+-- Promise P64, also here
 pub listed-words : (r : Registered) (id : ℕ) (numbers : List ℕ)
     → map (word_at r) (listed_places r id numbers) ≡ filter (λ word. (facts r).listed word id) (words_by_number (known_words r) numbers)
 listed-words r id numbers = words_of_places r (λ word. (facts r).listed word id) 0 numbers

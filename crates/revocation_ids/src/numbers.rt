@@ -3,13 +3,13 @@ ghost use Rattle.client_registry.specs.IdNumber.{id_number};
 ghost use Rattle.keyed_fn.specs.KeyedFn.{keyed_fn};
 ghost use Rattle.keyed_fn.specs.KeyFormulas.{revocation};
 ghost use Rattle.sse_frames.specs.Order.{by_bytes};
-ghost use Rattle.tag_order.specs.Tagged.{IsOrderOf, tagged_from};
+ghost use Rattle.client_tag_order.specs.Tagged.{IsOrderOf, tagged_from};
 
 use client_registry::DocId;
+use client_tag_order::{Tagged, by_tag};
 use keyed_fn::Keyed;
 use std::alloc::{AllocError, Global};
 use std::marker::Model;
-use tag_order::{Tagged, by_tag};
 use word_keys::RevocationKey;
 
 /// Revocation numbers, in the order in which their keys were given.
@@ -33,6 +33,8 @@ impl Numbers {
         Ok(Numbers { given })
     }
 
+    // Promise P65 (caller): Revocation numbers are those of the key formula, sorted by rising bytes, each with its position.
+    //   clauses: ok
     /// Appends an identifier's number under a word's key. Where there is no memory, nothing has changed.
     pub fn push<K: Keyed>(
         &mut self,
@@ -47,7 +49,8 @@ impl Numbers {
         Ok(())
     }
 
-    /// The numbers by rising bytes, as they are sent, each with its position here, from 0. `tag_order::first_clash` says which
+    // Promise P65, also here; clauses: order, numbers
+    /// The numbers by rising bytes, as they are sent, each with its position here, from 0. `client_tag_order::first_clash` says which
     /// two of them are equal, without memory.
     pub fn sorted(self) -> Result<Vec<Tagged>, AllocError>
         requires { length self ≤ 2 ^ 32 }

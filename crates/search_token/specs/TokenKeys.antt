@@ -1,4 +1,4 @@
--- What a contract sees of a search token: the five keys of a word that a server may know.
+-- A contract's view of a search token: the five keys of a word that a server may know.
 use Rattle.std.specs.Prelude.{ℕ, List, [], ◌++◌, take, drop, slice_index_or}
 use Rattle.keyed_fn.specs.KeyedFn.{KeyedFn}
 use Rattle.keyed_fn.specs.KeyFormulas.{part_key}

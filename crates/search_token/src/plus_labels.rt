@@ -35,6 +35,7 @@ impl<K: Keyed> PlusLabels<K> {
         }
     }
 
+    // Promise P96, also here; clauses: ensures
     /// The 16-byte label of the word's addition number `c`, from 0.
     pub fn label(&self, keyed: &K, c: u64) -> [u8; 16]
         ensures { result ≡ plus_label (keyed_fn K.prf K.pad) self.now c }

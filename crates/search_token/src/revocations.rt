@@ -35,6 +35,7 @@ impl<K: Keyed> Revocations<K> {
         }
     }
 
+    // Promise P96, also here; clauses: ensures
     /// The 16-byte revocation number of an identifier for the word.
     pub fn number(&self, keyed: &K, id: u64) -> [u8; 16]
         ensures { result ≡ revocation (keyed_fn K.prf K.pad) self.now id }

@@ -42,6 +42,8 @@ impl Model for Token {
 }
 
 impl Token {
+    // Promise P96 (caller): A token is five keys; its labels, numbers and opened texts are those that the key formulas give for them.
+    //   clauses: ensures; assumes: sizes in bounds; not: That the keys are those of a word (P97).
     /// Takes the keys of the parts 1 to 5, in this order.
     pub fn new(keys: [[u8; 32]; 5]) -> Token
         ensures { result ≡ keys_in_order keys }
@@ -62,6 +64,7 @@ impl Token {
         }
     }
 
+    // Promise P96, also here; clauses: ensures
     /// Reads the 160 bytes of a token: the five keys one after another.
     pub fn from_bytes(bytes: &[u8; 160]) -> Token
         ensures { result ≡ keys_of_bytes bytes.now }
@@ -75,6 +78,7 @@ impl Token {
         }
     }
 
+    // Promise P96, also here; clauses: ensures
     /// The 160 bytes of the token: the five keys one after another.
     pub fn to_bytes(&self) -> [u8; 160]
         ensures { result ≡ token_bytes self.now }
@@ -88,6 +92,7 @@ impl Token {
         bytes
     }
 
+    // Promise P96, also here; clauses: ensures
     /// The 16-byte label of the word's list.
     pub fn list_label<K: Keyed>(&self, keyed: &K) -> [u8; 16]
         ensures { result ≡ formula.list_label (keyed_fn K.prf K.pad) self.now.label_key }
@@ -95,6 +100,7 @@ impl Token {
         front_at(keyed, &self.label_key, 0)
     }
 
+    // Promise P96, also here; clauses: ensures
     /// The labels of the word's additions, prepared for many.
     pub fn plus_labels<K: Keyed>(&self, keyed: &K) -> PlusLabels<K>
         ensures { result ≡ self.now.plus_label_key }
@@ -102,6 +108,7 @@ impl Token {
         PlusLabels::new(keyed, &self.plus_label_key)
     }
 
+    // Promise P96, also here; clauses: ensures
     /// The word's revocation numbers, prepared for many.
     pub fn revocations<K: Keyed>(&self, keyed: &K) -> Revocations<K>
         ensures { result ≡ self.now.revocation_key }
@@ -109,6 +116,7 @@ impl Token {
         Revocations::new(keyed, &self.revocation_key)
     }
 
+    // Promise P96, also here; clauses: ensures
     /// The 16-byte label of the word's addition number `c`, from 0.
     pub fn plus_label<K: Keyed>(&self, keyed: &K, c: u64) -> [u8; 16]
         ensures { result ≡ formula.plus_label (keyed_fn K.prf K.pad) self.now.plus_label_key c }
@@ -116,6 +124,7 @@ impl Token {
         front_at(keyed, &self.plus_label_key, c)
     }
 
+    // Promise P96, also here; clauses: ensures
     /// The 16-byte revocation number of an identifier for the word.
     pub fn revocation<K: Keyed>(&self, keyed: &K, id: u64) -> [u8; 16]
         ensures { result ≡ formula.revocation (keyed_fn K.prf K.pad) self.now.revocation_key id }
@@ -123,6 +132,7 @@ impl Token {
         front_at(keyed, &self.revocation_key, id)
     }
 
+    // Promise P96, also here; clauses: ensures
     /// XORs the pad of the list's cell into the bytes, at most 2,048 of them: encrypts the cell, or
     /// decrypts it.
     pub fn open_cell<K: Keyed>(&self, keyed: &K, cell: &mut [u8])
@@ -132,6 +142,7 @@ impl Token {
         xor_pad(keyed, &self.pad_key, 0, cell);
     }
 
+    // Promise P96, also here; clauses: ensures
     /// XORs the pad of the list's block of this number, from 0, into the bytes, at most 2,048 of them.
     pub fn open_block<K: Keyed>(&self, keyed: &K, number: u32, block: &mut [u8])
         requires { length block.old ≤ 2048 }
@@ -140,6 +151,7 @@ impl Token {
         xor_pad(keyed, &self.pad_key, u64::from(number) + 1, block);
     }
 
+    // Promise P96, also here; clauses: ensures
     /// XORs the pad of the word's addition number `c`, from 0, into its 8 bytes.
     pub fn open_plus<K: Keyed>(&self, keyed: &K, c: u64, sealed: &mut [u8; 8])
         ensures { sealed.new ≡ xored sealed.old (formula.plus_pad (keyed_fn K.prf K.pad) self.now.plus_pad_key c) }

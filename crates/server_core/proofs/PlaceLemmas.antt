@@ -4,8 +4,8 @@ use Rattle.std.specs.Prelude.{option_and_then, slice_index, IfSome}
 use Rattle.std.proofs.Math.Seq.{drop-append-add}
 use Rattle.two_level.specs.Plan.{CellKind}
 use Rattle.two_level.specs.Opened.{numbers_of, leading, kind_of, joined}
-use Rattle.server_core.specs.Coming.{pointers_in, pointers_behind}
-use Rattle.server_core.specs.Opening.{IsRead}
+use Rattle.server_core.specs.SearchState.{pointers_in, pointers_behind}
+use Rattle.server_core.specs.OpenedStep.{IsRead}
 
 -- a cell's first byte and the bytes after it
 pub cell_parts : (clear : List ℕ) → 0 < length clear → clear ≡ slice_index clear 0 ∷ drop 1 clear

@@ -11,7 +11,7 @@ use Rattle.sse_frames.specs.Replies.{Next, Took, Number, Clash, Page, OutOfPlace
 use Rattle.search_token.specs.TokenKeys.{keys_of_bytes}
 use Rattle.server_core.specs.declared.stage.Stage.TheVariants.{Filling, Ready}
 use Rattle.server_core.specs.State.{ServerState, at_first}
-use Rattle.server_core.specs.Search.{listed, search_result}
+use Rattle.server_core.specs.Search.{cell_list, search_result}
 use Rattle.server_core.specs.Refusal.{clash}
 use Rattle.server_core.specs.Step.{step, taken}
 
@@ -104,19 +104,19 @@ clash_row = simp (map.gets)
 abbrev no_block : (number pointer : ℕ) → Option (List ℕ)
 no_block number pointer = None
 
-list_row : listed no_block (hex (codes "000000000000000007ffffffffffffffff")) ≡ Some (7 ∷ 18446744073709551615 ∷ [])
+list_row : cell_list no_block (hex (codes "000000000000000007ffffffffffffffff")) ≡ Some (7 ∷ 18446744073709551615 ∷ [])
 list_row = refl
 
-hole_row : listed no_block (hex (codes "0000000000000000000000000000000007")) ≡ None
+hole_row : cell_list no_block (hex (codes "0000000000000000000000000000000007")) ≡ None
 hole_row = refl
 
-kind_row : listed no_block (hex (codes "030000000000000007")) ≡ None
+kind_row : cell_list no_block (hex (codes "030000000000000007")) ≡ None
 kind_row = refl
 
-pointer_row : listed no_block (hex (codes "010000000000000001")) ≡ None
+pointer_row : cell_list no_block (hex (codes "010000000000000001")) ≡ None
 pointer_row = refl
 
-no_pointer_row : listed no_block (hex (codes "020000000000000000")) ≡ Some []
+no_pointer_row : cell_list no_block (hex (codes "020000000000000000")) ≡ Some []
 no_pointer_row = refl
 
 -- a list of two identifiers over cells of one and blocks of two: its cell points to a block of the array

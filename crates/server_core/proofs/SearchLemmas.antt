@@ -17,9 +17,9 @@ use Rattle.server_tables.specs.Contents.{Contents}
 use Rattle.server_core.specs.declared.spot.Spot.{Spot}
 use Rattle.server_core.specs.declared.spot.Spot.TheVariants.{Cell, Blocks, Added}
 use Rattle.two_level.specs.Plan.{CellKind, Identifiers, DataPointers, BlockPointers}
-use Rattle.two_level.specs.Opened.{numbers_of, leading, kind_of, joined, followed, opened, listed}
+use Rattle.two_level.specs.Opened.{numbers_of, leading, kind_of, joined, followed, opened, cell_list}
 use Rattle.server_core.specs.Search.{block_at, setup_ids, added_at, added_from}
-use Rattle.server_core.specs.Coming.{pointers_from, additions_from, ids_from, coming}
+use Rattle.server_core.specs.SearchState.{pointers_from, additions_from, ids_from, coming}
 
 -- Lists joined.
 
@@ -114,13 +114,13 @@ module _ (block : ℕ → ℕ → Option (List ℕ)) where
   AllFound-kind None ns = tt
   AllFound-kind (Some k) ns = AllFound-opened k ns
 
-  AllFound-listed : (clear : List ℕ) → AllFound (listed block clear)
-  AllFound-listed [] = tt
-  AllFound-listed (kind ∷ ns) = AllFound-kind (kind_of kind) (numbers_of ns)
+  AllFound-cell_list : (clear : List ℕ) → AllFound (cell_list block clear)
+  AllFound-cell_list [] = tt
+  AllFound-cell_list (kind ∷ ns) = AllFound-kind (kind_of kind) (numbers_of ns)
 
-AllFound-setup : (f : KeyedFn) (keys : TokenKeys) (array : List (List ℕ)) (cell : Option (List ℕ)) → AllFound (option_map_or (λ text. listed (block_at f keys array) (xored text (cell_pad f keys.pad_key (length text)))) cell (Some []))
+AllFound-setup : (f : KeyedFn) (keys : TokenKeys) (array : List (List ℕ)) (cell : Option (List ℕ)) → AllFound (option_map_or (λ text. cell_list (block_at f keys array) (xored text (cell_pad f keys.pad_key (length text)))) cell (Some []))
 AllFound-setup f keys array None = All-nil IsPositive
-AllFound-setup f keys array (Some text) = AllFound-listed (block_at f keys array) (xored text (cell_pad f keys.pad_key (length text)))
+AllFound-setup f keys array (Some text) = AllFound-cell_list (block_at f keys array) (xored text (cell_pad f keys.pad_key (length text)))
 
 AllFound-added_at : (f : KeyedFn) (keys : TokenKeys) (c : ℕ) (text later : Option (List ℕ)) → AllFound later → AllFound (added_at f keys c text later)
 AllFound-added_at f keys c None later h = All-nil IsPositive

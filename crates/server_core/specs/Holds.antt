@@ -1,4 +1,4 @@
--- What a server keeps true of its tables.
+-- The invariant of a server's tables.
 use Rattle.std.specs.Prelude.{◌≡◌, ℕ, ◌%◌, ◌^◌, ◌<◌, ◌≤◌, List, length, All}
 use Rattle.std.specs.Option.{ForSome}
 use Rattle.std.specs.FinMap as map

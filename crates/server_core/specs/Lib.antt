@@ -1,10 +1,10 @@
 pub mod Holds
-pub mod Opening
+pub mod OpenedStep
 pub mod Refusal
 pub mod Search
 pub mod State
 pub mod Step
 pub mod Views
-pub mod Coming
+pub mod SearchState
 pub mod Walk
 pub mod Texts

@@ -1,4 +1,4 @@
--- What a search gives: the word's list, then its additions, without what was deleted.
+-- The answer to a search: the word's list, then its additions, without the deleted ones.
 use Rattle.std.specs.Prelude.{ℕ, zero, suc, ◌+◌, Bool, not, List, [], ◌∷◌, ◌++◌, length, filter, Option, Some, None, if◌then◌else◌, ◌==◌, option_and_then}
 use Rattle.std.specs.Option.{option_map, option_map_or}
 use Rattle.std.specs.List.{slice_get}
@@ -6,7 +6,7 @@ use Rattle.std.specs.Int.{w64, from_be_bytes}
 use Rattle.std.specs.FinMap as map
 use Rattle.std.specs.FinSet as set
 use Rattle.two_level.specs.Opened.{numbers_of}
-pub use Rattle.two_level.specs.Opened.{listed}
+pub use Rattle.two_level.specs.Opened.{cell_list}
 use Rattle.search_token.specs.KeyedFn.{KeyedFn}
 use Rattle.search_token.specs.KeyFormulas.{list_label, cell_pad, block_pad, plus_label, plus_pad, revocation}
 use Rattle.search_token.specs.Xored.{xored}
@@ -23,7 +23,7 @@ block_at f keys array number (suc place) =
 -- the identifiers of setup: none where the word's label is missing
 abbrev pub setup_ids : KeyedFn → TokenKeys → (cell : List ℕ → Option (List ℕ)) → (array : List (List ℕ)) → Option (List ℕ)
 setup_ids f keys cell array =
-    option_map_or (λ text. listed (block_at f keys array) (xored text (cell_pad f keys.pad_key (length text)))) (cell (list_label f keys.label_key)) (Some [])
+    option_map_or (λ text. cell_list (block_at f keys array) (xored text (cell_pad f keys.pad_key (length text)))) (cell (list_label f keys.label_key)) (Some [])
 
 -- the identifier of an addition, before the later ones: none where its label is missing, and no list
 -- where it is 0

@@ -1,11 +1,11 @@
--- The server's step: what each frame makes of its state, and what it replies.
+-- The server's step: the new state after each frame, and its replies.
 use Rattle.std.specs.Prelude.{ℕ, ◌+◌, List, [], ◌∷◌, ◌++◌}
 use Rattle.std.specs.Option.{option_map_or}
 use Rattle.std.specs.FinMap as map
 use Rattle.std.specs.FinSet as set
 use Rattle.sse_frames.specs.Frames.{Entry, FrameText, Hello, SetupBegin, SetupDict, SetupArray, SetupEnd, AddFrame, DeleteFrame, SearchFrame}
 use Rattle.sse_frames.specs.Replies.{ReplyText, Next, Took, BadList}
-use Rattle.sse_frames.specs.Sending.{pages}
+use Rattle.sse_frames.specs.SentParts.{pages}
 use Rattle.search_token.specs.KeyedFn.{KeyedFn}
 use Rattle.search_token.specs.TokenKeys.{keys_of_bytes}
 use Rattle.server_core.specs.declared.stage.Stage.TheVariants.{Filling, Ready}

@@ -1,4 +1,4 @@
--- What is printed where a frame isn't taken and where a search gives no list.
+-- The text printed when a frame isn't taken or a search gives no list.
 use Rattle.std.specs.Prelude.{ℕ, List, ◌++◌, codes, decimal, ◌==◌, if◌then◌else◌}
 use Rattle.server_core.specs.declared.refuse.Refuse.{Refuse}
 use Rattle.server_core.specs.declared.refuse.Refuse.TheVariants as refusing

@@ -1,4 +1,4 @@
--- What a contract sees of the answers of the code, and of the memory that a frame needs.
+-- A contract's view of the answers of the code, and of the memory that a frame needs.
 use Rattle.std.specs.Prelude.{ℕ, List, [], ◌∷◌, ◌++◌, length, take}
 use Rattle.search_token.specs.KeyedFn.{KeyedFn}
 use Rattle.sse_frames.specs.Frames.{FrameText, Hello, SetupBegin, SetupDict, SetupArray, SetupEnd, AddFrame, DeleteFrame, SearchFrame}
@@ -10,7 +10,7 @@ use Rattle.server_core.specs.declared.refuse.Refuse.{Refuse}
 use Rattle.server_core.specs.declared.refuse.Refuse.TheVariants.{Number, OutOfPlace, Clash, NoMemory}
 use Rattle.server_core.specs.declared.answer.Answer.{Answer}
 use Rattle.server_core.specs.declared.answer.Answer.TheVariants as answers
-use Rattle.sse_frames.specs.Sending.{pages}
+use Rattle.sse_frames.specs.SentParts.{pages}
 use Rattle.server_core.specs.State.{ServerState}
 use Rattle.server_core.specs.Walk.{contents_of, rest_of, HasPage}
 use Rattle.server_tables.specs.Room as tables

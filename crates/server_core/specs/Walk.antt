@@ -5,7 +5,7 @@ use Rattle.search_token.specs.KeyedFn.{KeyedFn}
 use Rattle.server_tables.specs.Contents.{Contents}
 use Rattle.server_core.specs.declared.walk.Walk.{Walk}
 use Rattle.server_core.specs.State.{ServerState}
-use Rattle.server_core.specs.Coming.{coming, InRange}
+use Rattle.server_core.specs.SearchState.{coming, InRange}
 
 -- what a server holds in its tables
 abbrev pub contents_of : ServerState → Contents

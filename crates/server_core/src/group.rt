@@ -1,10 +1,10 @@
 ghost use Rattle.std.specs.Prelude.{◌≡◌, Option, ◌+◌, ◌*◌, ◌%◌, ◌<◌, ◌≤◌, true, false, length, take, drop, ℕ, List, OnOk, OnErr, IfOk, IfSome, MatchOption, Some, None, option_and_then};
 ghost use Rattle.keyed_fn.specs.KeyedFn.{keyed_fn};
-ghost use Rattle.two_level.specs.Opened.{numbers_of, leading, listed};
+ghost use Rattle.two_level.specs.Opened.{numbers_of, leading, cell_list};
 ghost use Rattle.server_core.specs.Holds.{IsCell, IsHeld, AreBlocks};
 ghost use Rattle.server_core.specs.Search.{block_at, setup_ids};
-ghost use Rattle.server_core.specs.Coming.{pointers_from, pointers_behind};
-ghost use Rattle.server_core.specs.Opening.{IsRead, IsOpened, IsGroup, HasNoCell};
+ghost use Rattle.server_core.specs.SearchState.{pointers_from, pointers_behind};
+ghost use Rattle.server_core.specs.OpenedStep.{IsRead, IsOpened, IsGroup, HasNoCell};
 ghost use Rattle.std.specs.FinMap as map;
 
 use crate::blocks::{LARGEST_BLOCK, NoList, open_block};
@@ -102,7 +102,7 @@ fn read_opened(clear: &[u8], out: &mut [u64; MOST]) -> Result<Opened, NoList>
     requires { IsCell clear.now }
     ensures read { IfOk result (λ opened. IsRead clear.now opened.kind (take opened.count out.new)) }
     ensures few { IfOk result (λ opened. opened.count ≤ 64) }
-    ensures no_ids { OnErr result ((block : ℕ → ℕ → Option (List ℕ)) → listed block clear.now ≡ None) }
+    ensures no_ids { OnErr result ((block : ℕ → ℕ → Option (List ℕ)) → cell_list block clear.now ≡ None) }
     ensures no_pointers { OnErr result ((block : ℕ → ℕ → Option (List ℕ)) (top : ℕ) → pointers_behind block clear.now top ≡ None) }
 {
     let kind = clear[0];

@@ -5,7 +5,7 @@ ghost use Rattle.keyed_fn.specs.KeyFormulas.{revocation};
 ghost use Rattle.two_level.specs.Opened.{joined};
 ghost use Rattle.server_core.specs.Holds.{IsHeld};
 ghost use Rattle.server_core.specs.Search.{unrevoked};
-ghost use Rattle.server_core.specs.Coming.{ids_from, coming, InRange};
+ghost use Rattle.server_core.specs.SearchState.{ids_from, coming, InRange};
 
 use crate::blocks::NoList;
 use crate::group::{Group, MOST};

@@ -1,8 +1,8 @@
 ghost use Rattle.std.specs.Prelude.{◌≡◌, ◌≤◌, [], take, IfOk, OnErr, MatchOption, Some, None};
 ghost use Rattle.keyed_fn.specs.KeyedFn.{keyed_fn};
 ghost use Rattle.server_core.specs.Holds.{IsHeld};
-ghost use Rattle.server_core.specs.Coming.{ids_from, InRange};
-ghost use Rattle.server_core.specs.Opening.{IsKept, IsPlace};
+ghost use Rattle.server_core.specs.SearchState.{ids_from, InRange};
+ghost use Rattle.server_core.specs.OpenedStep.{IsKept, IsPlace};
 
 use crate::blocks::NoList;
 use crate::group::{Group, MOST, numbers_at, open_cell};

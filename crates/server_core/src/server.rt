@@ -12,11 +12,11 @@ ghost use Rattle.server_core.specs.Walk.{IsWalk, contents_of, rest_of};
 ghost use Rattle.server_core.specs.Step.{taken, answers, step};
 ghost use Rattle.server_core.specs.Views.{refuse_reply, cause_reply, answer_replies, HasBegun, HasRange, HasRoom, TakesMemory};
 
-use crate::adding::{add_all, first_added};
+use crate::additions::{add_all, first_added};
 use crate::cause::Cause;
 use crate::entries::{entry_count, item_count};
-use crate::filling::{first_known, push_blocks, put_all};
-use crate::revoking::{first_missing, first_revoked, restore_all, revoke_all};
+use crate::revoked_numbers::{first_missing, first_revoked, restore_all, revoke_all};
+use crate::setup_parts::{first_known, push_blocks, put_all};
 use crate::walk::{first_page, next_page};
 use crate::{Answer, First, Refuse, Stage, Walk, WalkFault};
 use keyed_fn::Keyed;
@@ -155,6 +155,8 @@ impl<T: Tables> Server<T> {
         }
     }
 
+    // Promise P91 (caller): A search yields, page by page and without memory, the list its look-ups give, or says first that there is none.
+    //   clauses: first, walk, bad_list, out_of_place, full, room, ids; assumes: earlier calls; not: That the list is the right one: P149 says it for a history that was sent.
     /// Opens the whole way of a search, and hands out what it gives first, as many identifiers as fit the page: those of
     /// setup, in its order, then those added, in the order in which they came, without the deleted ones. The walk goes on
     /// after them. Over a page of no identifiers it only begins.
@@ -185,6 +187,7 @@ impl<T: Tables> Server<T> {
         }
     }
 
+    // Promise P91, also here; clauses: handed, walk, full, room, ids
     /// Hands out what a walk gives next, as many identifiers as fit the page. The server is as it was when the walk began.
     /// Takes no memory.
     pub fn fill<K: Keyed>(&self, keyed: &K, walk: &mut Walk, page: &mut [u64]) -> usize
@@ -200,6 +203,9 @@ impl<T: Tables> Server<T> {
         next_page(&self.tables, keyed, walk, page)
     }
 
+    // Promise P88 (caller): The server takes a frame exactly as its step says, or is out of memory and unchanged.
+    //   clauses: state, replies, begun, no_memory, memory_last; assumes: sizes in bounds; not: How long it takes. Out of memory comes only for an update frame that nothing else refuses;
+    //     a search takes no memory.
     /// The answer to a frame: the server's step, by `prepare` and `apply`, `walk` or `next`. After `Found` the page begins
     /// with what the search gives first.
     ///

@@ -1,7 +1,7 @@
 ghost use Rattle.std.specs.Prelude.{◌≡◌, ◌≤◌, ◌<◌, ◌++◌, false, length, take, IfOk, OnErr, Some, None};
 ghost use Rattle.keyed_fn.specs.KeyedFn.{keyed_fn};
 ghost use Rattle.server_core.specs.Holds.{IsHeld};
-ghost use Rattle.server_core.specs.Coming.{coming};
+ghost use Rattle.server_core.specs.SearchState.{coming};
 ghost use Rattle.server_core.specs.Walk.{IsWalk, rest_of};
 
 use crate::blocks::NoList;

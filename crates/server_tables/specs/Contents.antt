@@ -1,4 +1,4 @@
--- What tables hold, as a value.
+-- The contents of tables, as a value.
 use Rattle.std.specs.Prelude.{ℕ, List, [], refl}
 use Rattle.std.specs.Ordering.{nat_cmp}
 use Rattle.std.specs.Cmp.Lexicographic.{slice_cmp}

@@ -1,4 +1,4 @@
--- Pieces of bytes that lie one after the other, each at its place, and what labels stand for behind their places.
+-- Pieces of bytes one after another, each at its place, and the pieces that labels stand for.
 use Rattle.std.specs.Prelude.{◌≡◌, ℕ, ◌≤◌, List, map, length, slice_range, All}
 use Rattle.std.specs.Option.{ForSome}
 use Rattle.std.specs.FinMap as finmap

@@ -1,4 +1,4 @@
--- The map of slots that stand by rising label, and what a place among them is to a label.
+-- The map of slots sorted by rising label, and the relation of a place among them to a label.
 use Rattle.std.specs.Prelude.{◌≡◌, ℕ, ◌<◌, ◌≤◌, List, map, length, insert, remove, slice_index_or, Some, None, IsTrue}
 use Rattle.std.specs.Ordering.{nat_cmp}
 use Rattle.std.specs.Cmp.Lexicographic.{slice_cmp}

@@ -1,4 +1,4 @@
--- What a contract sees of tables.
+-- A contract's view of tables.
 use Rattle.std.specs.Prelude.{refl}
 use Rattle.std.specs.Coded.{Coded, code_by, coded×}
 use Rattle.server_tables.specs.Contents.{Contents, contents_code}

@@ -1,4 +1,4 @@
--- What is printed where the tables don't take what is put in.
+-- The text printed when the tables refuse an entry.
 use Rattle.std.specs.Prelude.{ℕ, List, codes}
 use Rattle.server_tables.specs.declared.table_fault.TableFault.{TableFault}
 use Rattle.server_tables.specs.declared.table_fault.TableFault.TheVariants.{Taken, NoMemory}

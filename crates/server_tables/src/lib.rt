@@ -1,6 +1,11 @@
-//! What a server keeps: encrypted cells by their labels, encrypted blocks in a list, additions by their labels, and
-//! the numbers of what was deleted. `Tables` is seen as these four, two maps, a list and a set, and beside them the
-//! room for which memory was taken; within it no call fails. Nothing here knows how a cell is made or what opens it.
+//! What a server keeps: encrypted cells by label, encrypted blocks in a list, additions by label, and the revocation
+//! numbers of deleted pairs. A contract sees `Tables` as two maps, a list and a set, so a representation can change
+//! without touching the crates above; one is sorted, one has buckets. The buckets are std's hash table, which hashes
+//! all 16 bytes of a label: with labels of one prefix, buckets of our own were 500 times slower. The crate depends
+//! only on std, and doesn't know how a cell is made or decrypted.
+//! Proved: `Tables` are two maps, a list and a set; a call for which memory was reserved can't fail; a label that is
+//! already taken is reported before out of memory.
+//! Side: server.
 
 #![tactic(auto)]
 

@@ -20,14 +20,20 @@ pub trait Tables: Drop {
     /// For how much more there is memory.
     ghost room: { Self → Room };
 
+    // Promise P89, also here; clauses: ensures
     /// How many cells there are.
     fn entry_len(&self) -> usize
         ensures { result ≡ map.len (contents self.now).dictionary };
 
+    // Promise P89, also here; clauses: ensures
     /// The cell of a label, where it lies.
     fn entry(&self, label: &[u8; 16]) -> Option<&[u8]>
         ensures { option_copied result ≡ map.get (contents self.now).dictionary label.now };
 
+    // Promise P89 (caller): The server's tables are two maps, a list and a set; each call changes exactly its own entry and refuses exactly duplicates.
+    //   clauses: ok, err, taken; not: That they are fast, which is tested; the order of labels in a hash table. Taking out a number is refused exactly when it isn't there.
+    // Promise P90 (caller): After a reserve, the calls it was asked for succeed without memory.
+    //   clauses: has_room, spent, not_spent
     /// Adds a label with its cell.
     ///
     /// Errors: `Taken` where the label is there, else `NoMemory` where there is no memory.
@@ -39,14 +45,18 @@ pub trait Tables: Drop {
         ensures spent { OnOk result (Spends (room self.old) (room self.new) (of_entry (length cell.now))) }
         ensures not_spent { OnErr result (Spends (room self.old) (room self.new) no_room) };
 
+    // Promise P89, also here; clauses: ensures
     /// How many blocks there are.
     fn block_len(&self) -> usize
         ensures { result ≡ length (contents self.now).array };
 
+    // Promise P89, also here; clauses: ensures
     /// The block at a place, which counts from 0.
     fn block(&self, place: u32) -> Option<&[u8]>
         ensures { option_copied result ≡ slice_get (contents self.now).array place };
 
+    // Promise P89, also here; clauses: ok, err
+    // Promise P90, also here; clauses: has_room, spent, not_spent
     /// Adds a block after the others.
     ///
     /// Errors: where there is no memory.
@@ -57,14 +67,18 @@ pub trait Tables: Drop {
         ensures spent { OnOk result (Spends (room self.old) (room self.new) (of_block (length block.now))) }
         ensures not_spent { OnErr result (Spends (room self.old) (room self.new) no_room) };
 
+    // Promise P89, also here; clauses: ensures
     /// How many additions there are.
     fn plus_len(&self) -> usize
         ensures { result ≡ map.len (contents self.now).additions };
 
+    // Promise P89, also here; clauses: ensures
     /// The encrypted identifier of an addition's label.
     fn plus(&self, label: &[u8; 16]) -> Option<[u8; 8]>
         ensures { result ≡ map.get (contents self.now).additions label.now };
 
+    // Promise P89, also here; clauses: ok, err, taken
+    // Promise P90, also here; clauses: has_room, spent, not_spent
     /// Adds an addition's label with its encrypted identifier.
     ///
     /// Errors: `Taken` where the label is there, else `NoMemory` where there is no memory.
@@ -76,14 +90,18 @@ pub trait Tables: Drop {
         ensures spent { OnOk result (Spends (room self.old) (room self.new) of_addition) }
         ensures not_spent { OnErr result (Spends (room self.old) (room self.new) no_room) };
 
+    // Promise P89, also here; clauses: ensures
     /// Whether a revocation number is there.
     fn is_revoked(&self, number: &[u8; 16]) -> bool
         ensures { result ≡ set.contains (contents self.now).revoked number.now };
 
+    // Promise P89, also here; clauses: ensures
     /// Whether no revocation number is there.
     fn revokes_none(&self) -> bool
         ensures { (result ≡ true) ↔ ((contents self.now).revoked ≡ set.empty) };
 
+    // Promise P89, also here; clauses: ok, err, taken
+    // Promise P90, also here; clauses: has_room, spent, not_spent
     /// Adds a revocation number.
     ///
     /// Errors: `Taken` where it is there, else `NoMemory` where there is no memory.
@@ -95,6 +113,8 @@ pub trait Tables: Drop {
         ensures spent { OnOk result (Spends (room self.old) (room self.new) of_number) }
         ensures not_spent { OnErr result (Spends (room self.old) (room self.new) no_room) };
 
+    // Promise P89, also here; clauses: ok, err, there
+    // Promise P90, also here; clauses: not_spent
     /// Removes a revocation number. Takes no memory.
     ///
     /// Errors: where it isn't there.
@@ -104,6 +124,7 @@ pub trait Tables: Drop {
         ensures there { IsOk result ↔ IsTrue (set.contains (contents self.old).revoked number.now) }
         ensures not_spent { Spends (room self.old) (room self.new) no_room };
 
+    // Promise P90, also here; clauses: kept, ok, has_room, not_spent
     /// Takes the memory for so many more of each: `entries` cells of `cell` bytes, `blocks` blocks of `block`
     /// bytes, `plus` additions and `revoked` numbers, as far as it isn't there yet. The contents stay.
     ///
@@ -122,6 +143,8 @@ pub trait Tables: Drop {
         ensures has_room { HasRoom (room self.old) (record { entries = pieces entries cell; blocks = pieces blocks block; additions = pieces plus 8; revoked = pieces revoked 16 }) → IsOk result }
         ensures not_spent { Spends (room self.old) (room self.new) no_room };
 
+    // Promise P89, also here; clauses: contents
+    // Promise P90, also here; clauses: not_spent
     /// Removes everything. Takes no memory, and keeps what was taken.
     fn clear(&mut self)
         ensures contents { contents self.new ≡ no_contents }

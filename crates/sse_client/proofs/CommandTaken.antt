@@ -26,35 +26,35 @@ use Rattle.sse_model.specs.Wire.{frames_of_setup}
 use Rattle.sse_script.specs.Shown as says
 use Rattle.sse_script.specs.declared.refusal.Refusal.{Refusal}
 use Rattle.sse_script.specs.declared.refusal.Refusal.TheVariants as refusals
-use Rattle.line_documents.specs.LineDocument.{document}
-use Rattle.line_documents.specs.Refused.{bad_word, collect_refusal}
-use Rattle.line_documents.specs.LineFaults.{SaysRefusal}
-use Rattle.line_documents.specs.declared.line_fault.LineFault.{LineFault}
-use Rattle.line_documents.specs.declared.line_fault.LineFault.TheVariants as faults
-use Rattle.line_documents.proofs.Passed.{neither, word_passed}
-use Rattle.script_meaning.proofs.Going.{Adds-nothing, AreExchanged-none, Keeps-nothing}
-use Rattle.script_meaning.specs.Carries.{Keeps, keys_at, frames_by, records_by, collision_cause, clash_in_hand, IsSent, StopsIn}
+use Rattle.script_documents.specs.LineDocument.{document}
+use Rattle.script_documents.specs.Refused.{bad_word, collect_refusal}
+use Rattle.script_documents.specs.LineFaults.{SaysRefusal}
+use Rattle.script_documents.specs.declared.line_fault.LineFault.{LineFault}
+use Rattle.script_documents.specs.declared.line_fault.LineFault.TheVariants as faults
+use Rattle.script_documents.proofs.Passed.{neither, word_passed}
+use Rattle.def_script_meaning.proofs.GoneAsMeant.{Adds-nothing, AreExchanged-none, Keeps-nothing}
+use Rattle.def_script_meaning.specs.Carries.{Keeps, keys_at, frames_by, records_by, collision_cause, clash_in_hand, IsSent, StopsIn}
 use Rattle.sse_outside.specs.Kept.{Kept, with_refused}
-use Rattle.script_meaning.specs.Exchange.{Told, AreExchanged, AreCut}
-use Rattle.script_meaning.specs.Lines.{Line, Command, Request, Doc, SetupLine, Find}
-use Rattle.script_meaning.specs.Outcome.{Place, Outcome, Collects, Refuses, SetsUp, Does, unless, before_setup, after_setup, outcome, after}
-use Rattle.script_meaning.specs.Refused.{index_refusal, size_refused}
-use Rattle.script_meaning.specs.Stops.{At}
+use Rattle.def_script_meaning.specs.Exchange.{Told, AreExchanged, AreCut}
+use Rattle.def_script_meaning.specs.Lines.{Line, Command, Request, Doc, SetupLine, Find}
+use Rattle.def_script_meaning.specs.Outcome.{Place, Outcome, Collects, Refuses, SetsUp, Does, unless, before_setup, after_setup, outcome, after}
+use Rattle.def_script_meaning.specs.Refused.{index_refusal, size_refused}
+use Rattle.def_script_meaning.specs.Stops.{At}
 use Rattle.sse_client.specs.SetupFaults.{setup_answer}
 use Rattle.sse_client.specs.Stages.{key_of, hash_keys_of, hash_keys_under}
 use Rattle.sse_client.specs.Exchanges.{HasExchanged, HasSearched, HasCut}
-use Rattle.sse_client.specs.Keeping.{SendsKept}
-use Rattle.run_texts.specs.LineResultViews.{line_result_view, refuses}
+use Rattle.sse_client.specs.RecordKept.{SendsKept}
+use Rattle.script_run_texts.specs.LineResultViews.{line_result_view, refuses}
 use Rattle.sse_client.specs.Stands.{IsReady, IsStage, IsAt, Seen, seen, GoesOn, Takes, StopsWithin, outside_of}
-use Rattle.run_texts.specs.Stops.{command_cause, keep_cause, plan_cause}
-use Rattle.run_texts.specs.declared.line_result.LineResult.{LineResult}
-use Rattle.run_texts.specs.declared.line_result.LineResult.TheVariants as line_results
-use Rattle.run_texts.specs.declared.command_stop.CommandStop.{CommandStop}
-use Rattle.run_texts.specs.declared.command_stop.CommandStop.TheVariants as commands
+use Rattle.script_run_texts.specs.Stops.{command_cause, keep_cause, plan_cause}
+use Rattle.script_run_texts.specs.declared.line_result.LineResult.{LineResult}
+use Rattle.script_run_texts.specs.declared.line_result.LineResult.TheVariants as line_results
+use Rattle.script_run_texts.specs.declared.command_stop.CommandStop.{CommandStop}
+use Rattle.script_run_texts.specs.declared.command_stop.CommandStop.TheVariants as commands
 use Rattle.sse_outside.specs.declared.device_fault.DeviceFault.{DeviceFault}
 use Rattle.sse_outside.specs.declared.device_fault.DeviceFault.TheVariants as devices
-use Rattle.run_texts.specs.declared.plan_stop.PlanStop.{PlanStop}
-use Rattle.run_texts.specs.declared.plan_stop.PlanStop.TheVariants as plans
+use Rattle.script_run_texts.specs.declared.plan_stop.PlanStop.{PlanStop}
+use Rattle.script_run_texts.specs.declared.plan_stop.PlanStop.TheVariants as plans
 use Rattle.sse_client.specs.declared.session.Stage.{Stage}
 use Rattle.sse_client.specs.declared.session.Stage.TheVariants.{Collecting, Searching}
 use Rattle.sse_client.proofs.PlansOfUpdates.{StandsFor-search}

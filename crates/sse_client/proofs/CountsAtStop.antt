@@ -11,17 +11,17 @@ use Rattle.sse_outside.specs.declared.device_fault.DeviceFault.{DeviceFault}
 use Rattle.sse_outside.specs.declared.device_fault.DeviceFault.TheVariants as devices
 use Rattle.sse_link.specs.declared.link_fault.LinkFault.{LinkFault}
 use Rattle.sse_link.specs.declared.link_fault.LinkFault.TheVariants as links
-use Rattle.script_meaning.specs.Stops.{status_of, stop_text}
-use Rattle.run_texts.specs.Causes.{LinkCause, PeerCause, PrintCause, RecorderCause, SinkCause, SourceCause}
-use Rattle.run_texts.specs.Stops.{last_line, stop_of_sink, stop_status}
-use Rattle.run_texts.specs.declared.command_stop.CommandStop.TheVariants as commands
-use Rattle.run_texts.specs.declared.input_stop.InputStop.TheVariants as inputs
+use Rattle.def_script_meaning.specs.Stops.{status_of, stop_text}
+use Rattle.script_run_texts.specs.Causes.{LinkCause, PeerCause, PrintCause, RecorderCause, SinkCause, SourceCause}
+use Rattle.script_run_texts.specs.Stops.{last_line, stop_of_sink, stop_status}
+use Rattle.script_run_texts.specs.declared.command_stop.CommandStop.TheVariants as commands
+use Rattle.script_run_texts.specs.declared.input_stop.InputStop.TheVariants as inputs
 use Rattle.sse_client.specs.Stands.{stop_view}
 use Rattle.sse_client.specs.Stops.{stop_of_link}
-use Rattle.run_texts.specs.declared.peer_stop.PeerStop.{PeerStop}
-use Rattle.run_texts.specs.declared.peer_stop.PeerStop.TheVariants as peers
-use Rattle.run_texts.specs.declared.stop_cause.StopCause.{StopCause}
-use Rattle.run_texts.specs.declared.stop_cause.StopCause.TheVariants as stops
+use Rattle.script_run_texts.specs.declared.peer_stop.PeerStop.{PeerStop}
+use Rattle.script_run_texts.specs.declared.peer_stop.PeerStop.TheVariants as peers
+use Rattle.script_run_texts.specs.declared.stop_cause.StopCause.{StopCause}
+use Rattle.script_run_texts.specs.declared.stop_cause.StopCause.TheVariants as stops
 
 -- The report of a fault of the server's disk.
 

@@ -6,19 +6,19 @@ use Rattle.sse_outside.specs.declared.device_fault.DeviceFault.TheVariants as de
 use Rattle.client_journal.specs.Faults.{stop_of_records}
 use Rattle.client_journal.specs.declared.faults.RecordsFault.{RecordsFault}
 use Rattle.client_journal.specs.declared.faults.RecordsFault.TheVariants as records
-use Rattle.run_texts.specs.Causes.{KeepsRecorder, KeepsSink, KeepsSource, LinkCause, RecorderCause, SinkCause, SourceCause}
-use Rattle.run_texts.specs.Stops.{stop_status}
-use Rattle.run_texts.specs.declared.command_stop.CommandStop.TheVariants as commands
-use Rattle.run_texts.specs.declared.input_stop.InputStop.TheVariants as inputs
-use Rattle.run_texts.specs.declared.journal_stop.JournalStop.TheVariants as journals
-use Rattle.run_texts.specs.declared.peer_stop.PeerStop.TheVariants as peers
-use Rattle.run_texts.specs.declared.plan_stop.PlanStop.TheVariants as plans
-use Rattle.run_texts.specs.declared.stop_cause.StopCause.{StopCause}
-use Rattle.run_texts.specs.declared.stop_cause.StopCause.TheVariants as stops
-use Rattle.script_meaning.specs.Stops as ends
-use Rattle.script_meaning.specs.Stops.{status_of}
+use Rattle.script_run_texts.specs.Causes.{KeepsRecorder, KeepsSink, KeepsSource, LinkCause, RecorderCause, SinkCause, SourceCause}
+use Rattle.script_run_texts.specs.Stops.{stop_status}
+use Rattle.script_run_texts.specs.declared.command_stop.CommandStop.TheVariants as commands
+use Rattle.script_run_texts.specs.declared.input_stop.InputStop.TheVariants as inputs
+use Rattle.script_run_texts.specs.declared.journal_stop.JournalStop.TheVariants as journals
+use Rattle.script_run_texts.specs.declared.peer_stop.PeerStop.TheVariants as peers
+use Rattle.script_run_texts.specs.declared.plan_stop.PlanStop.TheVariants as plans
+use Rattle.script_run_texts.specs.declared.stop_cause.StopCause.{StopCause}
+use Rattle.script_run_texts.specs.declared.stop_cause.StopCause.TheVariants as stops
+use Rattle.def_script_meaning.specs.Stops as ends
+use Rattle.def_script_meaning.specs.Stops.{status_of}
 use Rattle.sse_client.specs.Devices.{TellsDevices}
-use Rattle.sse_client.specs.Keeping.{StaysWhole, WholeAtStop}
+use Rattle.sse_client.specs.RecordKept.{StaysWhole, WholeAtStop}
 use Rattle.sse_client.specs.OnDisk.{RecordsCause}
 use Rattle.sse_client.specs.Stands.{stop_view}
 use Rattle.sse_client.specs.Turns.{ending}

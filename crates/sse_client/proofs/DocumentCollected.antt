@@ -3,13 +3,13 @@ use Rattle.std.proofs.Common.{◌≡◌, List, [], ◌∷◌, ◌++◌}
 use Rattle.std.specs.Prelude.{Option, None, Result, Ok, Err, OnOk, OnErr, IfErr}
 use Rattle.client_registry.specs.Document.{Document}
 use Rattle.sse_script.specs.declared.refusal.Refusal.{Refusal}
-use Rattle.line_documents.specs.declared.line_fault.LineFault.{LineFault}
-use Rattle.line_documents.specs.declared.line_fault.LineFault.TheVariants as faults
-use Rattle.line_documents.specs.LineFaults.{SaysRefusal}
-use Rattle.run_texts.specs.declared.line_result.LineResult.{LineResult}
-use Rattle.run_texts.specs.declared.line_result.LineResult.TheVariants as line_results
-use Rattle.run_texts.specs.declared.plan_stop.PlanStop.{PlanStop}
-use Rattle.run_texts.specs.declared.plan_stop.PlanStop.TheVariants as plans
+use Rattle.script_documents.specs.declared.line_fault.LineFault.{LineFault}
+use Rattle.script_documents.specs.declared.line_fault.LineFault.TheVariants as faults
+use Rattle.script_documents.specs.LineFaults.{SaysRefusal}
+use Rattle.script_run_texts.specs.declared.line_result.LineResult.{LineResult}
+use Rattle.script_run_texts.specs.declared.line_result.LineResult.TheVariants as line_results
+use Rattle.script_run_texts.specs.declared.plan_stop.PlanStop.{PlanStop}
+use Rattle.script_run_texts.specs.declared.plan_stop.PlanStop.TheVariants as plans
 
 -- the outcome of a line without a line of its own, by what was done
 pub record IsAnswer {T : Type 0} (done : Result T LineFault) (answer : Result LineResult PlanStop) : Type 0 where

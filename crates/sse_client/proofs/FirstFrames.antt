@@ -2,19 +2,19 @@
 use Rattle.std.proofs.Common.{◌≡◌, ℕ, ◌+◌, false, inl, inr, List, [], ◌∷◌, ◌++◌, map, Option, None, Some, sym, ap, ◌∙◌, subst}
 use Rattle.client_registry.specs.Run.{Run}
 use Rattle.keyed_fn.specs.KeyedFn.{KeyedFn}
-use Rattle.link_events.specs.Events.{Event, Sent, Received, BeginsWithFrame}
-use Rattle.script_meaning.proofs.Going.{Adds-joined, Adds-nothing}
-use Rattle.script_meaning.proofs.Recorded.{kept_since}
-use Rattle.script_meaning.specs.Carries.{Outside}
-use Rattle.script_meaning.specs.Continues.{at_run}
-use Rattle.script_meaning.specs.Exchange.{Told, Adds, as_event, bare}
-use Rattle.script_meaning.specs.Greeting.{Greets, IsTurned, TurnsAway}
-use Rattle.script_meaning.specs.Lines.{Line, Empty, Key, Command, script_lines}
-use Rattle.script_meaning.specs.Outcome.{opened}
-use Rattle.script_meaning.specs.Runs.{Ended, Opens, StopsReading}
+use Rattle.def_link_events.specs.Events.{Event, Sent, Received, BeginsWithFrame}
+use Rattle.def_script_meaning.proofs.GoneAsMeant.{Adds-joined, Adds-nothing}
+use Rattle.def_script_meaning.proofs.Recorded.{kept_since}
+use Rattle.def_script_meaning.specs.Carries.{Outside}
+use Rattle.def_script_meaning.specs.Continues.{at_run}
+use Rattle.def_script_meaning.specs.Exchange.{Told, Adds, as_event, bare}
+use Rattle.def_script_meaning.specs.HelloExchange.{Greets, IsTurned, TurnsAway}
+use Rattle.def_script_meaning.specs.Lines.{Line, Empty, Key, Command, script_lines}
+use Rattle.def_script_meaning.specs.Outcome.{opened}
+use Rattle.def_script_meaning.specs.Runs.{Ended, Opens, StopsReading}
 use Rattle.sse_frames.specs.Exchange.{greeting}
 use Rattle.sse_script.specs.Shown.{Cause}
-use Rattle.sse_client.specs.GoingOn.{AtKeyLine, GoesOnFrom, GoesOnOver, HasResent, IsHeldUp}
+use Rattle.sse_client.specs.ResumedRun.{AtKeyLine, GoesOnFrom, GoesOnOver, HasResent, IsHeldUp}
 use Rattle.sse_client.specs.KeyLines.{KeyLine, Keyed, Missing, key_line}
 use Rattle.sse_client.specs.OnDisk.{HasGoneOn}
 use Rattle.sse_client.specs.Stands.{HasRun}

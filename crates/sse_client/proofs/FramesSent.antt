@@ -3,7 +3,7 @@ use Rattle.std.proofs.Common.{◌≡◌, ℕ, ◌+◌, List, [], ◌∷◌, ◌+
 use Rattle.std.specs.Prelude.{IsErrAnd}
 use Rattle.std.proofs.lemmas.List.{take_at, drop_at}
 use Rattle.std.proofs.Math.Seq.{take-append-add, drop-append-add}
-use Rattle.client_core.specs.Sending.{first_number, to_send}
+use Rattle.client_core.specs.TakenViews.{first_number, to_send}
 use Rattle.client_core.specs.declared.behind.Behind.{Behind}
 use Rattle.client_replies.specs.Faults.{IsFaultOf}
 use Rattle.client_replies.specs.declared.reply_fault.ReplyFault.{ReplyFault}
@@ -11,16 +11,16 @@ use Rattle.sse_frames.specs.Exchange.{ForTook}
 use Rattle.sse_frames.specs.Frames.{FrameText, frame_bytes, update_number}
 use Rattle.sse_frames.specs.Replies.{Took, reply_bytes}
 use Rattle.sse_script.specs.Shown.{Cause}
-use Rattle.script_meaning.proofs.Going.{Adds-joined, Adds-nothing, AreExchanged-both, AreExchanged-none}
-use Rattle.script_meaning.specs.Exchange.{Told, AreExchanged, IsCut}
+use Rattle.def_script_meaning.proofs.GoneAsMeant.{Adds-joined, Adds-nothing, AreExchanged-both, AreExchanged-none}
+use Rattle.def_script_meaning.specs.Exchange.{Told, AreExchanged, IsCut}
 use Rattle.sse_client.specs.Exchanges.{HasExchanged, HasCut}
 use Rattle.client_core.specs.Owes.{AreNumbered}
 use Rattle.sse_client.specs.Progress.{IsAnswered, IsUnanswered}
 use Rattle.sse_client.specs.Steps.{AreOwed, IsSending, StepsOver}
 use Rattle.sse_client.specs.Stops.{cause_of_fault}
-use Rattle.sse_client.specs.declared.sending.Step.{Step}
-use Rattle.run_texts.specs.Stops.{peer_cause}
-use Rattle.run_texts.specs.declared.peer_stop.PeerStop.{PeerStop}
+use Rattle.sse_client.specs.declared.frame_exchange.Step.{Step}
+use Rattle.script_run_texts.specs.Stops.{peer_cause}
+use Rattle.script_run_texts.specs.declared.peer_stop.PeerStop.{PeerStop}
 use Rattle.sse_client.proofs.PartOfExchange.{IsBegun, IsBegun-unanswered, IsBegun-answered, HasExchanged-answered, asked-update_number, update-behind_greeting, shows_to_update}
 use Rattle.sse_client.proofs.FramesUnderWay.{IsNext, next_of, none_mapped}
 

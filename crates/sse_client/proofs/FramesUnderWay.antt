@@ -1,7 +1,7 @@
 -- The next of the frames that an update is to send.
 use Rattle.std.proofs.Common.{◌≡◌, ℕ, ◌+◌, List, [], ◌∷◌, map, take, drop, Some, refl, sym, ap, subst}
 use Rattle.std.specs.List.{AllByRecursion}
-use Rattle.client_core.specs.Sending.{first_number, to_send}
+use Rattle.client_core.specs.TakenViews.{first_number, to_send}
 use Rattle.client_core.specs.declared.behind.Behind.{Behind}
 use Rattle.sse_frames.specs.Frames.{FrameText, IsFrame, frame_bytes, update_number}
 use Rattle.client_core.specs.Owes.{AreNumbered}

@@ -3,22 +3,22 @@ use Rattle.std.proofs.Common.{◌≡◌, inl, inr, ℕ, List, [], ◌++◌, Opti
 use Rattle.std.specs.Prelude.{IfSome}
 use Rattle.keyed_fn.specs.KeyedFn.{KeyedFn}
 use Rattle.server_core.specs.State.{ServerState, at_first}
-use Rattle.sse_agreement.specs.Taking.{Expects}
+use Rattle.def_agreement.specs.TakenFrames.{Expects}
 use Rattle.sse_outside.specs.Kept.{Kept}
-use Rattle.script_meaning.specs.Headline.{IsOverHonest, IsUndisturbed, Headline}
-use Rattle.script_meaning.specs.Meaning.{meaning}
-use Rattle.script_meaning.specs.Session.{IsFree}
-use Rattle.link_events.proofs.Honest.{IsServed-dropped}
-use Rattle.link_events.specs.Events.{Event, Remote}
-use Rattle.link_events.specs.Served as links
-use Rattle.link_events.specs.Served.{IsServed, idle}
-use Rattle.sse_link.specs.Told.{Told, told_first, served}
+use Rattle.def_script_meaning.specs.Headline.{IsOverHonest, IsUndisturbed, Headline}
+use Rattle.def_script_meaning.specs.Meaning.{meaning}
+use Rattle.def_script_meaning.specs.Session.{IsFree}
+use Rattle.def_link_events.proofs.Honest.{IsServed-dropped}
+use Rattle.def_link_events.specs.Events.{Event, Remote}
+use Rattle.def_link_events.specs.Served as links
+use Rattle.def_link_events.specs.Served.{IsServed, idle}
+use Rattle.sse_link.specs.LinkStates.{LinkState, link_state_first, served}
 use Rattle.sse_client.specs.Stands.{seen, outside_of, HasHonestStatus, HasHeadline}
 use Rattle.sse_client.specs.LastLine.{HasLastLine, HasShortLine, IsWholeOrRose}
 use Rattle.sse_client.specs.OverServer.{unkept, HasRunOverServer, PrintsAsRun, PrintsLastLine, PrintsShortLine, PrintsAsMeant}
 use Rattle.sse_client.proofs.WholeRun.{IfSome-then}
 
-abbrev remote : Told → Option Remote
+abbrev remote : LinkState → Option Remote
 remote told = Some (record { state = told.began; file = told.began_file })
 
 abbrev state_in : ServerState → Option Remote → ServerState
@@ -35,13 +35,13 @@ fresh_expects = record { next = refl; stage = refl }
 
 -- A link that is lent.
 
-module _ (f : KeyedFn) (old new : Told) (fresh : old ≡ told_first at_first) (kept : remote new ≡ remote old) (honest : IsServed f (idle new.began) new.events (served new)) where
+module _ (f : KeyedFn) (old new : LinkState) (fresh : old ≡ link_state_first at_first) (kept : remote new ≡ remote old) (honest : IsServed f (idle new.began) new.events (served new)) where
   pub over_server-honest : links.IsHonest f at_first new.events new.state
   over_server-honest =
-      subst (λ s. IsServed f (idle s) new.events (idle new.state)) (ap (state_in at_first) kept ∙ ap (λ (t : Told). t.began) fresh) (IsServed-dropped f (idle new.began) (served new) new.events honest)
+      subst (λ s. IsServed f (idle s) new.events (idle new.state)) (ap (state_in at_first) kept ∙ ap (λ (t : LinkState). t.began) fresh) (IsServed-dropped f (idle new.began) (served new) new.events honest)
 
   over : IsOverHonest f at_first (Some old.events) (Some new.events) new.state
-  over = over_honest f old.events new.events new.state (ap (λ (t : Told). t.events) fresh) over_server-honest
+  over = over_honest f old.events new.events new.state (ap (λ (t : LinkState). t.events) fresh) over_server-honest
 
   module _ (records records_now : Kept) (remaining before after : Option (List ℕ)) (status : ℕ) where
     pub over_server-runs : IfSome remaining (λ bytes. HasHonestStatus f bytes (outside_of (seen (Some old.events) records) before) (outside_of (seen (Some new.events) records_now) after) status)
@@ -58,7 +58,7 @@ module _ (f : KeyedFn) (old new : Told) (fresh : old ≡ told_first at_first) (k
 
 -- A link that is made and dropped: what is printed.
 
-module _ (f : KeyedFn) (old new : Told) (first : ServerState) (fresh : old ≡ told_first first) (honest : links.IsHonest f at_first new.events new.state) (remaining before after : Option (List ℕ)) (status : ℕ) where
+module _ (f : KeyedFn) (old new : LinkState) (first : ServerState) (fresh : old ≡ link_state_first first) (honest : links.IsHonest f at_first new.events new.state) (remaining before after : Option (List ℕ)) (status : ℕ) where
   pub in_memory-runs : IfSome remaining (λ bytes. HasRunOverServer f bytes (outside_of (seen (Some old.events) unkept) before) (outside_of (seen (Some new.events) unkept) after) status)
       → IfSome remaining (λ bytes. PrintsAsRun f bytes before after status)
   in_memory-runs = IfSome-then remaining (λ bytes. HasRunOverServer f bytes (outside_of (seen (Some old.events) unkept) before) (outside_of (seen (Some new.events) unkept) after) status) (λ bytes. PrintsAsRun f bytes before after status)
@@ -66,7 +66,7 @@ module _ (f : KeyedFn) (old new : Told) (first : ServerState) (fresh : old ≡ t
         told = Some new.events;
         state = new.state;
         over = over_honest f [] new.events new.state refl honest;
-        runs = subst (λ (t : Told). HasRunOverServer f bytes (outside_of (seen (Some t.events) unkept) before) (outside_of (seen (Some new.events) unkept) after) status) fresh run;
+        runs = subst (λ (t : LinkState). HasRunOverServer f bytes (outside_of (seen (Some t.events) unkept) before) (outside_of (seen (Some new.events) unkept) after) status) fresh run;
       })
 
   pub in_memory-headline : IfSome remaining (λ bytes. IsFree f (meaning bytes).key (meaning bytes).history → Headline f at_first (meaning bytes) (outside_of (seen (Some old.events) unkept) before) (outside_of (seen (Some new.events) unkept) after) status new.state)
@@ -86,7 +86,7 @@ module _ (f : KeyedFn) (old new : Told) (first : ServerState) (fresh : old ≡ t
           told = Some new.events;
           state = new.state;
           over = over_honest f [] new.events new.state refl honest;
-          ends = subst (λ (t : Told). HasLastLine f bytes (outside_of (seen (Some t.events) unkept) before) (outside_of (seen (Some new.events) unkept) after) status) fresh has;
+          ends = subst (λ (t : LinkState). HasLastLine f bytes (outside_of (seen (Some t.events) unkept) before) (outside_of (seen (Some new.events) unkept) after) status) fresh has;
         }) whole.0,
     whole.1,
   )
@@ -96,7 +96,7 @@ module _ (f : KeyedFn) (old new : Told) (first : ServerState) (fresh : old ≡ t
           told = Some new.events;
           state = new.state;
           over = over_honest f [] new.events new.state refl honest;
-          ends = subst (λ (t : Told). HasShortLine f bytes (outside_of (seen (Some t.events) unkept) before) (outside_of (seen (Some new.events) unkept) after) status) fresh has;
+          ends = subst (λ (t : LinkState). HasShortLine f bytes (outside_of (seen (Some t.events) unkept) before) (outside_of (seen (Some new.events) unkept) after) status) fresh has;
         }) short.0,
     short.1,
   )

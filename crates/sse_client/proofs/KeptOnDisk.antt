@@ -3,7 +3,7 @@
 use Rattle.std.proofs.Common.{◌≡◌, ◌⊎◌, inl, ℕ, List, [], ◌++◌, Some, None, refl, sym, ap, ◌∙◌, subst}
 use Rattle.std.specs.Prelude.{Option, option_map, IfSome}
 use Rattle.std.proofs.lemmas.List.{append-nil}
-use Rattle.sse_journal.proofs.FileRecords.{counted_all, gives_records, journal_records, settled_gives}
+use Rattle.sse_journal.proofs.FileRecords.{counted_all, gives_records, records_of_journal, settled_gives}
 use Rattle.sse_journal.proofs.Moments.{goes_on_to, weakened}
 use Rattle.sse_journal.specs.AnyMoment.{HasSynced, LeavesOnly}
 use Rattle.sse_journal.specs.FileRecords.{records_counted, records_in_file, TakesRecords}
@@ -11,8 +11,8 @@ use Rattle.sse_journal.specs.Files.{Gives, GivesAs}
 use Rattle.sse_journal.specs.declared.journal.Journal.{Journal}
 use Rattle.client_journal.specs.Openings.{IsOfRecords}
 use Rattle.sse_outside.specs.Kept.{Kept}
-use Rattle.sse_recorder.proofs.Growing.{front-none}
-use Rattle.sse_recorder.specs.KeepsOn.{GivesFront, KeepsOn, LeavesKept}
+use Rattle.client_recorder.proofs.GrownRecords.{front-none}
+use Rattle.client_recorder.specs.KeepsOn.{GivesFront, KeepsOn, LeavesKept}
 use Rattle.sse_client.specs.OnDisk.{KeepsOnDisk, KeepsOnStarted, kept_on, records_on}
 
 inside : {A : Type 0} (a b : A) → Some a ≡ Some b → a ≡ b
@@ -70,14 +70,14 @@ module _ {D : Type 0} (content : D → Option (List ℕ)) (images : D → List �
       by : (held : Option (List ℕ)) → content first ≡ held → IfSome held (λ file. IsOfRecords j (content first) (images first)) → IfSome held (λ file. LeavesOnly moment left_since first second (GivesFront (records_in_file file) ([] ++ [])))
       by None is of = tt
       by (Some file) is of =
-          let records : records_in_file file ≡ of.0 = inside (records_in_file file) of.0 (sym (ap records_on is) ∙ journal_records of.0 j (content first) (images first) of.1) in
+          let records : records_in_file file ≡ of.0 = inside (records_in_file file) of.0 (sym (ap records_on is) ∙ records_of_journal of.0 j (content first) (images first) of.1) in
           weakened moment left_since first second (images first) (GivesFront (records_in_file file) []) (λ image left. front-none (records_in_file file) [] image (subst (λ all. Gives all image) (sym records) (settled_gives of.0 j (content first) (images first) of.1 image left))) quiet
 
       now : (held held' : Option (List ℕ)) → content first ≡ held → held' ≡ held → IfSome held' (λ file. IsOfRecords j (content second) (images second)) → LeavesKept (kept_on held) (images second)
       now None held' is same' of = tt
       now (Some file) None is same' of = absurd (cc)
       now (Some file) (Some file') is same' of = λ image left.
-          let records : records_in_file file ≡ of.0 = inside (records_in_file file) of.0 (sym (ap records_on (same ∙ is)) ∙ journal_records of.0 j (content second) (images second) of.1) in
+          let records : records_in_file file ≡ of.0 = inside (records_in_file file) of.0 (sym (ap records_on (same ∙ is)) ∙ records_of_journal of.0 j (content second) (images second) of.1) in
           inl (subst (λ all. Gives all image) (sym records) (settled_gives of.0 j (content second) (images second) of.1 image left))
 
   module _ (first second third : D) (P : Kept → Type 0) where
@@ -98,7 +98,7 @@ module _ {D : Type 0} (content : D → Option (List ℕ)) (images : D → List �
             → IfSome held (λ file. LeavesOnly moment left_since first third (GivesFront (records_in_file file) (on.more ++ on.kept.refused)))
         by None is of leaves = tt
         by (Some file) is of leaves =
-            let records : records_in_file file ≡ of.0 = inside (records_in_file file) of.0 (sym (ap records_on is) ∙ journal_records of.0 j (content first) (images first) of.1) in
+            let records : records_in_file file ≡ of.0 = inside (records_in_file file) of.0 (sym (ap records_on is) ∙ records_of_journal of.0 j (content first) (images first) of.1) in
             let P' = GivesFront (records_in_file file) (on.more ++ on.kept.refused) in
             goes_on_to moment left_since first second third P'
             (weakened moment left_since first second (images first) P' (λ image left. front-none (records_in_file file) (on.more ++ on.kept.refused) image

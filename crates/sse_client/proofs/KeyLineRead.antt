@@ -2,8 +2,8 @@
 use Rattle.std.proofs.Common.{◌≡◌, ℕ, ◌+◌, List, [], ◌∷◌, None, Some, refl, sym, ap, ◌∙◌, subst}
 use Rattle.std.specs.Prelude.{Option, IfSome}
 use Rattle.sse_script.specs.TextLines.{TakesLine}
-use Rattle.script_meaning.proofs.Steps.{IsBadFirst}
-use Rattle.script_meaning.specs.Lines.{Line, Empty, Key, Command, line_in, lines_in}
+use Rattle.def_script_meaning.proofs.Steps.{IsBadFirst}
+use Rattle.def_script_meaning.specs.Lines.{Line, Empty, Key, Command, line_in, lines_in}
 use Rattle.sse_client.specs.KeyLines.{Missing, key_line, FindsKey}
 
 -- the key line of the whole is that of what is left

@@ -7,10 +7,10 @@ use Rattle.keyed_fn.specs.KeyedFn.{KeyedFn}
 use Rattle.sse_outside.proofs.Fronts.{Rose-later}
 use Rattle.sse_outside.specs.Fronts.{TookFront, TookOrRose}
 use Rattle.sse_script.specs.TextLines.{lines_left}
-use Rattle.script_meaning.specs.Carries.{Outside}
-use Rattle.script_meaning.specs.Stops as ends
-use Rattle.script_meaning.specs.Stops.{status_of, stop_text}
-use Rattle.sse_client.specs.GoingOn.{EndsLine}
+use Rattle.def_script_meaning.specs.Carries.{Outside}
+use Rattle.def_script_meaning.specs.Stops as ends
+use Rattle.def_script_meaning.specs.Stops.{status_of, stop_text}
+use Rattle.sse_client.specs.ResumedRun.{EndsLine}
 use Rattle.sse_client.specs.LastLine.{HasLastLine, HasShortLine, IsWholeOrRose}
 use Rattle.sse_client.specs.Stands.{Seen, outside_of, OpensTo}
 use Rattle.sse_client.proofs.WholeRun.{has_run}

@@ -1,24 +1,24 @@
 -- A link to a server in this process that is lent: what passes over it in a run is honest from the server as it was.
 use Rattle.std.proofs.Common.{◌≡◌, ◌++◌, Option, Some, refl, ap, subst}
 use Rattle.keyed_fn.specs.KeyedFn.{KeyedFn}
-use Rattle.link_events.proofs.Honest.{IsHonest-resumed, IsServed-dropped}
-use Rattle.link_events.specs.Events.{Remote, AreKnown}
-use Rattle.link_events.specs.Served.{IsHonest, IsServed, idle}
-use Rattle.script_meaning.specs.Headline.{IsOverHonest}
-use Rattle.sse_link.specs.Told.{Told, served}
+use Rattle.def_link_events.proofs.Honest.{IsHonest-resumed, IsServed-dropped}
+use Rattle.def_link_events.specs.Events.{Remote, AreKnown}
+use Rattle.def_link_events.specs.Served.{IsHonest, IsServed, idle}
+use Rattle.def_script_meaning.specs.Headline.{IsOverHonest}
+use Rattle.sse_link.specs.LinkStates.{LinkState, served}
 use Rattle.sse_client.proofs.FirstFrames.{AddsFrames}
 
 -- the server at the other end as it was when the link began, which it tells
-abbrev first_remote : Told → Remote
+abbrev first_remote : LinkState → Remote
 first_remote told = record { state = told.began; file = told.began_file }
 
-abbrev pub remote : Told → Option Remote
+abbrev pub remote : LinkState → Option Remote
 remote told = Some (first_remote told)
 
 inside : {A : Type 0} (a b : A) → Some a ≡ Some b → a ≡ b
 inside a b e = cc
 
-module _ (f : KeyedFn) (old new : Told) (kept : remote new ≡ remote old) (known : AreKnown old.events) (before : IsServed f (idle old.began) old.events (served old)) (after : IsServed f (idle new.began) new.events (served new)) where
+module _ (f : KeyedFn) (old new : LinkState) (kept : remote new ≡ remote old) (known : AreKnown old.events) (before : IsServed f (idle old.began) old.events (served old)) (after : IsServed f (idle new.began) new.events (served new)) where
   same_remote : first_remote new ≡ first_remote old
   same_remote = inside (first_remote new) (first_remote old) kept
 

@@ -19,7 +19,7 @@ pub mod WholeRun
 pub mod LastLine
 pub mod Devices
 pub mod InMemory
-pub mod GoingOn
+pub mod ResumedRuns
 pub mod RunRejoins
 pub mod RunsOnDisk
 pub mod RecordsLast

@@ -4,25 +4,25 @@ use Rattle.std.specs.Prelude.{IfSome}
 use Rattle.std.proofs.lemmas.List.{append-nil, append_cancel_left, map-append}
 use Rattle.client_registry.specs.Histories.{IsKept}
 use Rattle.keyed_fn.specs.KeyedFn.{KeyedFn, IsKeyedFn}
-use Rattle.link_events.proofs.Taken.{frames_sent, frames_taken-updates}
-use Rattle.link_events.specs.Events.{Event, AreKnown, AreStepped}
-use Rattle.link_events.specs.Served.{IsServed, idle}
-use Rattle.link_events.specs.Taken.{AreSent, frames_taken, updates_among}
-use Rattle.run_texts.specs.Stops.{journal_status}
-use Rattle.run_texts.specs.declared.journal_stop.JournalStop.{JournalStop}
-use Rattle.run_texts.specs.declared.journal_stop.JournalStop.TheVariants as journals
-use Rattle.script_meaning.proofs.Following.{follow-key}
-use Rattle.script_meaning.proofs.Stepped.{AreSent-append, AreStepped-append, AreKnown-behind, AreTaken, frames_taken-append, rejoined_taken, session_taken, stepped_state}
-use Rattle.script_meaning.proofs.Within.{meaning_is_kept}
-use Rattle.script_meaning.specs.Carries.{Keeps, Outside}
-use Rattle.script_meaning.specs.Continues.{at_run}
-use Rattle.script_meaning.specs.Exchange.{Adds, as_event, bare}
-use Rattle.script_meaning.specs.Headline.{Headline, IsOverHonest, IsUndisturbed}
-use Rattle.script_meaning.specs.Meaning.{meaning}
-use Rattle.script_meaning.specs.Rejoins.{Rejoined, frames_under}
-use Rattle.script_meaning.specs.Session.{IsFree, frames_of}
+use Rattle.def_link_events.proofs.Taken.{frames_sent, frames_taken-updates}
+use Rattle.def_link_events.specs.Events.{Event, AreKnown, AreStepped}
+use Rattle.def_link_events.specs.Served.{IsServed, idle}
+use Rattle.def_link_events.specs.Taken.{AreSent, frames_taken, updates_among}
+use Rattle.script_run_texts.specs.Stops.{journal_status}
+use Rattle.script_run_texts.specs.declared.journal_stop.JournalStop.{JournalStop}
+use Rattle.script_run_texts.specs.declared.journal_stop.JournalStop.TheVariants as journals
+use Rattle.def_script_meaning.proofs.FollowedPlaces.{follow-key}
+use Rattle.def_script_meaning.proofs.Stepped.{AreSent-append, AreStepped-append, AreKnown-behind, AreTaken, frames_taken-append, rejoined_taken, session_taken, stepped_state}
+use Rattle.def_script_meaning.proofs.Within.{meaning_is_kept}
+use Rattle.def_script_meaning.specs.Carries.{Keeps, Outside}
+use Rattle.def_script_meaning.specs.Continues.{at_run}
+use Rattle.def_script_meaning.specs.Exchange.{Adds, as_event, bare}
+use Rattle.def_script_meaning.specs.Headline.{Headline, IsOverHonest, IsUndisturbed}
+use Rattle.def_script_meaning.specs.Meaning.{meaning}
+use Rattle.def_script_meaning.specs.Rejoins.{Rejoined, frames_under}
+use Rattle.def_script_meaning.specs.Session.{IsFree, frames_of}
 use Rattle.server_core.specs.Step.{steps}
-use Rattle.sse_agreement.specs.Agreement.{shown_behind}
+use Rattle.def_agreement.specs.Agreement.{shown_behind}
 use Rattle.sse_frames.specs.Exchange.{exchange, greeting}
 use Rattle.sse_frames.specs.Frames.{FrameText, body_of}
 use Rattle.sse_journal.proofs.FileRecords.{gives_records}
@@ -30,9 +30,9 @@ use Rattle.sse_journal.proofs.Once.{gives_once}
 use Rattle.sse_journal.specs.FileRecords.{records_in_file}
 use Rattle.sse_journal.specs.Files.{Gives, file}
 use Rattle.sse_link.specs.Stored.{IsStored}
-use Rattle.sse_link.specs.Told.{Told, served}
+use Rattle.sse_link.specs.LinkStates.{LinkState, served}
 use Rattle.sse_outside.specs.Kept.{Kept}
-use Rattle.sse_recorder.specs.KeepsOn.{LeavesKept}
+use Rattle.client_recorder.specs.KeepsOn.{LeavesKept}
 use Rattle.sse_server.specs.Taken.{bodies}
 use Rattle.sse_client.proofs.EmptyFile.{is_journal}
 use Rattle.sse_client.proofs.FirstFrames.{AddsFrames, gone_on_adds, run_adds}
@@ -71,7 +71,7 @@ unopened_status own journals.WrongKey none why = absurd why
 
 -- Over a link that was lent.
 
-module _ (f : KeyedFn) (laws : IsKeyedFn f) (old new : Told) (remains : remote new ≡ remote old) (known : AreKnown old.events) (known_now : AreKnown new.events)
+module _ (f : KeyedFn) (laws : IsKeyedFn f) (old new : LinkState) (remains : remote new ≡ remote old) (known : AreKnown old.events) (known_now : AreKnown new.events)
     (before : IsServed f (idle old.began) old.events (served old)) (after : IsServed f (idle new.began) new.events (served new)) (stored : IsStored f old) (stored_now : IsStored f new) where
   -- the store's file, with the updates among frames that were taken
   stored_updates : (adds : AddsFrames (Some old.events) (Some new.events)) (frames : List FrameText) → AreTaken old.state frames adds.events → HasStoredUpdates frames old new

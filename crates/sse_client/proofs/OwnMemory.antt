@@ -12,21 +12,21 @@ use Rattle.sse_frames.specs.Exchange as texts
 use Rattle.sse_frames.specs.Exchange.{asked, expected, first_answer, answers_behind, exchange}
 use Rattle.sse_frames.specs.Frames.{FrameText, SearchFrame, IsBytes, frame_bytes}
 use Rattle.sse_frames.specs.Replies.{ReplyText, Page, BadList, NoMemory, OutOfPlace, reply_bytes}
-use Rattle.sse_frames.specs.Sending.{page_each, pages_of, pages}
+use Rattle.sse_frames.specs.SentParts.{page_each, pages_of, pages}
 use Rattle.server_core.specs.Refusal.{in_place}
 use Rattle.server_core.specs.Search.{search_result}
 use Rattle.server_core.specs.State.{ServerState}
 use Rattle.server_core.specs.Step.{step, taken, answers}
-use Rattle.link_events.proofs.Honest.{Serves-frame, Answers-either}
-use Rattle.link_events.specs.declared.mark.Mark.{Mark}
-use Rattle.link_events.specs.Events.{Event, Sent, Received}
-use Rattle.link_events.specs.Served.{Served, idle, Serves, Answers, IsServed}
+use Rattle.def_link_events.proofs.Honest.{Serves-frame, Answers-either}
+use Rattle.def_link_events.specs.declared.mark.Mark.{Mark}
+use Rattle.def_link_events.specs.Events.{Event, Sent, Received}
+use Rattle.def_link_events.specs.Served.{Served, idle, Serves, Answers, IsServed}
 use Rattle.sse_model.proofs.KeyValues.{IsValue-table}
 use Rattle.sse_model.specs.Names.{name, Token}
 use Rattle.sse_script.specs.Shown.{Cause}
-use Rattle.script_meaning.specs.Exchange.{Told, IsCut, AreCut, as_event, bare, sent_in}
+use Rattle.def_script_meaning.specs.Exchange.{Told, IsCut, AreCut, as_event, bare, sent_in}
 use Rattle.sse_client.specs.Exchanges.{HasCut, NoneLacks, HasOwnMemory}
-use Rattle.run_texts.specs.declared.peer_stop.PeerStop.{PeerStop}
+use Rattle.script_run_texts.specs.declared.peer_stop.PeerStop.{PeerStop}
 
 -- Replies that don't say that the server lacked memory.
 

@@ -12,18 +12,18 @@ use Rattle.sse_frames.specs.Exchange as texts
 use Rattle.sse_frames.specs.Exchange.{ForAnswer}
 use Rattle.sse_frames.specs.Frames.{SearchFrame, frame_bytes}
 use Rattle.sse_frames.specs.Replies.{ReplyText, Page, IsPage, IsIdentifier, InReplies, reply_bytes}
-use Rattle.sse_frames.specs.Sending.{pages}
+use Rattle.sse_frames.specs.SentParts.{pages}
 use Rattle.sse_frames.proofs.AnswerPages.{replies_back}
 use Rattle.sse_frames.proofs.Replied.{InReplies-pages}
-use Rattle.link_events.specs.Events.{Sent, Received}
-use Rattle.link_events.specs.declared.mark.Mark.TheVariants.{Unknown}
+use Rattle.def_link_events.specs.Events.{Sent, Received}
+use Rattle.def_link_events.specs.declared.mark.Mark.TheVariants.{Unknown}
 use Rattle.sse_model.proofs.Counts.{AllByRecursion-append}
 use Rattle.sse_script.specs.Shown as cause
 use Rattle.sse_script.specs.Shown.{Cause}
-use Rattle.script_meaning.specs.Exchange.{Told, Adds, IsAllowed, IsAwaiting, ShowsInReplies, as_event}
+use Rattle.def_script_meaning.specs.Exchange.{Told, Adds, IsAllowed, IsAwaiting, ShowsInReplies, as_event}
 use Rattle.sse_client.specs.Exchanges.{HasSearched, HasCut}
 use Rattle.sse_client.specs.Stops.{cause_of_fault}
-use Rattle.script_meaning.proofs.Honest.{bare_received, events_received}
+use Rattle.def_script_meaning.proofs.Honest.{bare_received, events_received}
 use Rattle.sse_client.proofs.PagesRead.{joined, full_pages, pages-full, page-pages, at_place}
 use Rattle.sse_client.proofs.PartOfExchange.{AreCut-first, no_notice-answer, shows_fault}
 use Rattle.sse_client.proofs.PagesUnderWay.{IsReading, page_replies, page_replies-push, adds_reply, joined_ids, all_received, full_in_replies}

@@ -9,7 +9,7 @@ use Rattle.std.proofs.lemmas.List.Concat.{flat_map-append}
 use Rattle.std.proofs.lemmas.List.{append-nil}
 use Rattle.client_replies.proofs.PagesTaken.{AreTaken, pages-taken}
 use Rattle.sse_frames.specs.Replies.{ReplyText, Next, Took, Number, Clash, Page, BadList, NoMemory, StoreFault, BadFrame, OutOfPlace, IsPage}
-use Rattle.sse_frames.specs.Sending.{page_each, pages_of, pages}
+use Rattle.sse_frames.specs.SentParts.{page_each, pages_of, pages}
 
 abbrev pub joined : List (List ℕ) → List ℕ
 joined took = flat_map (λ ids. ids) took

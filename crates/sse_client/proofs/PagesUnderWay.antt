@@ -2,15 +2,15 @@
 use Rattle.std.proofs.Common.{◌≡◌, ℕ, ◌+◌, ◌≤◌, true, false, List, [], ◌∷◌, ◌++◌, length, map, sym, ap, subst, ◌∙◌, length-append, arith}
 use Rattle.std.specs.List.{AllByRecursion}
 use Rattle.std.proofs.lemmas.List.{map-append}
-use Rattle.sse_frames.specs.Reading.{IsReply}
+use Rattle.sse_frames.specs.ReadOutcomes.{IsReply}
 use Rattle.client_replies.specs.Pages.{IsNextPage}
 use Rattle.sse_frames.specs.Frames.{SearchFrame, frame_bytes}
 use Rattle.sse_frames.specs.Replies.{Page, IsPage, IsIdentifier, InReplies, reply_bytes}
-use Rattle.sse_frames.specs.Sending.{pages}
-use Rattle.link_events.specs.Events.{Sent, Received}
-use Rattle.link_events.specs.declared.mark.Mark.{Mark}
+use Rattle.sse_frames.specs.SentParts.{pages}
+use Rattle.def_link_events.specs.Events.{Sent, Received}
+use Rattle.def_link_events.specs.declared.mark.Mark.{Mark}
 use Rattle.sse_model.proofs.Counts.{AllByRecursion-append}
-use Rattle.script_meaning.specs.Exchange.{Told, Adds}
+use Rattle.def_script_meaning.specs.Exchange.{Told, Adds}
 use Rattle.sse_client.proofs.PagesRead.{joined, joined-push, full_pages, pages-full}
 use Rattle.sse_client.proofs.TranscriptsJoined.{Adds-joined}
 

@@ -8,15 +8,15 @@ use Rattle.sse_frames.specs.Exchange as texts
 use Rattle.sse_frames.specs.Exchange.{Asked, ForNext, ForTook, ForAnswer, asked, expected, answers_to}
 use Rattle.sse_frames.specs.Frames.{FrameText, Hello, SetupBegin, SetupDict, SetupArray, SetupEnd, AddFrame, DeleteFrame, SearchFrame, frame_bytes, update_number}
 use Rattle.sse_frames.specs.Replies.{ReplyText, Next, Took, Number, Clash, Page, BadList, NoMemory, StoreFault, BadFrame, OutOfPlace, InReplies, IsIdentifier, reply_bytes}
-use Rattle.link_events.specs.Events.{Event, Sent, Received}
-use Rattle.link_events.specs.declared.mark.Mark.{Mark}
-use Rattle.link_events.specs.declared.mark.Mark.TheVariants.{Unknown}
+use Rattle.def_link_events.specs.Events.{Event, Sent, Received}
+use Rattle.def_link_events.specs.declared.mark.Mark.{Mark}
+use Rattle.def_link_events.specs.declared.mark.Mark.TheVariants.{Unknown}
 use Rattle.sse_script.specs.Shown as cause
 use Rattle.sse_script.specs.Shown.{Cause}
-use Rattle.script_meaning.proofs.Going.{Adds-nothing, AreExchanged-none}
-use Rattle.script_meaning.proofs.Honest.{IsBehindGreeting}
-use Rattle.script_meaning.specs.Greeting.{Greets, AnswersHello, ShowsInAnswer, IsTurned, TurnsAway}
-use Rattle.script_meaning.specs.Exchange.{Told, Adds, AreCut, IsAllowed, IsAwaiting, IsNotice, ShowsInReplies, IsPart, IsCut, as_event}
+use Rattle.def_script_meaning.proofs.GoneAsMeant.{Adds-nothing, AreExchanged-none}
+use Rattle.def_script_meaning.proofs.Honest.{IsBehindGreeting}
+use Rattle.def_script_meaning.specs.HelloExchange.{Greets, AnswersHello, ShowsInAnswer, IsTurned, TurnsAway}
+use Rattle.def_script_meaning.specs.Exchange.{Told, Adds, AreCut, IsAllowed, IsAwaiting, IsNotice, ShowsInReplies, IsPart, IsCut, as_event}
 use Rattle.sse_client.specs.Exchanges.{HasExchanged, HasCut}
 use Rattle.sse_client.specs.Progress.{IsAnswered, IsUnanswered}
 use Rattle.sse_client.specs.Stops.{cause_of_fault}

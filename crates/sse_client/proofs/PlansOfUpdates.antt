@@ -29,10 +29,10 @@ use Rattle.sse_model.specs.Wire.{next_number, words_live}
 use Rattle.sse_script.specs.Shown.{Cause}
 use Rattle.sse_script.specs.declared.refusal.Refusal.{Refusal}
 use Rattle.sse_script.specs.declared.refusal.Refusal.TheVariants.{Zero, AlreadyLive, CounterFull, HistoryFull, UnknownDocument}
-use Rattle.script_meaning.specs.Carries.{collision_cause, keys_at}
-use Rattle.script_meaning.specs.Outcome.{Place}
-use Rattle.script_meaning.specs.Refused as script
-use Rattle.line_documents.specs.Refused.{document_refusal}
+use Rattle.def_script_meaning.specs.Carries.{collision_cause, keys_at}
+use Rattle.def_script_meaning.specs.Outcome.{Place}
+use Rattle.def_script_meaning.specs.Refused as script
+use Rattle.script_documents.specs.Refused.{document_refusal}
 use Rattle.client_core.specs.StandsFor as client
 use Rattle.client_core.specs.StandsFor.{StandsFor, add_fault, collision_next, delete_fault, frames_next, with_command}
 use Rattle.client_core.specs.UpdateFaults.{clash_fault}

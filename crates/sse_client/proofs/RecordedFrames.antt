@@ -2,9 +2,9 @@
 use Rattle.std.proofs.Common.{◌≡◌, ℕ, List, [], ◌∷◌, ◌++◌, Some, None, ap}
 use Rattle.std.specs.Prelude.{Option, option_map, IfSome}
 use Rattle.client_core.specs.declared.behind.Behind.{Behind}
-use Rattle.script_meaning.specs.Carries.{Keeps}
+use Rattle.def_script_meaning.specs.Carries.{Keeps}
 use Rattle.sse_outside.specs.Kept.{Kept}
-use Rattle.sse_client.specs.Keeping.{EndsWith, OwesLast}
+use Rattle.sse_client.specs.RecordKept.{EndsWith, OwesLast}
 
 -- a client owes frames of the update whose record was just taken
 pub owes-taken : (old new : Kept) (payload : List ℕ) (state : Behind) → Keeps old new (payload ∷ []) → ((records : List (List ℕ)) → EndsWith records payload → OwesLast records state)

@@ -1,19 +1,19 @@
 -- What is kept lasts: at a stop that isn't for the record of a command, what keeps the records takes more of them, and each file that a
 -- crash may leave of a journal gives its records.
 use Rattle.std.proofs.Common.{◌≡◌, ◌≢◌, ℕ, List, Option, None, Some, Result, Ok, Err, IsErrAnd, refl, sym, subst}
-use Rattle.run_texts.specs.Stops.{stop_status}
-use Rattle.run_texts.specs.declared.command_stop.CommandStop.{CommandStop}
-use Rattle.run_texts.specs.declared.command_stop.CommandStop.TheVariants as commands
-use Rattle.run_texts.specs.declared.stop_cause.StopCause.{StopCause}
-use Rattle.run_texts.specs.declared.stop_cause.StopCause.TheVariants as stops
-use Rattle.sse_journal.proofs.FileRecords.{journal_records}
+use Rattle.script_run_texts.specs.Stops.{stop_status}
+use Rattle.script_run_texts.specs.declared.command_stop.CommandStop.{CommandStop}
+use Rattle.script_run_texts.specs.declared.command_stop.CommandStop.TheVariants as commands
+use Rattle.script_run_texts.specs.declared.stop_cause.StopCause.{StopCause}
+use Rattle.script_run_texts.specs.declared.stop_cause.StopCause.TheVariants as stops
+use Rattle.sse_journal.proofs.FileRecords.{records_of_journal}
 use Rattle.sse_journal.proofs.Once.{file_gives}
 use Rattle.sse_journal.specs.FileRecords.{TakesRecords, records_in_file}
 use Rattle.sse_journal.specs.Files.{Gives}
 use Rattle.sse_journal.specs.declared.journal.Journal.{Journal}
 use Rattle.sse_outside.specs.declared.device_fault.DeviceFault.TheVariants as devices
 use Rattle.sse_client.proofs.TranscriptsJoined.{IfErr-from, may_stop-ok}
-use Rattle.sse_client.specs.Keeping.{StaysWhole, WholeAt, WholeAtStop}
+use Rattle.sse_client.specs.RecordKept.{StaysWhole, WholeAt, WholeAtStop}
 use Rattle.sse_client.specs.OnDisk.{Lasts}
 
 pub StaysWhole-err : {T E : Type 0} (showing : Type 0 → E → Type 0) (whole : Type 0) (r : Result T E) (stop : E) → IsErrAnd r (λ e. e ≡ stop) → showing whole stop → StaysWhole showing whole r
@@ -53,5 +53,5 @@ takes_lasts j None images takes = tt
 takes_lasts j (Some held) images takes = λ image left.
     let payloads = takes.holds.0 in
     let of = takes.holds.1 in
-    let records : records_in_file held ≡ payloads = (let is = journal_records payloads j (Some held) images of in cc) in
+    let records : records_in_file held ≡ payloads = (let is = records_of_journal payloads j (Some held) images of in cc) in
     subst (λ r. Gives r image) (sym records) (subst (Gives payloads) (sym (of.settled.durable image left)) (file_gives payloads of.payloads_are))

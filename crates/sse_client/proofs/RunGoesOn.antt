@@ -18,25 +18,25 @@ use Rattle.sse_script.specs.Texts.{text_of}
 use Rattle.sse_script.specs.Views.{line_view}
 use Rattle.sse_script.specs.declared.line.Line.{Line as ReadLine}
 use Rattle.sse_script.specs.declared.line.Line.TheVariants as reads
-use Rattle.script_meaning.proofs.Following.{after-key}
-use Rattle.script_meaning.proofs.Steps.{IsBad, IsBadFirst, Continues, runs-reading, runs-end, runs-bad, runs-stopped, continues-empty, continues-next, ContinuesOpening, opens-reading, opens-end, opens-bad, opening-empty}
-use Rattle.script_meaning.specs.Carries.{Outside, with_answers, text_with}
-use Rattle.script_meaning.specs.Lines.{Empty, Command, Request, line_read, line_in}
-use Rattle.script_meaning.specs.Outcome.{Place, Outcome, outcome, after, shown_by}
-use Rattle.script_meaning.specs.Runs.{Ended, ended, Moment, moment, RunsFrom, OpensFrom, OpensAtKey}
-use Rattle.script_meaning.specs.Stops as ends
-use Rattle.run_texts.specs.LineResultViews.{line_result_view, refuses}
+use Rattle.def_script_meaning.proofs.FollowedPlaces.{after-key}
+use Rattle.def_script_meaning.proofs.Steps.{IsBad, IsBadFirst, Continues, runs-reading, runs-end, runs-bad, runs-stopped, continues-empty, continues-next, ContinuesOpening, opens-reading, opens-end, opens-bad, opening-empty}
+use Rattle.def_script_meaning.specs.Carries.{Outside, with_answers, text_with}
+use Rattle.def_script_meaning.specs.Lines.{Empty, Command, Request, line_read, line_in}
+use Rattle.def_script_meaning.specs.Outcome.{Place, Outcome, outcome, after, shown_by}
+use Rattle.def_script_meaning.specs.Runs.{Ended, ended, Moment, moment, RunsFrom, OpensFrom, OpensAtKey}
+use Rattle.def_script_meaning.specs.Stops as ends
+use Rattle.script_run_texts.specs.LineResultViews.{line_result_view, refuses}
 use Rattle.sse_client.specs.Stands.{IsAt, Seen, Takes, outside_of, stop_view, CarriesOut, StopsRun, EndsFrom}
 use Rattle.sse_client.specs.Turns.{IsThere, LeadsTo, ending}
 use Rattle.sse_client.specs.declared.lines.Refusals.{Refusals}
 use Rattle.sse_client.specs.declared.lines.Turn.{Turn}
-use Rattle.run_texts.specs.Stops.{input_cause, stop_of_sink}
-use Rattle.run_texts.specs.declared.line_result.LineResult.{LineResult}
+use Rattle.script_run_texts.specs.Stops.{input_cause, stop_of_sink}
+use Rattle.script_run_texts.specs.declared.line_result.LineResult.{LineResult}
 use Rattle.sse_client.specs.declared.session.Stage.{Stage}
-use Rattle.run_texts.specs.declared.input_stop.InputStop.{InputStop}
-use Rattle.run_texts.specs.declared.input_stop.InputStop.TheVariants as inputs
-use Rattle.run_texts.specs.declared.stop_cause.StopCause.{StopCause}
-use Rattle.run_texts.specs.declared.stop_cause.StopCause.TheVariants as stops
+use Rattle.script_run_texts.specs.declared.input_stop.InputStop.{InputStop}
+use Rattle.script_run_texts.specs.declared.input_stop.InputStop.TheVariants as inputs
+use Rattle.script_run_texts.specs.declared.stop_cause.StopCause.{StopCause}
+use Rattle.script_run_texts.specs.declared.stop_cause.StopCause.TheVariants as stops
 
 -- One command.
 

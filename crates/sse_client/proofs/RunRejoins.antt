@@ -25,10 +25,10 @@ use Rattle.client_registry.specs.Run.{Run, at_first}
 use Rattle.client_registry.specs.Sized.{update_frames}
 use Rattle.keyed_fn.specs.KeyFormulas.{mark_of}
 use Rattle.keyed_fn.specs.KeyedFn.{KeyedFn, IsKeyedFn}
-use Rattle.sse_agreement.proofs.NoCollision.{collision_of_first-none, collision_of_next-none}
+use Rattle.def_agreement.proofs.NoCollision.{collision_of_first-none, collision_of_next-none}
 use Rattle.server_core.specs.State.{ServerState}
 use Rattle.server_core.specs.Step.{steps}
-use Rattle.sse_agreement.specs.Taking.{Expects}
+use Rattle.def_agreement.specs.TakenFrames.{Expects}
 use Rattle.sse_frames.specs.Exchange.{greeting}
 use Rattle.sse_frames.specs.Frames.{FrameText}
 use Rattle.sse_model.proofs.Counts.{length-frames_of_setup}
@@ -41,30 +41,30 @@ use Rattle.sse_outside.specs.Fronts.{TookFront}
 use Rattle.sse_script.specs.Shown as says
 use Rattle.sse_script.specs.Shown.{Cause}
 use Rattle.sse_script.specs.Texts.{text_of}
-use Rattle.script_meaning.proofs.Following.{follow-key}
-use Rattle.script_meaning.proofs.Going.{Adds-nothing, AreExchanged-none}
-use Rattle.script_meaning.proofs.Kept.{IsKeptAt, IsKeptAt-opened, IsWithinItem, kept_follow}
-use Rattle.script_meaning.proofs.Joining.{count_alone, opened_by, took_all}
-use Rattle.script_meaning.proofs.Leaving.{rejoined_leaves}
-use Rattle.script_meaning.proofs.RecordedBehind.{recorded_behind}
-use Rattle.script_meaning.proofs.Rejoining.{length-frames_under, rejoined, rejoined_status}
-use Rattle.script_meaning.proofs.Within.{IsWithin-lines_in, meaning_is_kept}
-use Rattle.script_meaning.specs.Carries.{Outside}
-use Rattle.script_meaning.specs.Continues.{at_run}
-use Rattle.script_meaning.specs.Exchange.{Told, AreCut, AreExchanged, IsCut, as_event}
-use Rattle.script_meaning.specs.Goes.{frames_in_hand, frames_of_last}
-use Rattle.script_meaning.specs.Headline.{Headline, IsOverHonest, IsUndisturbed}
-use Rattle.script_meaning.specs.Joined.{updates_of, LeavesServer, LeavesTaken}
-use Rattle.script_meaning.specs.Lines.{Line, Empty, Key, Command as CommandLine, script_lines}
-use Rattle.script_meaning.specs.Meaning.{meaning}
-use Rattle.script_meaning.specs.Recorded.{records_in, records_with}
-use Rattle.script_meaning.specs.Rejoins.{frames_under, lacking, CatchesUp, HasSent, Rejoins, Rejoined}
-use Rattle.script_meaning.specs.Runs.{Ended, Ends, IsGreeted, StopsReading}
-use Rattle.script_meaning.specs.Session.{IsFree, frames_with}
-use Rattle.script_meaning.specs.Stops.{At, status_of, stop_text}
+use Rattle.def_script_meaning.proofs.FollowedPlaces.{follow-key}
+use Rattle.def_script_meaning.proofs.GoneAsMeant.{Adds-nothing, AreExchanged-none}
+use Rattle.def_script_meaning.proofs.Kept.{IsKeptAt, IsKeptAt-opened, IsWithinItem, kept_follow}
+use Rattle.def_script_meaning.proofs.JoinedSessions.{count_alone, opened_by, took_all}
+use Rattle.def_script_meaning.proofs.LeftServers.{rejoined_leaves}
+use Rattle.def_script_meaning.proofs.RecordedBehind.{recorded_behind}
+use Rattle.def_script_meaning.proofs.RejoinedSessions.{length-frames_under, rejoined, rejoined_status}
+use Rattle.def_script_meaning.proofs.Within.{IsWithin-lines_in, meaning_is_kept}
+use Rattle.def_script_meaning.specs.Carries.{Outside}
+use Rattle.def_script_meaning.specs.Continues.{at_run}
+use Rattle.def_script_meaning.specs.Exchange.{Told, AreCut, AreExchanged, IsCut, as_event}
+use Rattle.def_script_meaning.specs.Goes.{frames_in_hand, frames_of_last}
+use Rattle.def_script_meaning.specs.Headline.{Headline, IsOverHonest, IsUndisturbed}
+use Rattle.def_script_meaning.specs.Joined.{updates_of, LeavesServer, LeavesTaken}
+use Rattle.def_script_meaning.specs.Lines.{Line, Empty, Key, Command as CommandLine, script_lines}
+use Rattle.def_script_meaning.specs.Meaning.{meaning}
+use Rattle.def_script_meaning.specs.Recorded.{records_in, records_with}
+use Rattle.def_script_meaning.specs.Rejoins.{frames_under, lacking, CatchesUp, HasSent, Rejoins, Rejoined}
+use Rattle.def_script_meaning.specs.Runs.{Ended, Ends, IsGreeted, StopsReading}
+use Rattle.def_script_meaning.specs.Session.{IsFree, frames_with}
+use Rattle.def_script_meaning.specs.Stops.{At, status_of, stop_text}
 use Rattle.sse_script.specs.TextLines.{lines_of}
 use Rattle.sse_client.specs.CanGoOn.{CanGoOn, CanResume, IsRecordedAfter, StopsUnsent, meaning_after}
-use Rattle.sse_client.specs.GoingOn.{EndsLine, GoesOnBehindKey, GoesOnFrom, GoesOnOver, HasResent, IsFound, IsHeldUp, IsUnrestored, AtKeyLine, collision_again, frames_lacking}
+use Rattle.sse_client.specs.ResumedRun.{EndsLine, GoesOnBehindKey, GoesOnFrom, GoesOnOver, HasResent, IsFound, IsHeldUp, IsUnrestored, AtKeyLine, collision_again, frames_lacking}
 use Rattle.sse_client.specs.KeyLines.{KeyLine, Keyed, Missing, key_line}
 use Rattle.sse_client.specs.OnDisk.{HasGoneOn}
 
@@ -269,6 +269,7 @@ module _ (f : KeyedFn) (key : List ℕ) (run : Run) (updates : filter is_update 
     line : text_of (says.Resumed frames) ≡ text_of (says.Resumed (length (lacking f key run resent.next)))
     line = ap (λ n. text_of (says.Resumed n)) (sym (length-lacking f key run updates resent.next frames resent.lacking))
 
+  -- Promise P166, also here
   -- a run that goes on after a history is such a session
   pub rejoins : GoesOnFrom f key run number lines now end → Rejoins f low high key run number lines now end
   rejoins (inl held) = rejoins-held held
@@ -530,6 +531,9 @@ module _ (f : KeyedFn) (laws : IsKeyedFn f) (bytes : List ℕ) (now last : Outsi
 
 -- Behind a whole run.
 
+-- Promise P147 (inside): Two undisturbed runs in a row, the second with `more`, are without the second greeting one session of one history, which the simulator makes.
+--   assumes: observable devices, honest link, no collision, no device fault, enough memory, keyed function; not: A first run that was interrupted, a third session, a link that
+--     isn't honest. No call makes both runs. A first run over a journal that has records.
 -- what a run left that nothing disturbed, over records of which there were none, is what one supposes that goes on under its key
 pub can_go_on : (f : KeyedFn) (laws : IsKeyedFn f) (start between state : ServerState) (script bytes key : List ℕ) (run : Run) (now last now' last' : Outside) (status number : ℕ) (lines : List (Option Line))
     → Headline f start (meaning script) now last status between → (meaning script).key ≡ Some key → (meaning script).history ≡ Some run → now.kept.records ≡ Some [] → Expects 0 start
@@ -562,6 +566,7 @@ can_go_on f laws start between state script bytes key run now last now' last' st
 within_left : (f : KeyedFn) (key : List ℕ) (run : Run) (state : ServerState) → (left : LeavesTaken f key run state) → IsWithin f key (updates_of run) left.next
 within_left f key run state left = let most = left.most in (omega (arith, most, length-last_frames f key (updates_of run)), left.taken.within)
 
+-- Promise P167, also here
 -- what a run left whose records were all taken, is what one supposes that goes on under its key: whatever stopped it, over an honest link
 pub can_resume : (f : KeyedFn) → IsKeyedFn f → (bytes key : List ℕ) (number : ℕ) (lines : List (Option Line)) (run : Run) (kept : Kept) (state : ServerState)
     → kept.records ≡ Some (records_in f key (Some run)) → IsKept (Some run) → LeavesServer f (Some key) (Some run) state → key_line 1 (script_lines bytes) ≡ Keyed key number lines → CanResume f bytes kept state

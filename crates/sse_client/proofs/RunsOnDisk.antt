@@ -21,29 +21,29 @@ use Rattle.client_registry.specs.Histories.{empty}
 use Rattle.client_registry.specs.Run.{Run}
 use Rattle.keyed_fn.specs.KeyFormulas.{mark_of}
 use Rattle.keyed_fn.specs.KeyedFn.{KeyedFn, IsKeyedFn}
-use Rattle.run_texts.specs.Stops.{journal_cause, journal_line, journal_status}
-use Rattle.run_texts.specs.declared.input_stop.InputStop.{InputStop}
-use Rattle.run_texts.specs.declared.input_stop.InputStop.TheVariants as inputs
-use Rattle.run_texts.specs.declared.journal_stop.JournalStop.{JournalStop}
-use Rattle.run_texts.specs.declared.journal_stop.JournalStop.TheVariants as journals
-use Rattle.script_meaning.specs.Carries.{Outside}
-use Rattle.script_meaning.specs.Lines.{lines_in}
-use Rattle.script_meaning.specs.Runs.{ended}
-use Rattle.script_meaning.specs.Stops as ends
-use Rattle.sse_journal.proofs.FileRecords.{journal_records}
+use Rattle.script_run_texts.specs.Stops.{journal_cause, journal_line, journal_status}
+use Rattle.script_run_texts.specs.declared.input_stop.InputStop.{InputStop}
+use Rattle.script_run_texts.specs.declared.input_stop.InputStop.TheVariants as inputs
+use Rattle.script_run_texts.specs.declared.journal_stop.JournalStop.{JournalStop}
+use Rattle.script_run_texts.specs.declared.journal_stop.JournalStop.TheVariants as journals
+use Rattle.def_script_meaning.specs.Carries.{Outside}
+use Rattle.def_script_meaning.specs.Lines.{lines_in}
+use Rattle.def_script_meaning.specs.Runs.{ended}
+use Rattle.def_script_meaning.specs.Stops as ends
+use Rattle.sse_journal.proofs.FileRecords.{records_of_journal}
 use Rattle.sse_journal.specs.FileRecords.{records_in_file}
 use Rattle.sse_journal.specs.JournalView.{IsJournalOf, records_of}
 use Rattle.sse_journal.specs.declared.journal.Journal.{Journal}
 use Rattle.sse_script.specs.TextLines.{lines_left}
-use Rattle.script_meaning.specs.Exchange.{Told}
+use Rattle.def_script_meaning.specs.Exchange.{Told}
 use Rattle.sse_outside.specs.Fronts.{TookOrRose}
 use Rattle.sse_script.specs.Shown.{BadLine, NoMemory, SourceFault}
-use Rattle.sse_client.proofs.GoingOn.{for_all}
+use Rattle.sse_client.proofs.ResumedRuns.{for_all}
 use Rattle.sse_client.proofs.LastLine.{ends_line}
 use Rattle.sse_client.proofs.RunRejoins.{has_gone_on_so}
 use Rattle.sse_client.proofs.WholeRun.{IfSome-then, run-headline, run-honest, run-recorded, run-simulated}
-use Rattle.script_meaning.specs.Stops.{status_of}
-use Rattle.sse_client.specs.GoingOn.{AtKeyLine, EndsLine, GoesOnFrom, GoesOnOver, GoesOnTo, HasEndedAfter, IsUnrestored, Restores}
+use Rattle.def_script_meaning.specs.Stops.{status_of}
+use Rattle.sse_client.specs.ResumedRun.{AtKeyLine, EndsLine, GoesOnFrom, GoesOnOver, GoesOnTo, HasEndedAfter, IsUnrestored, Restores}
 use Rattle.sse_client.specs.KeyLines.{FindsKey, Keyed, Missing, key_line}
 use Rattle.sse_client.specs.LastLine.{HasLastLine, HasShortLine, IsWholeOrRose}
 use Rattle.sse_client.specs.OnDisk.{HasBegun, HasGoneOn, IsNotBegun, IsNotReopened, IsUnopened, held_stop, kept_on, records_on}
@@ -63,7 +63,7 @@ module _ (f : KeyedFn) (key : List ℕ) (j : Journal) (content : Option (List �
       by : (c : Option (List ℕ)) → content ≡ c → IfSome c (λ file. IsOfRecords j content images) → IfSome (records_on c) P
       by None e none = tt
       by (Some file) e of =
-          let same : records_in_file file ≡ of.0 = (let is : Some (records_in_file file) ≡ Some of.0 = sym (ap records_on e) ∙ journal_records of.0 j content images of.1 in cc) in
+          let same : records_in_file file ≡ of.0 = (let is : Some (records_in_file file) ≡ Some of.0 = sym (ap records_on e) ∙ records_of_journal of.0 j content images of.1 in cc) in
           subst P (sym same) (all of.0 of.1)
 
   -- a client that was restored of them

@@ -19,13 +19,13 @@ use Rattle.sse_model.specs.Names.{Table}
 use Rattle.sse_model.specs.Wire.{frames_of_setup}
 use Rattle.sse_script.specs.Shown.{Cause}
 use Rattle.sse_script.specs.declared.refusal.Refusal.{Refusal}
-use Rattle.script_meaning.specs.Carries.{collision_cause}
-use Rattle.script_meaning.specs.Refused.{size_refused}
+use Rattle.def_script_meaning.specs.Carries.{collision_cause}
+use Rattle.def_script_meaning.specs.Refused.{size_refused}
 use Rattle.client_core.specs.Owes.{AreNumbered}
 use Rattle.sse_client.specs.SetupFaults.{setup_answer}
-use Rattle.run_texts.specs.Stops.{plan_cause}
-use Rattle.run_texts.specs.declared.plan_stop.PlanStop.{PlanStop}
-use Rattle.run_texts.specs.declared.plan_stop.PlanStop.TheVariants as plans
+use Rattle.script_run_texts.specs.Stops.{plan_cause}
+use Rattle.script_run_texts.specs.declared.plan_stop.PlanStop.{PlanStop}
+use Rattle.script_run_texts.specs.declared.plan_stop.PlanStop.TheVariants as plans
 
 -- the frames of a setup are numbered one after the other
 pub frames_of_setup-are_numbered : (t : Table) (o : Offsets) (s : Setup) → AreNumbered o.frame (frames_of_setup t o s)

@@ -4,21 +4,21 @@ use Rattle.std.specs.Prelude.{option_map, IfErr, IsErrAnd, OnErr, OnOk}
 use Rattle.std.proofs.lemmas.List.{append-nil}
 use Rattle.sse_link.specs.declared.link_fault.LinkFault.{LinkFault}
 use Rattle.sse_link.specs.declared.link_fault.LinkFault.TheVariants as faults
-use Rattle.link_events.specs.Events.{Event, Sent, Received}
-use Rattle.link_events.specs.declared.mark.Mark.{Mark}
+use Rattle.def_link_events.specs.Events.{Event, Sent, Received}
+use Rattle.def_link_events.specs.declared.mark.Mark.{Mark}
 use Rattle.sse_script.specs.Shown as cause
-use Rattle.script_meaning.specs.Exchange.{Told, Adds}
+use Rattle.def_script_meaning.specs.Exchange.{Told, Adds}
 use Rattle.sse_frames.specs.Frames.{FrameText}
-use Rattle.run_texts.specs.declared.peer_stop.PeerStop.{PeerStop}
-use Rattle.run_texts.specs.Causes.{KeepsRecorder, KeepsSink, KeepsSource, SinkCause}
-use Rattle.run_texts.specs.declared.stop_cause.StopCause.{StopCause}
+use Rattle.script_run_texts.specs.declared.peer_stop.PeerStop.{PeerStop}
+use Rattle.script_run_texts.specs.Causes.{KeepsRecorder, KeepsSink, KeepsSource, SinkCause}
+use Rattle.script_run_texts.specs.declared.stop_cause.StopCause.{StopCause}
 use Rattle.sse_client.specs.Calls.{KeepsLink, LinkShows, Sends}
 use Rattle.sse_client.specs.Exchanges.{HasCut}
-use Rattle.sse_client.specs.Keeping.{SendsKept}
+use Rattle.sse_client.specs.RecordKept.{SendsKept}
 use Rattle.sse_client.specs.Stands.{Seen}
-use Rattle.run_texts.specs.declared.command_stop.CommandStop.{CommandStop}
+use Rattle.script_run_texts.specs.declared.command_stop.CommandStop.{CommandStop}
 use Rattle.sse_client.specs.Progress.{IsAnswered, IsUnanswered, IsOutside}
-use Rattle.run_texts.specs.Stops.{peer_cause}
+use Rattle.script_run_texts.specs.Stops.{peer_cause}
 use Rattle.sse_client.specs.Stops.{stop_of_link}
 
 -- nothing passed

@@ -24,26 +24,26 @@ use Rattle.sse_model.specs.Histories.{frames_of_next}
 use Rattle.sse_script.specs.Shown as says
 use Rattle.sse_script.specs.Shown.{Shown, Cause}
 use Rattle.sse_script.specs.declared.refusal.Refusal.{Refusal}
-use Rattle.line_documents.specs.Refused.{document_refusal}
-use Rattle.line_documents.specs.LineFaults.{SaysRefusal}
-use Rattle.line_documents.specs.declared.line_fault.LineFault.{LineFault}
-use Rattle.line_documents.specs.declared.line_fault.LineFault.TheVariants as lines
-use Rattle.script_meaning.specs.Carries.{Keeps, keys_at, with_answers, StopsIn}
-use Rattle.script_meaning.specs.Outcome.{Place, Outcome, Does, unless}
-use Rattle.script_meaning.specs.Refused.{add_refusal, delete_refusal}
-use Rattle.script_meaning.specs.Stops.{At}
+use Rattle.script_documents.specs.Refused.{document_refusal}
+use Rattle.script_documents.specs.LineFaults.{SaysRefusal}
+use Rattle.script_documents.specs.declared.line_fault.LineFault.{LineFault}
+use Rattle.script_documents.specs.declared.line_fault.LineFault.TheVariants as lines
+use Rattle.def_script_meaning.specs.Carries.{Keeps, keys_at, with_answers, StopsIn}
+use Rattle.def_script_meaning.specs.Outcome.{Place, Outcome, Does, unless}
+use Rattle.def_script_meaning.specs.Refused.{add_refusal, delete_refusal}
+use Rattle.def_script_meaning.specs.Stops.{At}
 use Rattle.sse_client.specs.Exchanges.{HasExchanged}
-use Rattle.sse_client.specs.Keeping.{SendsKept}
-use Rattle.run_texts.specs.LineResultViews.{line_result_view, refuses}
+use Rattle.sse_client.specs.RecordKept.{SendsKept}
+use Rattle.script_run_texts.specs.LineResultViews.{line_result_view, refuses}
 use Rattle.client_core.specs.Owes.{AreNumbered}
 use Rattle.sse_client.specs.Stands.{IsAt, Seen, GoesOn, outside_of}
-use Rattle.run_texts.specs.Stops.{command_cause, plan_cause}
-use Rattle.run_texts.specs.declared.command_stop.CommandStop.{CommandStop}
+use Rattle.script_run_texts.specs.Stops.{command_cause, plan_cause}
+use Rattle.script_run_texts.specs.declared.command_stop.CommandStop.{CommandStop}
 use Rattle.sse_client.specs.UpdateFaults.{refusal_in, update_of_line, update_of_command}
 use Rattle.sse_client.specs.UpdatePlans.{IsRefused, IsUpdateFault, IsUpdatePlan, IsPlanOf, clash_of}
-use Rattle.run_texts.specs.declared.line_result.LineResult.{LineResult}
-use Rattle.run_texts.specs.declared.plan_stop.PlanStop.{PlanStop}
-use Rattle.run_texts.specs.declared.plan_stop.PlanStop.TheVariants as plans
+use Rattle.script_run_texts.specs.declared.line_result.LineResult.{LineResult}
+use Rattle.script_run_texts.specs.declared.plan_stop.PlanStop.{PlanStop}
+use Rattle.script_run_texts.specs.declared.plan_stop.PlanStop.TheVariants as plans
 use Rattle.sse_client.specs.declared.session.Stage.TheVariants.{Searching}
 use Rattle.sse_client.specs.declared.update_fault.UpdateFault.{UpdateFault}
 use Rattle.sse_client.specs.declared.update_fault.UpdateFault.TheVariants as updates

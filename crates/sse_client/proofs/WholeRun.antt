@@ -6,29 +6,29 @@ use Rattle.std.proofs.lemmas.List.{append-nil}
 use Rattle.client_registry.specs.Histories.{empty}
 use Rattle.keyed_fn.specs.KeyedFn.{KeyedFn, IsKeyedFn}
 use Rattle.server_core.specs.State.{ServerState}
-use Rattle.sse_agreement.specs.Taking.{Expects}
-use Rattle.script_meaning.proofs.Headline.{honest_status, headline}
-use Rattle.script_meaning.proofs.Leaving.{run_leaves}
-use Rattle.script_meaning.proofs.Recorded.{recorded}
-use Rattle.script_meaning.specs.Recorded.{KeepsFirst, records_with}
-use Rattle.script_meaning.specs.Lines.{script_lines}
-use Rattle.script_meaning.proofs.Simulated.{sends_simulated}
-use Rattle.script_meaning.proofs.RunGoes.{goes}
-use Rattle.script_meaning.proofs.Within.{meaning_is_kept}
-use Rattle.script_meaning.specs.Headline.{IsOverHonest, IsUndisturbed, Headline, SendsSimulated}
-use Rattle.script_meaning.specs.Meaning.{meaning}
-use Rattle.script_meaning.specs.Session.{IsFree}
+use Rattle.def_agreement.specs.TakenFrames.{Expects}
+use Rattle.def_script_meaning.proofs.Headline.{honest_status, headline}
+use Rattle.def_script_meaning.proofs.LeftServers.{run_leaves}
+use Rattle.def_script_meaning.proofs.Recorded.{recorded}
+use Rattle.def_script_meaning.specs.Recorded.{KeepsFirst, records_with}
+use Rattle.def_script_meaning.specs.Lines.{script_lines}
+use Rattle.def_script_meaning.proofs.Simulated.{sends_simulated}
+use Rattle.def_script_meaning.proofs.RunGoes.{goes}
+use Rattle.def_script_meaning.proofs.Within.{meaning_is_kept}
+use Rattle.def_script_meaning.specs.Headline.{IsOverHonest, IsUndisturbed, Headline, SendsSimulated}
+use Rattle.def_script_meaning.specs.Meaning.{meaning}
+use Rattle.def_script_meaning.specs.Session.{IsFree}
 use Rattle.sse_script.specs.Shown.{Cause, NoMemory}
 use Rattle.sse_script.specs.TextLines.{lines_left}
-use Rattle.script_meaning.proofs.Steps.{ContinuesOpening-start, opens-reading, at_key-away, at_key-greeted}
-use Rattle.script_meaning.specs.Carries.{Outside}
-use Rattle.script_meaning.specs.Exchange.{Told}
-use Rattle.script_meaning.specs.Greeting.{Greets, TurnsAway}
-use Rattle.script_meaning.specs.Outcome.{opened}
-use Rattle.script_meaning.specs.Runs.{Ended, ended, moment, OpensFrom, OpensAtKey}
-use Rattle.script_meaning.specs.Stops as ends
-use Rattle.script_meaning.specs.Stops.{status_of, stop_text}
-use Rattle.run_texts.specs.declared.stop_cause.StopCause.{StopCause}
+use Rattle.def_script_meaning.proofs.Steps.{ContinuesOpening-start, opens-reading, at_key-away, at_key-greeted}
+use Rattle.def_script_meaning.specs.Carries.{Outside}
+use Rattle.def_script_meaning.specs.Exchange.{Told}
+use Rattle.def_script_meaning.specs.HelloExchange.{Greets, TurnsAway}
+use Rattle.def_script_meaning.specs.Outcome.{opened}
+use Rattle.def_script_meaning.specs.Runs.{Ended, ended, moment, OpensFrom, OpensAtKey}
+use Rattle.def_script_meaning.specs.Stops as ends
+use Rattle.def_script_meaning.specs.Stops.{status_of, stop_text}
+use Rattle.script_run_texts.specs.declared.stop_cause.StopCause.{StopCause}
 use Rattle.sse_client.specs.Stands.{Seen, seen, outside_of, stop_view, EndsFrom, OpensTo, HasRun, HasSimulatedRun, HasRecordedRun}
 use Rattle.sse_client.specs.Turns.{ending}
 use Rattle.sse_client.specs.declared.lines.Refusals.{Refusals}

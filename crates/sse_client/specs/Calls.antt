@@ -1,9 +1,9 @@
--- What a call over a link did, by what the link shows of itself before it and after it.
+-- The effect of a call over a link, by the link's observable parts before and after it.
 use Rattle.std.specs.Prelude.{◌≡◌, ℕ, List, [], Option, Result, Ok, Err, IfErr, OnOk}
-use Rattle.link_events.specs.Events.{Remote}
-use Rattle.run_texts.specs.Stops.{peer_cause}
-use Rattle.run_texts.specs.declared.peer_stop.PeerStop.{PeerStop}
-use Rattle.script_meaning.specs.Exchange.{Told}
+use Rattle.def_link_events.specs.Events.{Remote}
+use Rattle.script_run_texts.specs.Stops.{peer_cause}
+use Rattle.script_run_texts.specs.declared.peer_stop.PeerStop.{PeerStop}
+use Rattle.def_script_meaning.specs.Exchange.{Told}
 use Rattle.sse_client.specs.Exchanges.{HasExchanged, HasCut}
 use Rattle.sse_frames.specs.Frames.{FrameText}
 

@@ -1,5 +1,5 @@
--- A run that goes on where nothing stands in its way: what is supposed of its script, its records and its server, and what it did. And
--- which stop the script and the records alone make.
+-- A run that resumes with nothing in its way: the conditions on its script, its records and its server, and its effects. And the stops that follow
+-- from the script and the records only.
 use Rattle.std.specs.Prelude.{◌≡◌, ◌≢◌, ◌⊎◌, ◌≤◌, ℕ, false, List, [], take, Option, Some}
 use Rattle.client_core.specs.Resumes.{IsWithin}
 use Rattle.client_journal.specs.Recordings.{IsBadUnder}
@@ -10,16 +10,16 @@ use Rattle.keyed_fn.specs.KeyedFn.{KeyedFn}
 use Rattle.server_core.specs.State.{ServerState}
 use Rattle.sse_outside.specs.Kept.{Kept}
 use Rattle.sse_script.specs.Shown.{BadLine, BadRecord, WrongKey}
-use Rattle.script_meaning.specs.Carries.{Outside}
-use Rattle.script_meaning.specs.Continues.{at_run}
-use Rattle.script_meaning.specs.Headline.{IsOverHonest, IsUndisturbed}
-use Rattle.script_meaning.specs.Joined.{LeavesServer}
-use Rattle.script_meaning.specs.Lines.{Line, script_lines}
-use Rattle.script_meaning.specs.Meaning.{Meaning, follow}
-use Rattle.script_meaning.specs.Rejoins.{HasTaken, IsRecordedBehind, Rejoined}
-use Rattle.script_meaning.specs.Runs.{Ended}
-use Rattle.script_meaning.specs.Session.{IsFree}
-use Rattle.script_meaning.specs.Stops.{At}
+use Rattle.def_script_meaning.specs.Carries.{Outside}
+use Rattle.def_script_meaning.specs.Continues.{at_run}
+use Rattle.def_script_meaning.specs.Headline.{IsOverHonest, IsUndisturbed}
+use Rattle.def_script_meaning.specs.Joined.{LeavesServer}
+use Rattle.def_script_meaning.specs.Lines.{Line, script_lines}
+use Rattle.def_script_meaning.specs.Meaning.{Meaning, follow}
+use Rattle.def_script_meaning.specs.Rejoins.{HasTaken, IsRecordedBehind, Rejoined}
+use Rattle.def_script_meaning.specs.Runs.{Ended}
+use Rattle.def_script_meaning.specs.Session.{IsFree}
+use Rattle.def_script_meaning.specs.Stops.{At}
 use Rattle.sse_client.specs.KeyLines.{Keyed, Missing, key_line}
 
 -- the script has a key line; the records open to one history under its key; and a server in this state was sent the first frames of that

@@ -1,4 +1,4 @@
--- What the status of a run tells of the devices that it was lent.
+-- The status of a run and the fault counts of its devices.
 use Rattle.std.specs.Prelude.{◌≡◌, ◌≢◌, ◌≤◌, ℕ}
 use Rattle.sse_outside.specs.Causes.{Rose}
 

@@ -1,14 +1,14 @@
--- What a call over a link exchanged, and where it was cut.
+-- The exchange of a call over a link, and the place where it was cut.
 use Rattle.std.specs.Prelude.{◌≡◌, ◌≢◌, ℕ, List, [], ◌∷◌}
 use Rattle.client_registry.specs.Live.{in_order}
 use Rattle.keyed_fn.specs.KeyedFn.{KeyedFn}
 use Rattle.sse_frames.specs.Frames.{FrameText}
 use Rattle.sse_frames.specs.Replies.{NoMemory, reply_bytes}
 use Rattle.server_core.specs.State.{ServerState}
-use Rattle.link_events.specs.Events.{Event, Sent, Received}
-use Rattle.link_events.specs.Served.{Served, idle, IsServed}
+use Rattle.def_link_events.specs.Events.{Event, Sent, Received}
+use Rattle.def_link_events.specs.Served.{Served, idle, IsServed}
 use Rattle.sse_script.specs.Shown.{Cause}
-use Rattle.script_meaning.specs.Exchange.{Told, Adds, AreExchanged, AreCut}
+use Rattle.def_script_meaning.specs.Exchange.{Told, Adds, AreExchanged, AreCut}
 
 -- these frames were exchanged, the searches among them with these answers
 pub record HasExchanged (old new : Told) (answers : List (List ℕ)) (frames : List FrameText) : Type 0 where

@@ -1,6 +1,6 @@
--- The key line of a script, which is the first that isn't empty.
+-- The key line of a script, the first that isn't empty.
 use Rattle.std.specs.Prelude.{◌≡◌, ℕ, ◌+◌, List, [], ◌∷◌, Option, None, Some, IfSome}
-use Rattle.script_meaning.specs.Lines.{Line, Empty, Key, Command, lines_in}
+use Rattle.def_script_meaning.specs.Lines.{Line, Empty, Key, Command, lines_in}
 
 -- a script up to its key line: its key, the number of the line after it and the lines from there on; or none stands where it has to,
 -- as the line of this number shows

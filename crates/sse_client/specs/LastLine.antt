@@ -4,8 +4,8 @@ use Rattle.std.specs.Io.KnownBytes.{append_known}
 use Rattle.keyed_fn.specs.KeyedFn.{KeyedFn}
 use Rattle.sse_outside.specs.Causes.{Rose}
 use Rattle.sse_outside.specs.Fronts.{TookFront}
-use Rattle.script_meaning.specs.Carries.{Outside}
-use Rattle.script_meaning.specs.Stops.{stop_text}
+use Rattle.def_script_meaning.specs.Carries.{Outside}
+use Rattle.def_script_meaning.specs.Stops.{stop_text}
 use Rattle.sse_client.specs.Stands.{HasRun}
 
 -- a whole run, with its last line printed whole; nothing where it came to the end of its script

@@ -8,14 +8,14 @@ pub mod Exchanges
 pub mod Calls
 pub mod Steps
 pub mod Stands
-pub mod Keeping
+pub mod RecordKept
 pub mod Turns
 pub mod OverServer
 pub mod LastLine
 pub mod Devices
 pub mod KeyLines
-pub mod Resuming
-pub mod GoingOn
+pub mod NotResumed
+pub mod ResumedRun
 pub mod OnDisk
 pub mod CanGoOn
 pub mod OverStore

@@ -1,28 +1,28 @@
--- What a run does that keeps its records in a journal on a disk.
+-- A run that keeps its records in a journal on a disk.
 use Rattle.std.specs.Prelude.{◌≡◌, ◌≢◌, ◌⊎◌, ℕ, List, [], ◌++◌, Option, IfSome, option_map}
 use Rattle.client_journal.specs.Faults.{stop_of_records}
 use Rattle.client_journal.specs.Openings.{GivesSome, HasNoRecord, IsNoJournal}
 use Rattle.client_journal.specs.declared.faults.RecordsFault.{RecordsFault}
 use Rattle.client_journal.specs.declared.faults.RecordsFault.TheVariants as records
 use Rattle.keyed_fn.specs.KeyedFn.{KeyedFn}
-use Rattle.run_texts.specs.Causes.{InputCause}
-use Rattle.run_texts.specs.Stops.{input_cause, journal_cause, journal_status}
-use Rattle.run_texts.specs.declared.journal_stop.JournalStop.{JournalStop}
-use Rattle.run_texts.specs.declared.journal_stop.JournalStop.TheVariants as journals
-use Rattle.script_meaning.specs.Carries.{Outside}
-use Rattle.script_meaning.specs.Exchange.{Told}
-use Rattle.script_meaning.specs.Lines.{script_lines}
-use Rattle.script_meaning.specs.Runs.{Ended}
-use Rattle.script_meaning.specs.Stops as ends
-use Rattle.script_meaning.specs.Stops.{status_of}
+use Rattle.script_run_texts.specs.Causes.{InputCause}
+use Rattle.script_run_texts.specs.Stops.{input_cause, journal_cause, journal_status}
+use Rattle.script_run_texts.specs.declared.journal_stop.JournalStop.{JournalStop}
+use Rattle.script_run_texts.specs.declared.journal_stop.JournalStop.TheVariants as journals
+use Rattle.def_script_meaning.specs.Carries.{Outside}
+use Rattle.def_script_meaning.specs.Exchange.{Told}
+use Rattle.def_script_meaning.specs.Lines.{script_lines}
+use Rattle.def_script_meaning.specs.Runs.{Ended}
+use Rattle.def_script_meaning.specs.Stops as ends
+use Rattle.def_script_meaning.specs.Stops.{status_of}
 use Rattle.sse_journal.specs.FileRecords.{records_in_file}
 use Rattle.sse_journal.specs.Files.{Gives, GivesAs}
 use Rattle.sse_journal.specs.AnyMoment.{HasSynced, LeavesOnly}
 use Rattle.sse_outside.specs.Causes.{Rose}
 use Rattle.sse_outside.specs.Kept.{Kept}
-use Rattle.sse_recorder.specs.KeepsOn.{GivesFront, LeavesKept}
+use Rattle.client_recorder.specs.KeepsOn.{GivesFront, LeavesKept}
 use Rattle.sse_client.specs.CanGoOn.{IsRecordedAfter, StopsUnsent, IsHonestAfter, LeavesServerAfter, HasHeadlineAfter}
-use Rattle.sse_client.specs.GoingOn.{EndsLine, GoesOnOver}
+use Rattle.sse_client.specs.ResumedRun.{EndsLine, GoesOnOver}
 use Rattle.sse_client.specs.LastLine.{HasLastLine, HasShortLine, IsWholeOrRose}
 use Rattle.sse_client.specs.Stands.{seen, outside_of, HasRun, HasHonestStatus, HasSimulatedRun, HasRecordedRun, HasHeadline}
 use Rattle.sse_client.specs.declared.on_disk.HeldUp.{HeldUp}

@@ -1,15 +1,15 @@
--- What a run over a server in this process that had taken nothing does.
+-- A run over a fresh server in the same process.
 use Rattle.std.specs.Prelude.{◌≡◌, ◌≤◌, ℕ, List, [], ◌++◌, flat_map, take, Option, None, Some}
 use Rattle.std.specs.Io.KnownBytes.{append_known}
 use Rattle.keyed_fn.specs.KeyedFn.{KeyedFn}
 use Rattle.server_core.specs.State.{ServerState, at_first}
 use Rattle.sse_outside.specs.Kept.{Kept}
-use Rattle.script_meaning.specs.Carries.{Outside}
-use Rattle.script_meaning.specs.Exchange.{Told}
-use Rattle.script_meaning.specs.Headline.{IsOverHonest}
-use Rattle.script_meaning.specs.Meaning.{Meaning, meaning}
-use Rattle.script_meaning.specs.Session.{IsFree}
-use Rattle.script_meaning.specs.Stops.{status_of, stop_text}
+use Rattle.def_script_meaning.specs.Carries.{Outside}
+use Rattle.def_script_meaning.specs.Exchange.{Told}
+use Rattle.def_script_meaning.specs.Headline.{IsOverHonest}
+use Rattle.def_script_meaning.specs.Meaning.{Meaning, meaning}
+use Rattle.def_script_meaning.specs.Session.{IsFree}
+use Rattle.def_script_meaning.specs.Stops.{status_of, stop_text}
 use Rattle.sse_script.specs.Texts.{text_of}
 use Rattle.sse_client.specs.LastLine.{HasLastLine, HasShortLine}
 use Rattle.sse_client.specs.Stands.{seen, outside_of, HasRun}

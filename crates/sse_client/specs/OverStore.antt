@@ -1,57 +1,57 @@
--- What a run does whose client keeps its records in a file of its own, over a link to a store that tells its file too: all that the client
--- and the server hold at the end, on both sides, beside what passed and what was printed.
+-- A run whose client keeps its records in a file of its own, over a link to a store whose file is observable too. It says everything that the
+-- client and the server hold at the end, beside the traffic and the printed text.
 use Rattle.std.specs.Prelude.{◌≡◌, ℕ, List, [], ◌++◌, All, drop, Option, Some}
 use Rattle.client_registry.specs.Run.{Run}
 use Rattle.keyed_fn.specs.KeyedFn.{KeyedFn}
-use Rattle.link_events.specs.Events.{AreStepped}
-use Rattle.link_events.specs.Taken.{updates_among}
-use Rattle.script_meaning.specs.Carries.{Outside}
-use Rattle.script_meaning.specs.Headline.{Headline}
-use Rattle.script_meaning.specs.Meaning.{Meaning, meaning}
-use Rattle.script_meaning.specs.Rejoins.{Rejoined, frames_under}
-use Rattle.script_meaning.specs.Session.{IsFree, frames_of}
+use Rattle.def_link_events.specs.Events.{AreStepped}
+use Rattle.def_link_events.specs.Taken.{updates_among}
+use Rattle.def_script_meaning.specs.Carries.{Outside}
+use Rattle.def_script_meaning.specs.Headline.{Headline}
+use Rattle.def_script_meaning.specs.Meaning.{Meaning, meaning}
+use Rattle.def_script_meaning.specs.Rejoins.{Rejoined, frames_under}
+use Rattle.def_script_meaning.specs.Session.{IsFree, frames_of}
 use Rattle.server_core.specs.State.{ServerState}
-use Rattle.sse_agreement.specs.Taking.{Expects}
+use Rattle.def_agreement.specs.TakenFrames.{Expects}
 use Rattle.sse_frames.specs.Frames.{FrameText}
 use Rattle.sse_journal.specs.Files.{Gives, IsPayload, file}
-use Rattle.sse_link.specs.Told.{Told}
+use Rattle.sse_link.specs.LinkStates.{LinkState}
 use Rattle.sse_server.specs.Taken.{bodies}
 use Rattle.client_journal.specs.Openings.{GivesSome}
 use Rattle.sse_client.specs.CanGoOn.{CanResume, meaning_after}
 use Rattle.sse_client.specs.OnDisk.{kept_on, seen_with}
 
 -- what is seen of it: all that passed, the records of the client's file, and what the sink took
-abbrev pub seen_over : Told → (own : List ℕ) → (written : Option (List ℕ)) → Outside
+abbrev pub seen_over : LinkState → (own : List ℕ) → (written : Option (List ℕ)) → Outside
 seen_over told own written = seen_with (Some told.events) (Some own) written
 
 -- a store's file was a journal when the link to it began, and each frame that was sent since was answered by the server's step
-abbrev pub IsJournalled : Told → Type 0
+abbrev pub IsJournalled : LinkState → Type 0
 IsJournalled told = AreStepped told.events × ((payloads : List (List ℕ)) × All IsPayload payloads × (told.began_file ≡ Some (file payloads)))
 
 -- so it was, and is, and the file has behind the records of before the updates among these frames
-abbrev pub HasStoredUpdates : List FrameText → (old new : Told) → Type 0
+abbrev pub HasStoredUpdates : List FrameText → (old new : LinkState) → Type 0
 HasStoredUpdates frames old new =
     IsJournalled old → IsJournalled new × ((payloads : List (List ℕ)) × (old.file ≡ Some (file payloads)) × (new.file ≡ Some (file (payloads ++ bodies (updates_among frames)))))
 
 -- a script of this meaning was carried out (Headline): so the client's file has the records of its history, and the server is one that was
 -- sent its frames; and the updates among them are in the server's file
-pub record IsOnBothSides (f : KeyedFn) (m : Meaning) (old new : Told) (now last : Outside) (status : ℕ) : Type 0 where
+pub record IsOnBothSides (f : KeyedFn) (m : Meaning) (old new : LinkState) (now last : Outside) (status : ℕ) : Type 0 where
   pub headline : Headline f old.state m now last status new.state
   pub stored : HasStoredUpdates (frames_of f m) old new
 
 -- the same of a run that goes on (Rejoined), with the frames that the server lacked and those after them
-pub record IsRejoinedOnBothSides (f : KeyedFn) (start : ServerState) (key : List ℕ) (run : Run) (next : ℕ) (m : Meaning) (old new : Told) (now last : Outside) (status : ℕ) : Type 0 where
+pub record IsRejoinedOnBothSides (f : KeyedFn) (start : ServerState) (key : List ℕ) (run : Run) (next : ℕ) (m : Meaning) (old new : LinkState) (now last : Outside) (status : ℕ) : Type 0 where
   pub rejoined : Rejoined f start key run next m now last status new.state
   pub stored : HasStoredUpdates (drop next (frames_under f key m.history)) old new
 
 -- so it was where the client's file had no record, the server expected a setup, and the history has no collision
-abbrev pub BeginsOnBothSides : KeyedFn → (bytes : List ℕ) → (old new : Told) → (own own' : List ℕ) → (written written' : Option (List ℕ)) → (status : ℕ) → Type 0
+abbrev pub BeginsOnBothSides : KeyedFn → (bytes : List ℕ) → (old new : LinkState) → (own own' : List ℕ) → (written written' : Option (List ℕ)) → (status : ℕ) → Type 0
 BeginsOnBothSides f bytes old new own own' written written' status =
     Gives [] own → Expects 0 old.state → IsFree f (meaning bytes).key (meaning bytes).history
     → IsOnBothSides f (meaning bytes) old new (seen_over old own written) (seen_over new own' written') status
 
 -- and where a run went on, with the records of the file that it had and with the server as it was
-abbrev pub GoesOnOnBothSides : KeyedFn → (bytes : List ℕ) → (old new : Told) → (own own' : List ℕ) → (written written' : Option (List ℕ)) → (status : ℕ) → Type 0
+abbrev pub GoesOnOnBothSides : KeyedFn → (bytes : List ℕ) → (old new : LinkState) → (own own' : List ℕ) → (written written' : Option (List ℕ)) → (status : ℕ) → Type 0
 GoesOnOnBothSides f bytes old new own own' written written' status =
     GivesSome own → (can : CanResume f bytes (kept_on (Some own)) old.state) →
     let m = meaning_after can.key can.run can.number can.lines in

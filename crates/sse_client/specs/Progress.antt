@@ -1,10 +1,10 @@
 -- One frame and its first reply, or none.
 use Rattle.std.specs.Prelude.{◌≡◌, ◌⊎◌, ℕ, List, [], ◌∷◌, Option, Some, None}
 use Rattle.sse_frames.specs.Replies.{ReplyText, Next}
-use Rattle.link_events.specs.Events.{Event, Sent, Received}
-use Rattle.link_events.specs.declared.mark.Mark.{Mark}
+use Rattle.def_link_events.specs.Events.{Event, Sent, Received}
+use Rattle.def_link_events.specs.declared.mark.Mark.{Mark}
 use Rattle.sse_script.specs.Shown.{Cause, LinkFault, NoMemory}
-use Rattle.script_meaning.specs.Exchange.{Told, Adds}
+use Rattle.def_script_meaning.specs.Exchange.{Told, Adds}
 
 -- these bytes were sent, and this reply to them received
 abbrev pub IsAnswered : Told → Told → (frame reply : List ℕ) → Type 0

@@ -1,11 +1,11 @@
--- What it means that a setup can't be planned.
+-- The outcome of a setup that can't be planned.
 use Rattle.std.specs.Prelude.{Result, Ok, Err}
 use Rattle.index_setup.specs.declared.fault.BuildFault.{BuildFault}
 use Rattle.index_setup.specs.declared.fault.BuildFault.TheVariants as builds
 use Rattle.sse_script.specs.declared.refusal.Refusal.{Refusal}
 use Rattle.sse_script.specs.declared.refusal.Refusal.TheVariants as refusals
-use Rattle.run_texts.specs.declared.plan_stop.PlanStop.{PlanStop}
-use Rattle.run_texts.specs.declared.plan_stop.PlanStop.TheVariants as plans
+use Rattle.script_run_texts.specs.declared.plan_stop.PlanStop.{PlanStop}
+use Rattle.script_run_texts.specs.declared.plan_stop.PlanStop.TheVariants as plans
 
 -- its size refuses its command; equal labels, equal places and want of memory stop the run
 abbrev pub setup_answer : BuildFault → Result Refusal PlanStop

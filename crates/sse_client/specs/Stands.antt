@@ -1,4 +1,4 @@
--- Where a session stands in its script, what it does with a command there, and how a run ends.
+-- The place of a session in its script, the effect of a command there, and the end of a run.
 use Rattle.std.specs.Prelude.{◌≡◌, ◌≢◌, ◌≤◌, Bool, true, false, List, [], ◌∷◌, ℕ, map, Option, Some, None}
 use Rattle.client_core.specs.StandsFor.{StandsFor}
 use Rattle.client_registry.specs.Acceptance.{size_refusal}
@@ -8,35 +8,35 @@ use Rattle.client_registry.specs.Run.{History, Run, at_first}
 use Rattle.client_registry.specs.Setup.{setup_with}
 use Rattle.keyed_fn.specs.KeyedFn.{KeyedFn}
 use Rattle.server_core.specs.State.{ServerState}
-use Rattle.sse_agreement.specs.Taking.{Expects}
-use Rattle.script_meaning.specs.Headline.{IsOverHonest, IsUndisturbed, Headline, SendsSimulated}
-use Rattle.script_meaning.specs.Meaning.{meaning}
-use Rattle.script_meaning.specs.Session.{IsFree}
+use Rattle.def_agreement.specs.TakenFrames.{Expects}
+use Rattle.def_script_meaning.specs.Headline.{IsOverHonest, IsUndisturbed, Headline, SendsSimulated}
+use Rattle.def_script_meaning.specs.Meaning.{meaning}
+use Rattle.def_script_meaning.specs.Session.{IsFree}
 use Rattle.sse_script.specs.Shown.{Cause, BadWords, NoMemory}
 use Rattle.sse_model.specs.Epochs.{keys_under}
-use Rattle.script_meaning.specs.Carries.{Keeps, Outside, keys_at, records_by, with_answers, IsSent, Carries, StopsIn}
+use Rattle.def_script_meaning.specs.Carries.{Keeps, Outside, keys_at, records_by, with_answers, IsSent, Carries, StopsIn}
 use Rattle.sse_outside.specs.Kept.{Kept}
-use Rattle.script_meaning.specs.Exchange.{Told}
-use Rattle.script_meaning.specs.Joined.{LeavesServer}
-use Rattle.script_meaning.specs.Lines.{Request, script_lines}
-use Rattle.script_meaning.specs.Outcome.{Place, Outcome, outcome, after, shown_by, is_refusal}
-use Rattle.line_documents.specs.Refused.{bad_word}
-use Rattle.script_meaning.specs.Recorded.{IsRecorded}
-use Rattle.script_meaning.specs.Refused.{delete_refusal}
-use Rattle.script_meaning.specs.Runs.{Ended, ended, Opens, Ends, Moment, RunsFrom, OpensFrom}
-use Rattle.script_meaning.specs.Stops as ends
-use Rattle.script_meaning.specs.Stops.{status_of}
+use Rattle.def_script_meaning.specs.Exchange.{Told}
+use Rattle.def_script_meaning.specs.Joined.{LeavesServer}
+use Rattle.def_script_meaning.specs.Lines.{Request, script_lines}
+use Rattle.def_script_meaning.specs.Outcome.{Place, Outcome, outcome, after, shown_by, is_refusal}
+use Rattle.script_documents.specs.Refused.{bad_word}
+use Rattle.def_script_meaning.specs.Recorded.{IsRecorded}
+use Rattle.def_script_meaning.specs.Refused.{delete_refusal}
+use Rattle.def_script_meaning.specs.Runs.{Ended, ended, Opens, Ends, Moment, RunsFrom, OpensFrom}
+use Rattle.def_script_meaning.specs.Stops as ends
+use Rattle.def_script_meaning.specs.Stops.{status_of}
 use Rattle.sse_script.specs.Lines.{Line, Doc, SetupLine, AddLine, Del, Find}
 use Rattle.sse_client.specs.Stages.{key_of, hash_keys_of, hash_keys_under}
-use Rattle.run_texts.specs.LineResultViews.{line_result_view, refuses}
-use Rattle.run_texts.specs.Stops.{command_cause, input_cause}
-use Rattle.run_texts.specs.declared.line_result.LineResult.{LineResult}
+use Rattle.script_run_texts.specs.LineResultViews.{line_result_view, refuses}
+use Rattle.script_run_texts.specs.Stops.{command_cause, input_cause}
+use Rattle.script_run_texts.specs.declared.line_result.LineResult.{LineResult}
 use Rattle.sse_client.specs.declared.lines.Refusals.{Refusals}
 use Rattle.sse_client.specs.declared.lines.Refusals.TheVariants as refusals
 use Rattle.sse_client.specs.declared.session.Stage.{Stage}
 use Rattle.sse_client.specs.declared.session.Stage.TheVariants.{Collecting, Searching}
-use Rattle.run_texts.specs.declared.stop_cause.StopCause.{StopCause}
-use Rattle.run_texts.specs.declared.stop_cause.StopCause.TheVariants as stops
+use Rattle.script_run_texts.specs.declared.stop_cause.StopCause.{StopCause}
+use Rattle.script_run_texts.specs.declared.stop_cause.StopCause.TheVariants as stops
 
 -- a session that is set up stands for this run
 abbrev pub IsReady : KeyedFn → List ℕ → Run → Stage → Type 0

@@ -1,15 +1,15 @@
--- How far the sending of an update's frames is, and what the sending of the next one does.
+-- The progress of sending an update's frames, and the effect of sending the next one.
 use Rattle.std.specs.Prelude.{◌≡◌, ◌<◌, ◌++◌, List, [], map, drop, Result, Ok, Err}
 use Rattle.client_core.specs.Owes.{AreNumbered}
-use Rattle.client_core.specs.Sending.{first_number, frames_left, to_send}
+use Rattle.client_core.specs.TakenViews.{first_number, frames_left, to_send}
 use Rattle.client_core.specs.declared.behind.Behind.{Behind}
 use Rattle.client_core.specs.declared.client.Client.{Client}
-use Rattle.run_texts.specs.Stops.{peer_cause}
-use Rattle.run_texts.specs.declared.peer_stop.PeerStop.{PeerStop}
-use Rattle.script_meaning.specs.Exchange.{Told}
+use Rattle.script_run_texts.specs.Stops.{peer_cause}
+use Rattle.script_run_texts.specs.declared.peer_stop.PeerStop.{PeerStop}
+use Rattle.def_script_meaning.specs.Exchange.{Told}
 use Rattle.sse_client.specs.Exchanges.{HasExchanged, HasCut}
-use Rattle.sse_client.specs.declared.sending.Step.{Step}
-use Rattle.sse_client.specs.declared.sending.Step.TheVariants as steps
+use Rattle.sse_client.specs.declared.frame_exchange.Step.{Step}
+use Rattle.sse_client.specs.declared.frame_exchange.Step.TheVariants as steps
 use Rattle.sse_frames.specs.Frames.{FrameText, frame_bytes}
 
 -- frames that an update is to send

@@ -2,8 +2,8 @@
 use Rattle.std.specs.Prelude.{ℕ, List, take}
 use Rattle.client_replies.specs.declared.reply_fault.ReplyFault.{ReplyFault}
 use Rattle.client_replies.specs.declared.reply_fault.ReplyFault.TheVariants as faults
-use Rattle.run_texts.specs.declared.peer_stop.PeerStop.{PeerStop}
-use Rattle.run_texts.specs.declared.peer_stop.PeerStop.TheVariants as peers
+use Rattle.script_run_texts.specs.declared.peer_stop.PeerStop.{PeerStop}
+use Rattle.script_run_texts.specs.declared.peer_stop.PeerStop.TheVariants as peers
 use Rattle.sse_link.specs.declared.link_fault.LinkFault.{LinkFault as FaultOfLink}
 use Rattle.sse_link.specs.declared.link_fault.LinkFault.TheVariants as links
 use Rattle.sse_script.specs.Shown.{Cause, LinkFault, NoMemory, Clash, BadReply}

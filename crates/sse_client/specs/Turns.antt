@@ -1,11 +1,11 @@
--- What the loop over the lines does: one turn of it, and where a session stands after it.
+-- One turn of the loop over the lines, and the place of a session after it.
 use Rattle.std.specs.Prelude.{◌≡◌, ℕ, ◌+◌, Bool, List, Option, Result, Ok, Err}
 use Rattle.keyed_fn.specs.KeyedFn.{KeyedFn}
-use Rattle.run_texts.specs.declared.stop_cause.StopCause.{StopCause}
-use Rattle.script_meaning.specs.Carries.{Outside}
-use Rattle.script_meaning.specs.Outcome.{Place}
-use Rattle.script_meaning.specs.Runs.{Ended, Moment, moment, RunsFrom}
-use Rattle.script_meaning.specs.Stops as ends
+use Rattle.script_run_texts.specs.declared.stop_cause.StopCause.{StopCause}
+use Rattle.def_script_meaning.specs.Carries.{Outside}
+use Rattle.def_script_meaning.specs.Outcome.{Place}
+use Rattle.def_script_meaning.specs.Runs.{Ended, Moment, moment, RunsFrom}
+use Rattle.def_script_meaning.specs.Stops as ends
 use Rattle.sse_script.specs.TextLines.{lines_left}
 use Rattle.sse_client.specs.Stands.{IsAt, stop_view, has_refused, EndsFrom}
 use Rattle.sse_client.specs.declared.lines.Refusals.{Refusals}

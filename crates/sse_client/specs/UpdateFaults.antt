@@ -1,12 +1,12 @@
--- What it means that an update can't be planned.
+-- The outcome of an update that can't be planned.
 use Rattle.std.specs.Prelude.{Option, None, Some}
 use Rattle.client_core.specs.declared.command_fault.CommandFault.{CommandFault}
 use Rattle.client_core.specs.declared.command_fault.CommandFault.TheVariants as commands
 use Rattle.sse_script.specs.declared.refusal.Refusal.{Refusal}
 use Rattle.sse_script.specs.declared.refusal.Refusal.TheVariants.{AlreadyLive, UnknownDocument, CounterFull, HistoryFull}
-use Rattle.line_documents.specs.declared.line_fault.LineFault.{LineFault}
-use Rattle.line_documents.specs.declared.line_fault.LineFault.TheVariants as lines
-use Rattle.run_texts.specs.declared.plan_stop.PlanStop.TheVariants as plans
+use Rattle.script_documents.specs.declared.line_fault.LineFault.{LineFault}
+use Rattle.script_documents.specs.declared.line_fault.LineFault.TheVariants as lines
+use Rattle.script_run_texts.specs.declared.plan_stop.PlanStop.TheVariants as plans
 use Rattle.sse_client.specs.declared.update_fault.UpdateFault.{UpdateFault}
 use Rattle.sse_client.specs.declared.update_fault.UpdateFault.TheVariants.{Refused, Stopped}
 

@@ -1,4 +1,4 @@
--- What the plan of an update says of the place where it is made.
+-- The plan of an update, at the place where it is made.
 use Rattle.std.specs.Prelude.{◌≡◌, ◌⊎◌, [], ◌∷◌, map, option_map, Option, None, Some, Result, Err, IfOk, IfErr}
 use Rattle.client_core.specs.Updates.{command_of_update}
 use Rattle.client_core.specs.declared.planned_update.PlannedUpdate.{PlannedUpdate}
@@ -8,10 +8,10 @@ use Rattle.sse_frames.specs.Frames.{frame_bytes}
 use Rattle.sse_model.specs.Histories.{frames_of_next, collision_of_next}
 use Rattle.sse_script.specs.Shown.{Cause}
 use Rattle.sse_script.specs.declared.refusal.Refusal.{Refusal}
-use Rattle.script_meaning.specs.Carries.{collision_cause, keys_at}
-use Rattle.script_meaning.specs.Outcome.{Place}
-use Rattle.run_texts.specs.Stops.{plan_cause}
-use Rattle.run_texts.specs.declared.plan_stop.PlanStop.TheVariants as plans
+use Rattle.def_script_meaning.specs.Carries.{collision_cause, keys_at}
+use Rattle.def_script_meaning.specs.Outcome.{Place}
+use Rattle.script_run_texts.specs.Stops.{plan_cause}
+use Rattle.script_run_texts.specs.declared.plan_stop.PlanStop.TheVariants as plans
 use Rattle.sse_client.specs.declared.update_fault.UpdateFault.{UpdateFault}
 use Rattle.sse_client.specs.declared.update_fault.UpdateFault.TheVariants as updates
 

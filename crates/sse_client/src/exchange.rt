@@ -1,10 +1,10 @@
 ghost use Rattle.std.specs.Prelude.{◌≡◌, ◌≢◌, ◌<◌, ◌^◌, ℕ, [], ◌∷◌, true, Some, IfErr, IfOk, IfSome, OnOk};
-ghost use Rattle.link_events.specs.Events.{Sent};
-ghost use Rattle.link_events.specs.declared.mark.Mark.{Mark};
-ghost use Rattle.run_texts.specs.Causes.{PeerCause};
-ghost use Rattle.run_texts.specs.Stops.{peer_cause};
-ghost use Rattle.script_meaning.specs.Exchange.{Adds};
-ghost use Rattle.script_meaning.specs.Greeting.{Greets, TurnsAway};
+ghost use Rattle.def_link_events.specs.Events.{Sent};
+ghost use Rattle.def_link_events.specs.declared.mark.Mark.{Mark};
+ghost use Rattle.script_run_texts.specs.Causes.{PeerCause};
+ghost use Rattle.script_run_texts.specs.Stops.{peer_cause};
+ghost use Rattle.def_script_meaning.specs.Exchange.{Adds};
+ghost use Rattle.def_script_meaning.specs.HelloExchange.{Greets, TurnsAway};
 ghost use Rattle.sse_client.specs.Calls.{shows, KeepsLink};
 ghost use Rattle.sse_client.specs.Progress.{IsAnswered, IsUnanswered, next_number};
 ghost use Rattle.sse_frames.specs.Frames.{Hello, IsFrame, frame_bytes};
@@ -15,7 +15,7 @@ ghost use Rattle.sse_outside.specs.Causes.{Rose};
 use crate::peer_fault::{stop_of_link, stop_of_reply};
 use crate::reply_buffer::ReplyBuffer;
 use client_replies::fault_of;
-use run_texts::PeerStop;
+use script_run_texts::PeerStop;
 use sse_frames::{Frame, Reply, read_reply, write_frame};
 use sse_link::Link;
 use std::alloc::Global;
@@ -72,6 +72,8 @@ pub(crate) fn hello<L: Link>(
     }
 }
 
+// Promise P144 (inside): The greeting, a setup, an update and a search exchange exactly their frames, or are cut for a visible cause.
+//   clauses: opened, turned_away; assumes: observable devices, earlier calls; not: Out of memory is no visible cause.
 /// Opens the session of a history that begins, with a server that has taken nothing of one: the update that it expects has number 0.
 pub(crate) fn greet<L: Link>(
     alloc: Global,

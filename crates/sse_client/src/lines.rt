@@ -1,25 +1,25 @@
 ghost use Rattle.std.specs.Prelude.{◌≡◌, ◌≤◌, ◌<◌, ◌+◌, ◌^◌, ◌||◌, IfOk};
 ghost use Rattle.std.specs.Io.KnownBytes.{IsAtEnd};
 ghost use Rattle.keyed_fn.specs.KeyedFn.{keyed_fn};
-ghost use Rattle.run_texts.specs.Causes.{KeepsRecorder, KeepsSink, KeepsSource, LinkCause, RecorderCause, SourceCause};
-ghost use Rattle.script_meaning.specs.Outcome.{Place};
-ghost use Rattle.script_meaning.specs.Runs.{moment};
+ghost use Rattle.script_run_texts.specs.Causes.{KeepsRecorder, KeepsSink, KeepsSource, LinkCause, RecorderCause, SourceCause};
+ghost use Rattle.def_script_meaning.specs.Outcome.{Place};
+ghost use Rattle.def_script_meaning.specs.Runs.{moment};
 ghost use Rattle.sse_client.specs.Calls.{shows, KeepsLink};
-ghost use Rattle.sse_client.specs.Keeping.{StaysWhole, WholeAtStop};
+ghost use Rattle.sse_client.specs.RecordKept.{StaysWhole, WholeAtStop};
 ghost use Rattle.sse_client.specs.Stages.{key_of};
 ghost use Rattle.sse_client.specs.Stands.{IsAt, seen, outside_of, has_refused, EndsFrom};
 ghost use Rattle.sse_client.specs.Turns.{ending, IfNext, OnEnd, Turns};
-ghost use Rattle.sse_recorder.specs.KeepsOn.{KeepsOn};
+ghost use Rattle.client_recorder.specs.KeepsOn.{KeepsOn};
 ghost use Rattle.sse_script.specs.TextLines.{bytes_to_come, lines_left};
 
 use crate::reply_buffer::ReplyBuffer;
 use crate::session::{Stage, take_line};
 use crate::tools::Tools;
+use client_recorder::Recorder;
 use keyed_fn::Keyed;
-use run_texts::{Input, InputStop, StopCause};
+use script_run_texts::{Input, InputStop, StopCause};
 use sse_link::Link;
 use sse_outside::{Sink, Source};
-use sse_recorder::Recorder;
 use sse_script::Line;
 
 /// Whether a command was refused.
@@ -57,6 +57,8 @@ enum Turn {
     End(Refusals),
 }
 
+// Promise P138 (inside): From any place, the lines after the key line, and a script before it, run as their meaning says, with the answers received.
+//   clauses: ends; assumes: observable devices, earlier calls
 /// Carries out the lines after the key line, and prints what each comes to.
 pub(crate) fn run_lines<K: Keyed, L: Link, R: Recorder, S: Source, W: Sink>(
     tools: &Tools<'_, K>,
@@ -88,6 +90,7 @@ pub(crate) fn run_lines<K: Keyed, L: Link, R: Recorder, S: Source, W: Sink>(
     }
 }
 
+// Promise P138, also here; clauses: turns
 /// Reads the next line and carries it out.
 fn take_turn<K: Keyed, L: Link, R: Recorder, S: Source, W: Sink>(
     tools: &Tools<'_, K>,

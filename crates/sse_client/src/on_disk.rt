@@ -5,11 +5,11 @@ ghost use Rattle.client_journal.specs.Openings.{GivesSome, HasNoRecord, IsNoJour
 ghost use Rattle.client_rebuild.specs.Recalls.{hash_keys_of};
 ghost use Rattle.client_registry.specs.Run.{Run};
 ghost use Rattle.keyed_fn.specs.KeyedFn.{keyed_fn};
-ghost use Rattle.run_texts.specs.Causes.{KeepsRecorder, KeepsSource};
-ghost use Rattle.run_texts.specs.Words as asks;
-ghost use Rattle.script_meaning.specs.Exchange.{Told};
+ghost use Rattle.script_run_texts.specs.Causes.{KeepsRecorder, KeepsSource};
+ghost use Rattle.script_run_texts.specs.Words as asks;
+ghost use Rattle.def_script_meaning.specs.Exchange.{Told};
 ghost use Rattle.sse_client.specs.Devices.{TellsDevices};
-ghost use Rattle.sse_client.specs.GoingOn.{GoesOnTo, Restores};
+ghost use Rattle.sse_client.specs.ResumedRun.{GoesOnTo, Restores};
 ghost use Rattle.sse_client.specs.KeyLines.{FindsKey};
 ghost use Rattle.sse_client.specs.OnDisk.{HasBegun, HasGoneOn, HeldCause, HeldSource, IsNotBegun, IsNotReopened, IsUnopened, KeepsOnDisk, KeepsOnStarted, Lasts, LeavesAsBefore, held_stop, kept_on, seen_with};
 ghost use Rattle.sse_client.specs.Stages.{hash_keys_under};
@@ -22,19 +22,19 @@ ghost use Rattle.sse_script.specs.Shown.{Stopped, BadWords};
 ghost use Rattle.sse_script.specs.TextLines.{bytes_to_come, lines_left};
 ghost use Rattle.sse_script.specs.Texts.{text_of};
 
-use crate::going_on::{Restart, gone_on};
+use crate::resumed_run::{Restart, gone_on};
 use crate::run::{key_line, whole_run};
 use crate::tools::Tools;
 use client_core::Restored;
 use client_journal::{RecordsFault, begin, rebuild, reopen};
+use client_recorder::JournalRecorder;
 use keyed_fn::Keyed;
-use run_texts::{
+use script_run_texts::{
     DiskMode, Input, InputStop, JournalStop, StopCause, disk_mode_of, finish, finish_unopened,
 };
 use sse_journal::Journal;
 use sse_link::Link;
 use sse_outside::{Disk, Sink, Source};
-use sse_recorder::JournalRecorder;
 use std::alloc::{AllocError, Global};
 
 /// Why a run that is to go on doesn't come to its lines.
@@ -67,7 +67,7 @@ impl From<RecordsFault> for HeldUp {
 }
 
 impl From<AllocError> for HeldUp {
-    ghost use Rattle.run_texts.specs.declared.input_stop.InputStop.TheVariants.{Memory};
+    ghost use Rattle.script_run_texts.specs.declared.input_stop.InputStop.TheVariants.{Memory};
     ghost use Rattle.sse_client.specs.declared.on_disk.HeldUp.TheVariants.{Input as input};
 
     ghost from_gives = { λ _ held. held ≡ input Memory };
@@ -128,6 +128,25 @@ fn restored<'a, K: Keyed, D: Disk, S: Source>(
     }
 }
 
+// Promise P10, also here; clauses: source_failed, source_steady, sink_failed, sink_steady, link_failed, link_steady, disk_failed, disk_steady, at_end, known
+// Promise P11, also here; clauses: words_status, words_source, words_link, words_disk, words_line
+// Promise P14 (user): `run` makes a whole run that keeps its records in the journal, or sends nothing and says why: records, no journal, disk or memory.
+//   clauses: begun, run_refused; fields: IsUnopened.stop, IsUnopened.unsent, IsUnopened.unkept, HasBegun.run, HasBegun.recorded, HasBegun.honest, HasBegun.headline, HasBegun.line;
+//     assumes: observable devices; checks: .ci/turns; not: A real disk isn't observable: any records may have been there.
+// Promise P15 (user): `more` resends the last command's missing frames and continues the history that the journal's records make, or stops and says why.
+//   clauses: more, more_refused; fields: HasGoneOn.goes_on, HasGoneOn.unsent, IsUnopened.unsent; assumes: observable devices; checks: .ci/turns; not: That the server holds the frames
+//     before the number it says: its word is taken. A server that lost frames of earlier commands ends the run with 9.
+// Promise P16 (user): An undisturbed `more` prints `resumed`, then its script's lines; searches list the live documents of both sessions that hold the word.
+//   clauses: more; fields: HasGoneOn.headline, HasGoneOn.honest, Rejoined.printed, Rejoined.passed, Rejoined.kept, Rejoined.stored; assumes: observable devices, resumable state, honest
+//     link, no collision, no device fault, enough memory; checks: .ci/turns; not: That the frames are the simulator's: no clause says it of a resumed session (P24 is of `run`). A server
+//     that lost acknowledged frames.
+// Promise P17, also here; clauses: begun, more, more_accepted
+// Promise P19 (user): If a file's records don't fit the script's key, `more` ends with 10 or 11 and names the right cause.
+//   clauses: more_accepted, more; fields: StopsUnsent.no_key, StopsUnsent.bad_record, StopsUnsent.wrong_key; assumes: observable devices, no device fault, enough memory; not: A missing
+//     key line ends with 2 and its number. 7 is always free.
+// Promise P20 (user): From the first successful sync, a crash during a run leaves the file's earlier records and then the run's first ones, in order.
+//   clauses: begun, more, more_accepted, lasts; fields: KeepsWhat.grows, KeepsWhat.meanwhile, KeepsWhat.leaves; assumes: observable devices, disk model; checks: .ci/journal, .ci/crash;
+//     not: Whether a crash leaves a refused record. The bytes of the client's file: only the records that it gives are claimed.
 /// All that a client program does that keeps its records on a disk: with `run` it begins a history, and the journal must have no
 /// record; with `more` it goes on with the history of the records that the journal has.
 pub fn run_on_disk<K: Keyed, L: Link, D: Disk, S: Source, W: Sink>(

@@ -2,10 +2,10 @@ ghost use Rattle.std.specs.Prelude.{◌≡◌, ◌≢◌, ◌⊎◌, ◌≤◌, 
 ghost use Rattle.std.specs.Io.KnownBytes.{IsAtEnd};
 ghost use Rattle.client_journal.specs.Openings.{GivesSome, HasNoRecord, IsNoJournal};
 ghost use Rattle.keyed_fn.specs.KeyedFn.{keyed_fn};
-ghost use Rattle.link_events.specs.Served as links;
-ghost use Rattle.memory_disk.specs.SteadyDisk.{file_of, images_of, moment_of, left_since_of};
-ghost use Rattle.run_texts.specs.Words as asks;
-ghost use Rattle.script_meaning.specs.Headline.{IsOverHonest};
+ghost use Rattle.def_link_events.specs.Served as links;
+ghost use Rattle.outside_memory_disk.specs.SteadyDisk.{file_of, images_of, moment_of, left_since_of};
+ghost use Rattle.script_run_texts.specs.Words as asks;
+ghost use Rattle.def_script_meaning.specs.Headline.{IsOverHonest};
 ghost use Rattle.sse_client.specs.OnDisk.{HasBegun, HasGoneOn, IsNotBegun, IsNotReopened, IsUnopened, KeepsOnDisk, Lasts, LeavesAsBefore};
 ghost use Rattle.sse_client.specs.OverStore.{BeginsOnBothSides, GoesOnOnBothSides, seen_over};
 ghost use Rattle.sse_client.specs.Stands.{outside_of, seen};
@@ -17,12 +17,16 @@ ghost use Rattle.sse_script.specs.Texts.{text_of};
 
 use crate::on_disk::run_on_disk;
 use keyed_fn::Keyed;
-use memory_disk::SteadyDisk;
+use outside_memory_disk::SteadyDisk;
 use server_tables::Tables;
 use sse_link::SteadyStoreLoopback;
 use sse_outside::{Disk, Sink, Source};
 use std::alloc::Global;
 
+// Promise P18 (user): Over a store in the same process, an undisturbed run leaves its records in the client's file and its updates in the server's.
+//   clauses: headline, rejoined, over, honest, stored, no_fault; fields: IsOnBothSides.headline, IsOnBothSides.stored, IsRejoinedOnBothSides.rejoined, IsRejoinedOnBothSides.stored;
+//     assumes: observable devices, no collision, no device fault, enough memory; not: Any shipped program: none calls this function. `run` assumes a client file without records and a
+//     server that expects a setup; `more` a resumable state. The server's file: if it was a journal when the link began.
 /// The same as `run_on_disk` for a client's disk in memory, over a link to a store in this process with a disk of its own, whatever passed
 /// over it before: neither disk fails, nor does the link, and all that passes over it is honest.
 ///

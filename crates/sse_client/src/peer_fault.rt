@@ -1,10 +1,10 @@
 ghost use Rattle.std.specs.Prelude.{◌≡◌};
-ghost use Rattle.run_texts.specs.Stops.{peer_cause};
+ghost use Rattle.script_run_texts.specs.Stops.{peer_cause};
 ghost use Rattle.sse_client.specs.Stops as links;
 ghost use Rattle.sse_client.specs.Stops.{cause_of_fault};
 
 use client_replies::ReplyFault;
-use run_texts::{PeerStop, ReplyStart};
+use script_run_texts::{PeerStop, ReplyStart};
 use sse_link::LinkFault;
 
 /// What a fault that was found in these reply bytes means for the run.

@@ -1,15 +1,15 @@
 ghost use Rattle.std.specs.Prelude.{◌≡◌, ◌≢◌, ◌↔◌, ◌++◌, ◌∷◌, [], true, IsTrue, IfErr, IfOk, OnErr, OnOk};
 ghost use Rattle.std.specs.Option.{option_map};
-ghost use Rattle.link_events.specs.Events.{Received};
-ghost use Rattle.run_texts.specs.Causes.{PeerCause};
-ghost use Rattle.run_texts.specs.Stops.{peer_cause};
+ghost use Rattle.def_link_events.specs.Events.{Received};
+ghost use Rattle.script_run_texts.specs.Causes.{PeerCause};
+ghost use Rattle.script_run_texts.specs.Stops.{peer_cause};
 ghost use Rattle.sse_client.specs.Progress.{IsOutside};
 ghost use Rattle.sse_frames.specs.Replies.{StoreFault, reply_bytes};
 ghost use Rattle.sse_link.specs.Due.{IsOpenPage};
 ghost use Rattle.sse_outside.specs.Causes.{Rose};
 
 use crate::peer_fault::stop_of_link;
-use run_texts::PeerStop;
+use script_run_texts::PeerStop;
 use sse_frames::REPLY_ROOM;
 use sse_link::Link;
 use std::alloc::{AllocError, Global};

@@ -2,40 +2,40 @@ ghost use Rattle.std.specs.Prelude.{◌≡◌, ◌≤◌, ◌^◌, ℕ, List, []
 ghost use Rattle.std.specs.List.{AllByRecursion};
 ghost use Rattle.client_registry.specs.Setup.{setup_with};
 ghost use Rattle.keyed_fn.specs.KeyedFn.{KeyedFn, keyed_fn};
-ghost use Rattle.run_texts.specs.Causes.{CommandCause, KeepCommandCause, KeepsRecorder};
+ghost use Rattle.script_run_texts.specs.Causes.{CommandCause, KeepCommandCause, KeepsRecorder};
 ghost use Rattle.client_core.specs.Payloads.{setup_payload};
-ghost use Rattle.sse_client.specs.Keeping.{SendsKept, StaysWhole, WholeAt};
+ghost use Rattle.sse_client.specs.RecordKept.{SendsKept, StaysWhole, WholeAt};
 ghost use Rattle.sse_outside.specs.Kept.{Kept};
-ghost use Rattle.run_texts.specs.LineWords.{words_in};
-ghost use Rattle.run_texts.specs.LineResultViews.{line_result_view, refuses};
-ghost use Rattle.run_texts.specs.Stops.{command_cause};
-ghost use Rattle.script_meaning.specs.Lines as requests;
-ghost use Rattle.script_meaning.specs.Lines.{Request, line_read};
+ghost use Rattle.script_run_texts.specs.LineWords.{words_in};
+ghost use Rattle.script_run_texts.specs.LineResultViews.{line_result_view, refuses};
+ghost use Rattle.script_run_texts.specs.Stops.{command_cause};
+ghost use Rattle.def_script_meaning.specs.Lines as requests;
+ghost use Rattle.def_script_meaning.specs.Lines.{Request, line_read};
 ghost use Rattle.sse_client.specs.Calls.{shows, KeepsLink};
 ghost use Rattle.client_core.specs.Owes.{AreNumbered};
 ghost use Rattle.sse_client.specs.SetupFaults.{setup_answer};
 ghost use Rattle.sse_client.specs.Stages.{key_of, hash_keys_of};
 ghost use Rattle.sse_client.specs.Stands.{IsReady, MayStop, Seen, seen, Takes, StopsWithin};
 ghost use Rattle.sse_frames.specs.Frames.{FrameText, IsFrame, frame_bytes};
-ghost use Rattle.sse_recorder.specs.KeepsOn.{KeepsOn};
+ghost use Rattle.client_recorder.specs.KeepsOn.{KeepsOn};
 ghost use Rattle.sse_script.specs.Lines as lines;
 ghost use Rattle.sse_script.specs.Shown as says;
 ghost use Rattle.sse_script.specs.Views.{line_view};
 ghost use Rattle.sse_script.specs.declared.refusal.Refusal.{Refusal as Reason};
 
-use crate::keeping::keep_setup;
+use crate::frame_exchange::catch_up;
+use crate::kept_records::keep_setup;
 use crate::reply_buffer::ReplyBuffer;
-use crate::searching::search;
-use crate::sending::catch_up;
+use crate::search_run::search;
 use crate::tools::Tools;
-use crate::updating::{UpdateInHand, plan_addition, plan_deletion, send_update};
+use crate::update_run::{UpdateInHand, plan_addition, plan_deletion, send_update};
 use client_core::{Client, Fresh, Planned, Ready, SetupFault};
+use client_recorder::Recorder;
 use client_registry::Docs;
 use keyed_fn::Keyed;
-use line_documents::{LineFault, add_document, word_of};
-use run_texts::{CommandStop, LineResult, PlanStop};
+use script_documents::{LineFault, add_document, word_of};
+use script_run_texts::{CommandStop, LineResult, PlanStop};
 use sse_link::Link;
-use sse_recorder::Recorder;
 use sse_script::{Fields, Line, Refusal};
 use std::alloc::Global;
 
@@ -48,6 +48,10 @@ pub(crate) enum Stage {
     Searching(Client<Ready>),
 }
 
+// Promise P136 (inside): Wherever the session stands, a command exchanges exactly its frames and shows its lines with the answers received, or stops the run there.
+//   clauses: takes, stops; assumes: observable devices, earlier calls; not: The traffic over a link that isn't observable.
+// Promise P137 (inside): No stop comes in place of a refusal that is found without memory.
+//   clauses: may_stop; assumes: earlier calls; not: The words of a document that is collected or added, and its later refusals: there memory may run out instead.
 /// Carries out a line of the script that is no key line.
 pub(crate) fn take_line<K: Keyed, L: Link, R: Recorder>(
     tools: &Tools<'_, K>,
@@ -253,6 +257,7 @@ fn send_setup<L: Link, R: Recorder>(
     Ok((Stage::Searching(ready), LineResult::SetUp { words, blocks }))
 }
 
+// Promise P140, also here; clauses: ensures
 /// Why a setup is refused; equal labels, equal places and want of memory end the run instead.
 fn setup_refusal(fault: SetupFault) -> Result<Refusal, PlanStop>
     ensures { result ≡ setup_answer fault }
@@ -274,6 +279,8 @@ struct Addition<'a> {
     words: Fields<'a>,
 }
 
+// Promise P143 (inside): `add` and `del` lines are carried out as they are meant, wherever the session stands, or the run stops in them.
+//   clauses: takes, stops, may_stop, same_key; assumes: observable devices, earlier calls
 /// Carries out an `add` line.
 fn add<K: Keyed, L: Link, R: Recorder>(
     tools: &Tools<'_, K>,
@@ -313,6 +320,7 @@ fn add<K: Keyed, L: Link, R: Recorder>(
     }
 }
 
+// Promise P143, also here; clauses: takes, stops, may_stop, same_key
 /// Carries out a `del` line.
 fn delete<K: Keyed, L: Link, R: Recorder>(
     tools: &Tools<'_, K>,

@@ -3,8 +3,8 @@ ghost use Rattle.sse_client.specs.UpdateFaults.{update_of_line, update_of_comman
 
 use client_core::CommandFault;
 use client_registry::Zero;
-use line_documents::LineFault;
-use run_texts::PlanStop;
+use script_documents::LineFault;
+use script_run_texts::PlanStop;
 use sse_script::Refusal;
 
 /// Why an addition or a deletion isn't planned.

@@ -5,9 +5,9 @@ use Rattle.std.specs.List.{AllByRecursion}
 use Rattle.std.proofs.lemmas.List.{append-nil}
 use Rattle.list_packing.specs.Parts.{parts}
 use Rattle.sse_frames.proofs.Replied.{joined-pages, InReplies-pages}
-use Rattle.sse_frames.proofs.ReplySpelling.{one_reply}
+use Rattle.sse_frames.proofs.ReplyBytesLaws.{one_reply}
 use Rattle.sse_frames.specs.Replies.{ReplyText, Page, reply_bytes, IsIdentifier, InReplies}
-use Rattle.sse_frames.specs.Sending.{page_each, pages_of, pages, page_ids}
+use Rattle.sse_frames.specs.SentParts.{page_each, pages_of, pages, page_ids}
 
 -- Pages end at their last one.
 

@@ -8,7 +8,7 @@ use Rattle.sse_frames.specs.FrameViews.{frame_view}
 use Rattle.sse_frames.specs.Sizes.{HasSizes}
 use Rattle.sse_frames.specs.Heads.{head_of, lists_of, lists_in}
 use Rattle.sse_frames.proofs.Joined.{sizes_of, length-joined}
-use Rattle.sse_frames.proofs.Spelling.{length-entry_bytes, length-body_of}
+use Rattle.sse_frames.proofs.FrameBytesLaws.{length-entry_bytes, length-body_of}
 use Rattle.sse_frames.proofs.Chunks.{joined-items_in, entry_bytes-entries_in}
 
 -- the length of the body of each kind

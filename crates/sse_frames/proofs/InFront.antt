@@ -7,8 +7,8 @@ use Rattle.std.proofs.lemmas.List.{take_at}
 use Rattle.sse_frames.specs.declared.fault.FrameFault.{FrameFault}
 use Rattle.sse_frames.specs.Frames.{be32}
 use Rattle.sse_frames.specs.Fields.{number_at}
-use Rattle.sse_frames.specs.Reading.{front, is_bad_length}
-use Rattle.sse_frames.proofs.Spelling.{back32}
+use Rattle.sse_frames.specs.ReadOutcomes.{front, is_bad_length}
+use Rattle.sse_frames.proofs.FrameBytesLaws.{back32}
 
 -- a length in range is that of the body after it
 front_is : (limit n : ℕ) (bytes : List ℕ) → number_at w32 0 bytes ≡ n → 1 ≤ n → n ≤ limit → 4 + n ≤ length bytes → front limit bytes ≡ Ok (Some (take n (drop 4 bytes)))

@@ -2,7 +2,7 @@ pub mod Faults
 pub mod ListFields
 pub mod Cut
 pub mod FrameBodies
-pub mod Rising
+pub mod AscendingFields
 pub mod Chunks
 mod Puts
 pub mod Numbers
@@ -11,9 +11,9 @@ pub mod ReplyBodies
 pub mod Pages
 mod Rows
 pub mod Joined
-pub mod Spelling
+pub mod FrameBytesLaws
 pub mod Heads
-pub mod ReplySpelling
+pub mod ReplyBytesLaws
 pub mod Stands
 pub mod InFront
 pub mod NoFault

@@ -7,11 +7,11 @@ use Rattle.std.proofs.lemmas.List.{append-nil, drop-drop, drop_at}
 use Rattle.sse_frames.specs.Frames.{Entry, FrameText, Hello, SetupBegin, SetupDict, SetupArray, SetupEnd, AddFrame, DeleteFrame, SearchFrame, entry_bytes, joined, body_of, frame_bytes, InGrammar, IsSetupDict, IsSetupArray, IsAdd, IsDelete, IsCellWidth, IsBlockWidth}
 use Rattle.sse_frames.specs.Fields.{Field, number_at, bytes_field, range_field, cell_width_field, is_cell_width, block_width_field, is_block_width, entry_fields, block_fields, number_fields, end_field, first_fault}
 use Rattle.sse_frames.specs.Tables.{number_field, setup_dict_fields, setup_array_fields, add_fields, delete_fields, frame_fields}
-use Rattle.sse_frames.specs.Reading.{fault_in, or_fault, outcome, frame_outcome}
+use Rattle.sse_frames.specs.ReadOutcomes.{fault_in, or_fault, outcome, frame_outcome}
 use Rattle.sse_frames.proofs.Stands.{stands_then, no_fault-append, range_stands, end_stands, entries_no_fault, blocks_no_fault, numbers_no_fault}
 use Rattle.sse_frames.proofs.InFront.{front-spelled}
 use Rattle.sse_frames.proofs.Joined.{sizes_of, length-joined}
-use Rattle.sse_frames.proofs.Spelling.{back16, back32, length-body_of, length-entry_bytes}
+use Rattle.sse_frames.proofs.FrameBytesLaws.{back16, back32, length-body_of, length-entry_bytes}
 
 is_cell : (width : ℕ) → IsCellWidth width → is_cell_width width ≡ true
 is_cell width cell =

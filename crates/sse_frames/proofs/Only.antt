@@ -11,9 +11,9 @@ use Rattle.sse_frames.specs.Frames.{FrameText, InGrammar, body_of, frame_bytes}
 use Rattle.sse_frames.specs.Replies.{ReplyText, InReplies, reply_bytes}
 use Rattle.sse_frames.specs.FrameViews.{frame_view, reply_view}
 use Rattle.sse_frames.specs.Tables.{frame_fields}
-use Rattle.sse_frames.specs.Reading.{body_fault, is_bad_length, frame_outcome, reply_outcome, answered, IfRead, IsRead, IsFrameOf, IsFront, IsReplyFront}
-use Rattle.sse_frames.proofs.Spelling.{one_body, one_frame, length-body_of}
-use Rattle.sse_frames.proofs.ReplySpelling.{one_reply}
+use Rattle.sse_frames.specs.ReadOutcomes.{body_fault, is_bad_length, frame_outcome, reply_outcome, answered, IfRead, IsRead, IsFrameOf, IsFront, IsReplyFront}
+use Rattle.sse_frames.proofs.FrameBytesLaws.{one_body, one_frame, length-body_of}
+use Rattle.sse_frames.proofs.ReplyBytesLaws.{one_reply}
 use Rattle.sse_frames.proofs.NoFault.{fault_in-body_of, frame_outcome-frame_bytes}
 use Rattle.sse_frames.proofs.ReplyNoFault.{reply_outcome-reply_bytes}
 

@@ -8,7 +8,7 @@ use Rattle.std.proofs.lemmas.List.{length-take, length-drop}
 use Rattle.list_packing.specs.Parts.{parts}
 use Rattle.list_packing.proofs.PartsLemmas.{joined-parts}
 use Rattle.sse_frames.specs.Replies.{IsIdentifier, InReplies}
-use Rattle.sse_frames.specs.Sending.{page_each, pages_of, pages, page_ids}
+use Rattle.sse_frames.specs.SentParts.{page_each, pages_of, pages, page_ids}
 
 joined_each : (ids : List ℕ) (others : List (List ℕ)) → flat_map page_ids (page_each ids others) ≡ flat_map (λ part. part) (ids ∷ others)
 joined_each ids [] = refl

@@ -8,11 +8,11 @@ use Rattle.sse_frames.specs.Frames.{be64}
 use Rattle.sse_frames.specs.Replies.{ReplyText, Next, Took, Number, Clash, Page, BadList, NoMemory, StoreFault, BadFrame, OutOfPlace, reply_body, reply_bytes, IsPage, InReplies}
 use Rattle.sse_frames.specs.Fields.{number_at, byte_field, range_field, id_fields, end_field, first_fault}
 use Rattle.sse_frames.specs.Tables.{number_field, any_field, least_ids, page_fields, reply_fields}
-use Rattle.sse_frames.specs.Reading.{fault_in, or_fault, outcome, reply_outcome}
+use Rattle.sse_frames.specs.ReadOutcomes.{fault_in, or_fault, outcome, reply_outcome}
 use Rattle.sse_frames.proofs.Stands.{stands_then, no_fault-append, range_stands, byte_stands, end_stands, ids_no_fault}
 use Rattle.sse_frames.proofs.InFront.{front-spelled}
-use Rattle.sse_frames.proofs.Spelling.{back16, back32}
-use Rattle.sse_frames.proofs.ReplySpelling.{length-reply_body}
+use Rattle.sse_frames.proofs.FrameBytesLaws.{back16, back32}
+use Rattle.sse_frames.proofs.ReplyBytesLaws.{length-reply_body}
 use Rattle.sse_frames.proofs.Pages.{length-be64s}
 
 last_most : (last : Bool) → (if last then 1 else 0) ≤ 1

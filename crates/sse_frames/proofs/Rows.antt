@@ -5,8 +5,8 @@ use Rattle.sse_frames.specs.declared.fault.FrameFault.TheVariants.{BadLength, Ba
 use Rattle.sse_frames.specs.Frames.{Entry, Hello, AddFrame, DeleteFrame, SearchFrame, frame_bytes}
 use Rattle.sse_frames.specs.Replies.{Next, Took, reply_bytes}
 use Rattle.sse_frames.specs.Fields.{number_at}
-use Rattle.sse_frames.specs.Reading.{frame_outcome}
-use Rattle.sse_frames.specs.Sending.{setup_frames, pages}
+use Rattle.sse_frames.specs.ReadOutcomes.{frame_outcome}
+use Rattle.sse_frames.specs.SentParts.{setup_frames, pages}
 
 -- the value of a hexadecimal digit in lower case
 abbrev digit : ℕ → ℕ

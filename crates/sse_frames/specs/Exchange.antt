@@ -1,9 +1,9 @@
--- What passes between a client and a server: the greeting, which opens a session, and frames, each with its replies; and the
--- replies that frames after the greeting are to have, whatever the searches among them find.
+-- The traffic between a client and a server: the greeting, which opens a session, and frames, each with its replies; and the replies that frames
+-- after the greeting must have, whatever the searches among them find.
 use Rattle.std.specs.Prelude.{ℕ, ◌+◌, List, [], ◌∷◌, ◌++◌, map, drop}
 use Rattle.sse_frames.specs.Frames.{FrameText, Hello, SetupBegin, SetupDict, SetupArray, SetupEnd, AddFrame, DeleteFrame, SearchFrame}
 use Rattle.sse_frames.specs.Replies.{ReplyText, Next, Took}
-use Rattle.sse_frames.specs.Sending.{pages}
+use Rattle.sse_frames.specs.SentParts.{pages}
 
 -- a frame that was sent or a reply that was received
 pub data Passed : Type 0 where

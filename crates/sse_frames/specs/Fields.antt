@@ -1,4 +1,4 @@
--- Reading a body from left to right: its fields by the table of kinds, and the first that doesn't stand.
+-- Reading a body from left to right: its fields by the table of kinds, and the first that is bad.
 use Rattle.std.specs.Prelude.{◌≡◌, ℕ, zero, suc, ◌+◌, ◌-◌, ◌%◌, Bool, true, false, ◌&&◌, ◌||◌, List, [], ◌∷◌, length, take, drop, Option, Some, None, Result, Ok, Err, nat_le, ◌==◌, if◌then◌else◌, slice_index}
 use Rattle.std.specs.Int.{Width, w16, w64, byte_len, from_be_bytes}
 use Rattle.sse_frames.specs.Order.{is_below}

@@ -1,4 +1,4 @@
--- What a contract sees of a Frame or a Reply of the code: its joined bytes are cut into the list's items.
+-- A contract's view of a Frame or a Reply of the code: its joined bytes are cut into the list's items.
 use Rattle.std.specs.Prelude.{ℕ, ◌+◌, ◌/◌, List, length, map, take, drop}
 use Rattle.std.specs.Int.{w64, from_be_bytes}
 use Rattle.std.specs.Simd.{first_chunks}

@@ -5,8 +5,8 @@ pub mod Sizes
 pub mod Heads
 pub mod Fields
 pub mod Tables
-pub mod Reading
+pub mod ReadOutcomes
 pub mod Order
-pub mod Sending
+pub mod SentParts
 pub mod Texts
 pub mod Exchange

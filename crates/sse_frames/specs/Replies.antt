@@ -1,4 +1,4 @@
--- Replies as values: the bytes that each has, and which replies there are.
+-- Replies as values: the bytes of each, and the replies that there are (docs/FORMATS.md).
 use Rattle.std.specs.Prelude.{◌≡◌, ℕ, ◌+◌, ◌*◌, ◌^◌, ◌<◌, ◌≤◌, Bool, false, List, [], ◌∷◌, ◌++◌, length, if◌then◌else◌}
 use Rattle.std.specs.List.{flat_map, AllByRecursion}
 use Rattle.sse_frames.specs.Frames.{be16, be32, be64, IsNumber}

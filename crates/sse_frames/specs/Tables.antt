@@ -1,4 +1,4 @@
--- The fields of each kind of body, from left to right, after the kind byte.
+-- The fields of each kind of body, from left to right, after the kind byte (docs/FORMATS.md).
 use Rattle.std.specs.Prelude.{ℕ, ◌+◌, ◌*◌, ◌-◌, true, List, [], ◌∷◌, ◌++◌, Option, Some, None, ◌==◌, if◌then◌else◌, slice_index}
 use Rattle.std.specs.Int.{w16, w32}
 use Rattle.sse_frames.specs.Fields.{Field, number_at, bytes_field, byte_field, range_field, cell_width_field, block_width_field, entry_fields, block_fields, number_fields, id_fields, end_field}

@@ -1,4 +1,4 @@
--- What is printed of bytes that are no frame or no reply.
+-- The text printed for bytes that are no frame or no reply.
 use Rattle.std.specs.Prelude.{ℕ, List, ◌++◌, codes, decimal}
 use Rattle.sse_frames.specs.declared.fault.FrameFault.{FrameFault}
 use Rattle.sse_frames.specs.declared.fault.FrameFault.TheVariants.{BadLength, BadKind, BadBody}

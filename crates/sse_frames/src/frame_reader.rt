@@ -5,7 +5,7 @@ ghost use Rattle.sse_frames.specs.Frames.{FrameText, InGrammar, body_of, frame_b
 ghost use Rattle.sse_frames.specs.FrameViews.{frame_view};
 ghost use Rattle.sse_frames.specs.Fields.{number_at, entry_fields, number_fields, end_field, first_fault};
 ghost use Rattle.sse_frames.specs.Tables.{hello_fields, setup_begin_fields, setup_dict_fields, setup_array_fields, setup_end_fields, add_fields, delete_fields, search_fields, frame_fields};
-ghost use Rattle.sse_frames.specs.Reading.{IsFrameOf, IsFront, IfRead, IsRead, fault_in, body_fault, frame_outcome, answered};
+ghost use Rattle.sse_frames.specs.ReadOutcomes.{IsFrameOf, IsFront, IfRead, IsRead, fault_in, body_fault, frame_outcome, answered};
 
 use crate::fault::FrameFault;
 use crate::fields::{
@@ -182,6 +182,7 @@ fn whole_body(bytes: &[u8]) -> Result<Frame<'_>, FrameFault>
     frame_of(bytes)
 }
 
+// Promise P99, also here; clauses: found, only, fault
 /// The frame whose body is all of the bytes.
 ///
 /// The first fault from the left: `BadLength` where the bytes are none or more than 1,048,576, `BadKind`
@@ -212,6 +213,8 @@ fn front_frame(bytes: &[u8]) -> Result<Option<(Frame<'_>, usize)>, FrameFault>
     }
 }
 
+// Promise P99 (caller): A frame or reply is read if and only if it stands first in the input; otherwise the first fault is named.
+//   clauses: found, only, outcome; not: An input that is a prefix of a frame is reported as incomplete.
 /// The frame in front of the bytes, and how many bytes it has, its length among them. `None` where it
 /// isn't whole yet: there are fewer than 4 bytes, or a length in range and fewer bytes than it says.
 ///

@@ -111,6 +111,8 @@ fn lists_of<'a>(frame: &Frame<'a>) -> (&'a [u8], &'a [u8])
     }
 }
 
+// Promise P98 (caller): A written frame or reply of the grammar has exactly its defined bytes; without memory nothing is appended.
+//   clauses: ok, err; assumes: sizes in bounds
 /// Appends the frame to the bytes. Without memory they are as before.
 ///
 /// The frame is one of the grammar, and its lists have no bytes after their last whole item.
@@ -137,6 +139,7 @@ fn append(out: &mut Vec<u8>, head: &[u8], first: &[u8], second: &[u8]) -> Result
     out.extend_from_slice(second)
 }
 
+// Promise P98, also here; clauses: len, bytes
 /// Writes the frame at the front of `out`, and says how many bytes it has. It takes no memory.
 ///
 /// The frame is one that `write_frame` takes, and `out` has room for it: no frame has more than 541,709 bytes.
@@ -165,6 +168,7 @@ fn put_all(out: &mut [u8], head: &[u8], first: &[u8], second: &[u8]) -> usize
     put(out, place, second)
 }
 
+// Promise P98, also here; clauses: ensures
 /// The Search frame of a token: four length bytes, the kind byte 08 and the token. It takes no memory.
 pub fn search_frame(token: &[u8; TOKEN_LEN]) -> [u8; 165]
     ensures { result ≡ frame_bytes (SearchFrame token.now) }

@@ -1,5 +1,5 @@
 ghost use Rattle.std.specs.Prelude.{◌≡◌, IfOk, IfSome};
-ghost use Rattle.sse_frames.specs.Reading.{front, seen_front, IsBehind};
+ghost use Rattle.sse_frames.specs.ReadOutcomes.{front, seen_front, IsBehind};
 
 use crate::fault::FrameFault;
 

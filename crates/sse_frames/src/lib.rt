@@ -1,8 +1,11 @@
-//! What client and server send each other: all frames and replies as values, their bytes, and reading them
-//! with the first fault from the left. It depends on no crate that knows a word or a key, so the client, the server
-//! and the link share it. A reader's value is in the grammar and spelled as the bytes in
-//! front of it; a writer takes a value of the grammar and writes the bytes of specs/Frames.antt and
-//! specs/Replies.antt. What a frame does is `server_core`; where bytes go is `sse_link`.
+//! All that client and server send each other: frames and replies as values, as bytes, and read from bytes up to the
+//! first fault from the left. Client, server and link share it, so it depends on no crate that knows a word or a key.
+//! A writer takes only values of the grammar, rising labels included, so that no client can send what a server
+//! refuses to read.
+//! Proved: a reader's value is in the grammar and spelled as the bytes read; a writer writes the bytes of
+//! specs/Frames.antt and specs/Replies.antt; each value has one spelling.
+//! Not here: what a frame does (`server_core`) and where bytes go (`sse_link`).
+//! Side: both.
 #![tactic(auto)]
 
 mod fault;

@@ -6,7 +6,7 @@ ghost use Rattle.sse_frames.specs.FrameViews.{reply_view};
 ghost use Rattle.sse_frames.specs.Fields.{number_at, first_fault};
 ghost use Rattle.sse_frames.specs.Tables as tables;
 ghost use Rattle.sse_frames.specs.Tables.{next_fields, took_fields, clash_fields, page_fields, bad_frame_fields, bare_fields, reply_fields};
-ghost use Rattle.sse_frames.specs.Reading.{IsReplyOf, IsReplyFront, IfRead, IsRead, fault_in, reply_outcome, answered, IsReply};
+ghost use Rattle.sse_frames.specs.ReadOutcomes.{IsReplyOf, IsReplyFront, IfRead, IsRead, fault_in, reply_outcome, answered, IsReply};
 ghost use Rattle.sse_frames.specs.Sizes.{HasReplySizes};
 
 use crate::fault::FrameFault;
@@ -148,6 +148,7 @@ fn front_reply(bytes: &[u8]) -> Result<Option<(Reply<'_>, usize)>, FrameFault>
     }
 }
 
+// Promise P99, also here; clauses: found, only, outcome
 /// The reply in front of the bytes, and how many bytes it has, its length among them. `None` where it
 /// isn't whole yet: there are fewer than 4 bytes, or a length in range and fewer bytes than it says.
 ///
@@ -165,6 +166,7 @@ pub fn read_reply(bytes: &[u8]) -> Result<Option<(Reply<'_>, usize)>, FrameFault
     front_reply(bytes)
 }
 
+// Promise P99, also here; clauses: found, only
 /// The reply that all of these bytes are, if any.
 pub fn read_whole_reply(bytes: &[u8]) -> Option<Reply<'_>>
     ensures found { IfSome result (λ reply. IsReply (reply_view reply) bytes.now) }

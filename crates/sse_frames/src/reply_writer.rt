@@ -31,6 +31,7 @@ fn head_of_page(last: bool, count: u16) -> Head
         .then_u16(count)
 }
 
+// Promise P98, also here; clauses: len, bytes
 /// Writes the reply of the page of these identifiers at the front of `out`, and says how many bytes it has.
 pub fn write_page(last: bool, ids: &[u64], out: &mut [u8]) -> usize
     requires grammar { IsPage last ids.now }
@@ -57,6 +58,7 @@ fn put_page(out: &mut [u8], last: bool, ids: &[u8]) -> usize
     put(out, head, ids)
 }
 
+// Promise P98, also here; clauses: len, bytes
 /// Writes the reply at the front of `out`, and says how many bytes it has.
 pub fn write_reply(reply: &Reply<'_>, out: &mut [u8]) -> usize
     requires grammar { InReplies (reply_view reply.now) }

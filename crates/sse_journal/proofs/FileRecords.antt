@@ -93,8 +93,8 @@ gives_records payloads bytes (inl short) = ap (records_at (length bytes)) (drop_
 gives_records payloads bytes (inr is) = ap records_in_file is.are ∙ read_front payloads is.commit is.tail is.payloads_are is.unset
 
 -- a disk that holds a journal has its records
-pub journal_records : (payloads : List (List ℕ)) (j : Journal) (content : Option (List ℕ)) (images : List ℕ → Type 0) → IsJournalOf payloads j content images → option_map records_in_file content ≡ Some payloads
-journal_records payloads j content images is =
+pub records_of_journal : (payloads : List (List ℕ)) (j : Journal) (content : Option (List ℕ)) (images : List ℕ → Type 0) → IsJournalOf payloads j content images → option_map records_in_file content ≡ Some payloads
+records_of_journal payloads j content images is =
     ap (option_map records_in_file) is.settled.reads ∙ ap (λ r. Some r) (gives_records payloads (file payloads) (file_gives payloads is.payloads_are))
 
 -- a journal that takes records counts all of its file
@@ -104,7 +104,7 @@ module _ (j : Journal) (images : List ℕ → Type 0) where
   counted_all (Some held) takes =
       let payloads = takes.holds.0 in
       let is = takes.holds.1 in
-      let records : records_in_file held ≡ payloads = inside (records_in_file held) payloads (journal_records payloads j (Some held) images is) in
+      let records : records_in_file held ≡ payloads = inside (records_in_file held) payloads (records_of_journal payloads j (Some held) images is) in
       ap (λ r. Some r) (ap (take (records_of j)) records ∙ ap (λ n. take n payloads) is.records_are ∙ take-length payloads ∙ sym records)
 
   -- what holds of the records that it is the journal of holds of those that it counts
@@ -114,7 +114,7 @@ module _ (j : Journal) (images : List ℕ → Type 0) where
       let payloads = takes.holds.0 in
       let is = takes.holds.1 in
       let counted : take (records_of j) (records_in_file held) ≡ payloads =
-      inside (take (records_of j) (records_in_file held)) payloads (counted_all (Some held) takes ∙ journal_records payloads j (Some held) images is) in
+      inside (take (records_of j) (records_in_file held)) payloads (counted_all (Some held) takes ∙ records_of_journal payloads j (Some held) images is) in
       subst P (sym counted) (each payloads is)
 
 -- the file of a journal's records gives them, and its disk leaves no other
@@ -159,8 +159,8 @@ module _ (j : Journal) (payload : List ℕ) (old_images new_images : List ℕ �
       let is = takes.holds.1 in
       let behind = added payloads is in (
         record { unbroken = unbroken; holds = (payloads ++ payload ∷ [], behind) },
-        journal_records (payloads ++ payload ∷ []) after (Some written) new_images behind
-            ∙ ap (option_map (λ all. all ++ payload ∷ [])) (sym (journal_records payloads j (Some held) old_images is)),
+        records_of_journal (payloads ++ payload ∷ []) after (Some written) new_images behind
+            ∙ ap (option_map (λ all. all ++ payload ∷ [])) (sym (records_of_journal payloads j (Some held) old_images is)),
       )
 
   -- after a refusal it counts the records of before
@@ -173,7 +173,7 @@ module _ (j : Journal) (payload : List ℕ) (old_images new_images : List ℕ �
   takes_refused (Some held) (Some written) after takes told count now gives =
       let payloads = takes.holds.0 in
       let is = takes.holds.1 in
-      let had : records_counted j (Some held) ≡ Some payloads = counted_all j old_images (Some held) takes ∙ journal_records payloads j (Some held) old_images is in
+      let had : records_counted j (Some held) ≡ Some payloads = counted_all j old_images (Some held) takes ∙ records_of_journal payloads j (Some held) old_images is in
       let size : records_of after ≡ length payloads = count ∙ is.records_are in
       elim (gives payloads is written now) [
         | inl same ↦ ap (λ r. Some r) (ap (take (records_of after)) (gives_records payloads written same) ∙ ap (λ n. take n payloads) size ∙ take-length payloads) ∙ sym had

@@ -1,11 +1,11 @@
 pub mod Moments
 mod Torn
 mod Append
-mod Repairing
-mod Looking
-mod Walking
+mod RepairSteps
+mod FirstBytes
+mod WalkSteps
 pub mod Once
 pub mod FileRecords
-mod Starting
-mod Reading
-mod Refusing
+mod StartSteps
+mod RecordAt
+mod RefusedFiles

@@ -57,6 +57,7 @@ behind_magic : (xs ys : List (List ℕ)) (g h : ℕ) (t u : List ℕ) → front 
 unfolding front
 behind_magic xs ys g h t u same = ap (λ (l : List ℕ). drop 8 l) same
 
+-- Promise P114, also here
 -- the records that a file gives are determined by it
 pub gives_once : (xs ys : List (List ℕ)) (bytes : List ℕ) → Gives xs bytes → Gives ys bytes → xs ≡ ys
 gives_once xs ys bytes (inl short) (inl shorter) = short.1 ∙ sym shorter.1

@@ -1,4 +1,4 @@
--- What a crash may leave at each moment of a run of calls on a disk.
+-- The files that a crash may leave at each moment of a series of calls on a disk.
 use Rattle.std.specs.Prelude.{◌≡◌, ◌⊎◌, ℕ, ◌≤◌, List, Option, IfSome}
 use Rattle.sse_outside.specs.Images.{Only}
 

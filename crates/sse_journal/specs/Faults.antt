@@ -1,4 +1,4 @@
--- What a call on a journal answers for a disk's refusal.
+-- The answer of a journal's call to a disk's refusal.
 use Rattle.sse_outside.specs.declared.device_fault.DeviceFault.{DeviceFault}
 use Rattle.sse_outside.specs.declared.device_fault.DeviceFault.TheVariants as device
 use Rattle.sse_journal.specs.declared.append_fault.AppendFault.{AppendFault}

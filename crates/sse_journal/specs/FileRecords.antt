@@ -1,4 +1,4 @@
--- Which records a journal's file has, and which of them a journal counts.
+-- The records of a journal's file, and those that a journal counts.
 use Rattle.std.specs.Prelude.{◌≡◌, ℕ, zero, suc, ◌+◌, ◌==◌, ◌&&◌, nat_lt, List, [], ◌∷◌, length, take, drop, Option, None, option_map, IfSome, if◌then◌else◌}
 use Rattle.std.specs.Int.{w32, from_be_bytes}
 use Rattle.sse_journal.specs.JournalView.{broken_by, records_of, IsJournalOf}

@@ -1,4 +1,4 @@
--- The file of a journal, and which records a file gives that a crash may have left.
+-- The file of a journal, and the records that a file gives after a crash (docs/FORMATS.md).
 use Rattle.std.specs.Prelude.{◌≡◌, ◌⊎◌, ℕ, ◌^◌, ◌<◌, ◌≤◌, List, [], ◌∷◌, ◌++◌, length, flat_map, All, codes}
 use Rattle.std.specs.Int.{w32, to_be_bytes}
 

@@ -1,4 +1,4 @@
--- What stands at a place of a journal's file where a record may begin.
+-- The bytes at a place of a journal's file where a record may begin.
 use Rattle.std.specs.Prelude.{◌≡◌, ◌≢◌, ℕ, ◌+◌, ◌<◌, List, [], ◌∷◌, ◌++◌, length, drop}
 use Rattle.sse_journal.specs.Files.{IsPayload, record_bytes}
 use Rattle.sse_journal.specs.declared.head.Head.{Head}

@@ -1,4 +1,4 @@
--- What a disk holds under a journal.
+-- The contents of a disk under a journal.
 use Rattle.std.specs.Prelude.{◌≡◌, ℕ, List, length, All, Option, Some}
 use Rattle.sse_journal.specs.Files.{front, file, IsPayload, Gives}
 use Rattle.sse_outside.specs.Images.{Only}

@@ -1,4 +1,4 @@
--- What a contract sees of a journal, and which records it is the journal of.
+-- A contract's view of a journal, and the records that it is the journal of.
 use Rattle.std.specs.Prelude.{◌≡◌, ℕ, List, length, All, Option, vec_capacity}
 use Rattle.sse_outside.specs.declared.device_fault.DeviceFault.{DeviceFault}
 use Rattle.sse_journal.specs.declared.journal.Journal.{Journal}

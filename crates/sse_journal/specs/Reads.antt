@@ -1,4 +1,4 @@
--- What reading a record of a journal gives.
+-- The result of reading a record of a journal.
 use Rattle.std.specs.Prelude.{◌≡◌, ◌≢◌, ℕ, ◌+◌, ◌<◌, List, [], ◌++◌, length, take, get_or, Option, Some, None}
 use Rattle.sse_journal.specs.Files.{front, record_bytes, IsPayload}
 

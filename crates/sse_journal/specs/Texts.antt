@@ -1,4 +1,4 @@
--- What is printed of each fault of a journal.
+-- The text printed for each fault of a journal.
 use Rattle.std.specs.Prelude.{ℕ, List, ◌++◌, codes, decimal}
 use Rattle.sse_journal.specs.declared.append_fault.AppendFault.{AppendFault}
 use Rattle.sse_journal.specs.declared.append_fault.AppendFault.TheVariants as appends

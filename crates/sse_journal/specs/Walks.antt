@@ -1,4 +1,4 @@
--- Where the records of a file end, and where a file stops being a journal.
+-- The end of a file's records, and the place where a file stops being a journal.
 use Rattle.std.specs.Prelude.{◌≡◌, ◌≢◌, ◌⊎◌, ℕ, ◌<◌, ◌≤◌, List, ◌∷◌, [], ◌++◌, length, take, All}
 use Rattle.sse_journal.specs.Files.{front, magic, IsPayload}
 use Rattle.sse_journal.specs.Heads.{IsBad}

@@ -8,7 +8,7 @@ ghost use Rattle.sse_journal.specs.Reads.{place_of, IsRead};
 ghost use Rattle.sse_journal.specs.AnyMoment.{LeavesOnly, HasSynced};
 ghost use Rattle.sse_journal.specs.Faults.{append_fault};
 
-use crate::adding::{append_at, frame};
+use crate::append_steps::{append_at, frame};
 use crate::payload::read_record;
 use crate::start::start_synced;
 use crate::{AppendFault, NoMemory, ReadFault, StartFault};
@@ -33,6 +33,14 @@ pub struct Journal {
 impl Journal {
     ghost use Rattle.sse_journal.specs.JournalView.{end_of, records_of, room_of, broken_by, IsJournalOf, IsJournalFrom};
 
+    // Promise P114 (caller): Starting a journal yields exactly the records that its file gives, and leaves a file of just those.
+    //   clauses: started, whole, within, told; assumes: observable devices
+    // Promise P115 (caller): Once the first sync of a start succeeds, a crash leaves a file that gives the records of the file as it read.
+    //   clauses: any_moment; assumes: observable devices, disk model; not: Up to that sync a crash leaves a file that it might have left before.
+    // Promise P116 (caller): `NotAJournal(place)` comes only if the file stops being a journal there, and leaves that file.
+    //   clauses: no_journal, refused, accepted; assumes: observable devices; not: That it comes when the disk fails or memory runs out: then that is the answer.
+    // Promise P124 (caller): A journal's calls answer that the disk failed only if its fault count rose, and with every other answer it stays.
+    //   clauses: later, failed, steady
     /// Starts the journal in the file of a disk. A file of less than nine bytes becomes one without records; of any
     /// other the records are counted, and what is behind them is cut: a record that an append didn't come to commit.
     ///
@@ -72,6 +80,7 @@ impl Journal {
         })
     }
 
+    // Promise P117, also here; clauses: ensures
     /// How many records there are.
     pub fn records(&self) -> u64
         ensures { result ≡ records_of self.now }
@@ -79,6 +88,7 @@ impl Journal {
         self.records
     }
 
+    // Promise P113, also here; clauses: ensures
     /// Why the first append was refused that was, and nothing where none was. A journal that is broken has to be
     /// started again.
     pub fn broken(&self) -> Option<DeviceFault>
@@ -87,6 +97,7 @@ impl Journal {
         self.broken
     }
 
+    // Promise P117, also here; clauses: value, place
     /// The place of the first record, for `read`: 8, and the end where there is no record.
     pub fn first(&self) -> u64
         ensures value { result ≡ 8 }
@@ -107,6 +118,14 @@ impl Journal {
         self.buffer.reserve(n as usize + 5)
     }
 
+    // Promise P21 (user): A record that was appended is there after every crash.
+    //   clauses: added, counted, within_after, room; assumes: observable devices, disk model, earlier calls, sizes in bounds
+    // Promise P22 (user): A crash during an append leaves the earlier records, with the new one or without it.
+    //   clauses: any_moment, not_counted; assumes: observable devices, disk model, earlier calls, sizes in bounds; not: Which of the two. That the end of the file is clean: `start` makes
+    //     it so.
+    // Promise P113 (caller): After a refused append a journal takes nothing more, and `broken` keeps the first refusal's cause.
+    //   clauses: broken, untouched, breaks, is_broken, stays, whole
+    // Promise P124, also here; clauses: later, failed, steady
     /// Appends a record of 1 to 2^27 bytes for which there is room (`reserve`), by two writes with a sync after each.
     /// It takes no memory but what the disk takes.
     ///
@@ -160,6 +179,9 @@ impl Journal {
         }
     }
 
+    // Promise P117 (caller): Records are read in order, each with its payload and the next place, and nothing exactly at the end.
+    //   clauses: payload, never, end, next, empty, place, kept, images_kept, quiet; assumes: earlier calls
+    // Promise P124, also here; clauses: later, failed, steady
     /// Reads the record at a place into `out`, in the place of what was there, and gives the next place; `None` exactly
     /// where the place is the end or after it. The first place is `first`. The file isn't changed.
     ///

@@ -1,12 +1,17 @@
-//! The journal: records appended to one file of a disk, which outlive a crash at any moment. It depends on the trait
-//! `Disk` of `sse_outside` and on nothing else, so that each contract holds over every disk, and knows nothing of what a
-//! record means. Callers use `append`: from its `Ok` on every crash leaves the record there, and a crash within the call
-//! leaves the records of before, with the new one or without; and `start`: it gives exactly the records of the file, or
-//! names the place where the file stops being a journal. The format of the file is specs/Files.antt.
+//! The journal: records appended to one file of any disk, which outlive a crash at any moment. It depends only on the
+//! trait `Disk` of `sse_outside` and doesn't know what a record means; specs/Files.antt has the format. A record is
+//! synced before the one commit byte in front of it is written, so a torn write does no harm and no checksum is
+//! needed. A start cuts the file's tail and then clears the commit byte; without both, a torn write of the next
+//! append could join what stood there. A failed append makes the journal unusable until the next start, since the
+//! file may hold the record or not.
+//! Proved: from `Ok` of `append` on, every crash leaves the record. A crash during the call leaves the earlier
+//! records, with the new one or without. `start` gives exactly the records of the file, or names the place where it
+//! stops being a journal.
+//! Side: both.
 #![tactic(auto)]
 
-mod adding;
 mod append_fault;
+mod append_steps;
 mod head;
 mod journal;
 mod payload;

@@ -1,2 +1,2 @@
-mod LeaksTold
-pub mod ToldMeaning
+mod LeaksPrinted
+pub mod PrintedMeaning

@@ -1,4 +1,4 @@
--- What a command line gives the program: its name alone, other words, or nothing, as there was no memory to read them in.
+-- The words that a command line gives the program: its name only, other words, or nothing, if there was no memory to read them in.
 use Rattle.std.specs.Prelude.{ℕ, ◌<◌, ◌≤◌, length}
 use Rattle.sse_leaks.specs.declared.program.CommandLine.{CommandLine}
 use Rattle.sse_leaks.specs.declared.program.CommandLine.TheVariants.{Words, NoText, NoMemory}

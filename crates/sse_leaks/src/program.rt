@@ -1,14 +1,14 @@
 ghost use Rattle.std.specs.Prelude.{◌≡◌, IfSome};
-ghost use Rattle.history_reading.specs.Endings.{seen_of};
+ghost use Rattle.script_history.specs.Endings.{seen_of};
 ghost use Rattle.sse_leaks.specs.Given.{HadNoMemory, HasWords, IsAlone};
-ghost use Rattle.sse_leaks.specs.Telling.{HasToldLeaks};
+ghost use Rattle.sse_leaks.specs.LeakReport.{HasPrintedLeaks};
 ghost use Rattle.sse_outside.specs.Fronts.{TookOrRose};
 ghost use Rattle.sse_script.specs.Shown.{Stopped, BadWords, NoMemory};
 ghost use Rattle.sse_script.specs.Texts.{text_of};
 
-use crate::telling::leaks_run;
+use crate::leak_report::leaks_run;
 use keyed_fn::Real;
-use run_texts::{StopCause, finish};
+use script_run_texts::{StopCause, finish};
 use sse_outside::{Sink, Source};
 use std::alloc::Global;
 
@@ -23,6 +23,7 @@ pub(crate) enum CommandLine {
     NoMemory,
 }
 
+// Promise P28, also here; clauses: tells
 /// All that the program does with a command line, a source and a sink, and the status to end with: it tells what a server would
 /// learn of the script where no word stands behind its name.
 pub(crate) fn run_program<S: Source, W: Sink>(
@@ -32,7 +33,7 @@ pub(crate) fn run_program<S: Source, W: Sink>(
     sink: &mut W,
 ) -> u8
     ensures tells { IsAlone given → IfSome (S.remaining source.old) (λ bytes.
-        HasToldLeaks bytes (seen_of (W.written sink.old) (W.faults sink.old) (W.shortages sink.old)) (seen_of (W.written sink.new) (W.faults sink.new) (W.shortages sink.new)) result) }
+        HasPrintedLeaks bytes (seen_of (W.written sink.old) (W.faults sink.old) (W.shortages sink.old)) (seen_of (W.written sink.new) (W.faults sink.new) (W.shortages sink.new)) result) }
     ensures other_words { HasWords given → result ≡ 2 }
     ensures other_words_line { HasWords given →
         TookOrRose (W.written sink.old) (W.written sink.new) (text_of (Stopped BadWords)) (W.faults sink.old) (W.faults sink.new) (W.shortages sink.old) (W.shortages sink.new) }

@@ -9,9 +9,9 @@ use Rattle.server_core.specs.declared.answer.Answer.TheVariants as answers
 use Rattle.server_core.specs.State.{ServerState}
 use Rattle.server_core.specs.Step.{step}
 use Rattle.server_core.specs.Views.{answer_replies, TakesMemory}
-use Rattle.link_events.specs.Served.{Answers}
-use Rattle.link_events.specs.declared.mark.Mark.{Mark}
-use Rattle.link_events.specs.declared.mark.Mark.TheVariants.{Stepped, LackedMemory}
+use Rattle.def_link_events.specs.Served.{Answers}
+use Rattle.def_link_events.specs.declared.mark.Mark.{Mark}
+use Rattle.def_link_events.specs.declared.mark.Mark.TheVariants.{Stepped, LackedMemory}
 
 -- an answer is out of memory, or it isn't
 lacks_memory : (answer : Answer) → (answer ≡ answers.NoMemory) ⊎ (answer ≢ answers.NoMemory)

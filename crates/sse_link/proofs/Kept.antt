@@ -9,16 +9,16 @@ use Rattle.server_core.specs.State.{ServerState}
 use Rattle.sse_link.specs.declared.due.Due.{Due}
 use Rattle.sse_link.specs.declared.due.Due.TheVariants as dues
 use Rattle.sse_link.specs.declared.fail.Fail.{Fail}
-use Rattle.link_events.specs.declared.mark.Mark.{Mark}
+use Rattle.def_link_events.specs.declared.mark.Mark.{Mark}
 use Rattle.sse_link.specs.Due.{waiting, IsDue}
-use Rattle.link_events.specs.Events.{Event, Sent, Received, IsKnown, AreKnown}
-use Rattle.sse_link.specs.Failing.{listed_at, FailsSend}
+use Rattle.def_link_events.specs.Events.{Event, Sent, Received, IsKnown, AreKnown}
+use Rattle.sse_link.specs.FailingLoopback.{failure_at, FailsSend}
 use Rattle.sse_link.specs.Marks.{mark_of}
-use Rattle.link_events.specs.Served.{Served, Answers, IsServed, idle}
+use Rattle.def_link_events.specs.Served.{Served, Answers, IsServed, idle}
 use Rattle.sse_frames.specs.Frames.{IsFrame}
 use Rattle.sse_link.specs.Steady.{IsTelling}
-use Rattle.sse_link.specs.Told.{Told, IsSent, IsLost}
-use Rattle.link_events.proofs.Honest.{IsServed-sent, IsServed-received, IsServed-dropped}
+use Rattle.sse_link.specs.LinkStates.{LinkState, IsSent, IsLost}
+use Rattle.def_link_events.proofs.Honest.{IsServed-sent, IsServed-received, IsServed-dropped}
 
 known_sent : (events : List Event) (bytes : List ℕ) (mark : Mark) → AreKnown events → IsKnown mark → AreKnown (events ++ Sent bytes mark ∷ [])
 known_sent [] bytes mark known one = (one, tt)
@@ -59,10 +59,10 @@ cut_served f start end events true is = IsServed-dropped f start end events is
 cut_served f start end events false is = is
 
 -- it doesn't matter for a frame which replies waited before it
-pub sent_behind : (f : KeyedFn) (old new : Told) (due : List (List ℕ)) (bytes : List ℕ) → IsSent f old new bytes → IsSent f (record old { due = due }) new bytes
+pub sent_behind : (f : KeyedFn) (old new : LinkState) (due : List (List ℕ)) (bytes : List ℕ) → IsSent f old new bytes → IsSent f (record old { due = due }) new bytes
 sent_behind f old new due bytes sent = record { mark = sent.mark; known = sent.known; events = sent.events; serves = sent.serves; untouched = sent.untouched; began = sent.began; began_file = sent.began_file }
 
 -- a send that is listed as one that fails after its work
-pub lost_as_listed : (f : KeyedFn) (fails : List Fail) (call : ℕ) (old new : Told) (bytes : List ℕ) → listed_at fails call ≡ Some true → IsLost f old new bytes
-    → IsSomeAnd (listed_at fails call) (λ delivered. FailsSend f delivered old new bytes)
+pub lost_as_listed : (f : KeyedFn) (fails : List Fail) (call : ℕ) (old new : LinkState) (bytes : List ℕ) → failure_at fails call ≡ Some true → IsLost f old new bytes
+    → IsSomeAnd (failure_at fails call) (λ delivered. FailsSend f delivered old new bytes)
 lost_as_listed f fails call old new bytes listed lost = subst (λ (o : Option Bool). IsSomeAnd o (λ delivered. FailsSend f delivered old new bytes)) (sym listed) lost

@@ -14,7 +14,7 @@ use Rattle.sse_frames.specs.Replies.{ReplyText, Page, IsPage, IsIdentifier, repl
 use Rattle.server_core.specs.Refusal.{is_nil}
 use Rattle.server_core.specs.State.{ServerState}
 use Rattle.server_core.specs.Walk.{contents_of, rest_of}
-use Rattle.sse_frames.specs.Sending.{page_each, pages_of, pages}
+use Rattle.sse_frames.specs.SentParts.{page_each, pages_of, pages}
 use Rattle.server_core.specs.declared.answer.Answer.{Answer}
 use Rattle.server_core.specs.declared.answer.Answer.TheVariants as answers
 use Rattle.server_core.specs.Views.{answer_replies}

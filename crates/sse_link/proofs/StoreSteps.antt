@@ -11,7 +11,7 @@ use Rattle.sse_outside.specs.declared.device_fault.DeviceFault.TheVariants as de
 use Rattle.sse_frames.specs.Frames.{FrameText, Hello, SetupBegin, SetupDict, SetupArray, SetupEnd, AddFrame, DeleteFrame, SearchFrame, update_number}
 use Rattle.sse_frames.specs.Replies as texts
 use Rattle.sse_frames.specs.Replies.{ReplyText, reply_bytes}
-use Rattle.sse_frames.specs.Sending.{pages_of}
+use Rattle.sse_frames.specs.SentParts.{pages_of}
 use Rattle.server_core.specs.Refusal.{refusal, is_nil}
 use Rattle.server_core.specs.State.{ServerState}
 use Rattle.server_core.specs.Step.{taken, answers, step}
@@ -20,43 +20,43 @@ use Rattle.sse_server.specs.Answers.{store_replies, fault_answer}
 use Rattle.sse_server.specs.StoreView.{StoreView, IsStoreOf}
 use Rattle.sse_server.specs.Taken.{IsTaken}
 use Rattle.sse_server.specs.declared.store_answer.StoreAnswer.{StoreAnswer}
-use Rattle.sse_server.specs.declared.store_answer.StoreAnswer.TheVariants.{Core, StoreFault}
-use Rattle.sse_server.proofs.Taking.{step_stays}
+use Rattle.sse_server.specs.declared.store_answer.StoreAnswer.TheVariants.{Answered, StoreFault}
+use Rattle.sse_server.proofs.TakenFrames.{step_stays}
 use Rattle.sse_link.proofs.Pages.{is_nil-answer_replies}
-use Rattle.link_events.specs.Served.{Answers}
-use Rattle.link_events.specs.Taken.{update_taken, taken_one}
-use Rattle.link_events.specs.Events.{IsStepped}
-use Rattle.link_events.specs.declared.mark.Mark.{Mark}
-use Rattle.link_events.specs.declared.mark.Mark.TheVariants.{Stepped, LackedMemory, StoreFailed}
+use Rattle.def_link_events.specs.Served.{Answers}
+use Rattle.def_link_events.specs.Taken.{update_taken, taken_one}
+use Rattle.def_link_events.specs.Events.{IsStepped}
+use Rattle.def_link_events.specs.declared.mark.Mark.{Mark}
+use Rattle.def_link_events.specs.declared.mark.Mark.TheVariants.{Stepped, LackedMemory, StoreFailed}
 
 -- Which answer it is.
 
 pub data Kind (answer : StoreAnswer) : Type 0 where
-  Lacking : answer ≡ Core cores.NoMemory → Kind answer
+  Lacking : answer ≡ Answered cores.NoMemory → Kind answer
   Failing : answer ≡ StoreFault → Kind answer
-  Other : answer ≢ Core cores.NoMemory → answer ≢ StoreFault → Kind answer
+  Other : answer ≢ Answered cores.NoMemory → answer ≢ StoreFault → Kind answer
 
 pub kind_of : (answer : StoreAnswer) → Kind answer
-kind_of (Core (cores.Next q)) = Other (λ e. absurd cc) (λ e. absurd cc)
-kind_of (Core (cores.Took q)) = Other (λ e. absurd cc) (λ e. absurd cc)
-kind_of (Core (cores.Number q)) = Other (λ e. absurd cc) (λ e. absurd cc)
-kind_of (Core (cores.Clash what place)) = Other (λ e. absurd cc) (λ e. absurd cc)
-kind_of (Core (cores.Found count walk)) = Other (λ e. absurd cc) (λ e. absurd cc)
-kind_of (Core cores.BadList) = Other (λ e. absurd cc) (λ e. absurd cc)
-kind_of (Core cores.NoMemory) = Lacking refl
-kind_of (Core cores.OutOfPlace) = Other (λ e. absurd cc) (λ e. absurd cc)
+kind_of (Answered (cores.Next q)) = Other (λ e. absurd cc) (λ e. absurd cc)
+kind_of (Answered (cores.Took q)) = Other (λ e. absurd cc) (λ e. absurd cc)
+kind_of (Answered (cores.Number q)) = Other (λ e. absurd cc) (λ e. absurd cc)
+kind_of (Answered (cores.Clash what place)) = Other (λ e. absurd cc) (λ e. absurd cc)
+kind_of (Answered (cores.Found count walk)) = Other (λ e. absurd cc) (λ e. absurd cc)
+kind_of (Answered cores.BadList) = Other (λ e. absurd cc) (λ e. absurd cc)
+kind_of (Answered cores.NoMemory) = Lacking refl
+kind_of (Answered cores.OutOfPlace) = Other (λ e. absurd cc) (λ e. absurd cc)
 kind_of StoreFault = Failing refl
 
 -- a frame that was read and handled
 pub Answers-stored : (f : KeyedFn) (before after : ServerState) (page : List ℕ) (read frame : FrameText) (answer : StoreAnswer) (mark : Mark) (replies : List ReplyText)
     → read ≡ frame
-    → (answer ≢ Core cores.NoMemory → answer ≢ StoreFault → after ≡ (step f before read).0)
-    → (answer ≢ Core cores.NoMemory → answer ≢ StoreFault → store_replies f after answer page ≡ (step f before read).1)
-    → (answer ≡ Core cores.NoMemory → (after ≡ before) × IsTaken before read)
+    → (answer ≢ Answered cores.NoMemory → answer ≢ StoreFault → after ≡ (step f before read).0)
+    → (answer ≢ Answered cores.NoMemory → answer ≢ StoreFault → store_replies f after answer page ≡ (step f before read).1)
+    → (answer ≡ Answered cores.NoMemory → (after ≡ before) × IsTaken before read)
     → (answer ≡ StoreFault → (after ≡ before) × IsTaken before read)
     → replies ≡ store_replies f after answer page
-    → (answer ≢ Core cores.NoMemory → answer ≢ StoreFault → mark ≡ Stepped)
-    → (answer ≡ Core cores.NoMemory → mark ≡ LackedMemory)
+    → (answer ≢ Answered cores.NoMemory → answer ≢ StoreFault → mark ≡ Stepped)
+    → (answer ≡ Answered cores.NoMemory → mark ≡ LackedMemory)
     → (answer ≡ StoreFault → mark ≡ StoreFailed)
     → Answers f before frame mark after (map reply_bytes replies)
 Answers-stored f before after page read frame answer mark replies same state answered lacking failing are stepped lacked failed = by (kind_of answer)
@@ -86,15 +86,15 @@ pages_no_took (ids ∷ []) q same = cc
 pages_no_took (ids ∷ more ∷ others) q same = cc
 
 -- an acknowledgement is the answer that says so
-took_answer : (f : KeyedFn) (t : ServerState) (answer : StoreAnswer) (page : List ℕ) (q : ℕ) → store_replies f t answer page ≡ texts.Took q ∷ [] → answer ≡ Core (cores.Took q)
-took_answer f t (Core (cores.Next p)) page q same = absurd cc
-took_answer f t (Core (cores.Took p)) page q same = let number : p ≡ q = cc in ap (λ n. Core (cores.Took n)) number
-took_answer f t (Core (cores.Number p)) page q same = absurd cc
-took_answer f t (Core (cores.Clash what place)) page q same = absurd cc
-took_answer f t (Core (cores.Found count walk)) page q same = absurd (pages_no_took (parts 8192 _) q same)
-took_answer f t (Core cores.BadList) page q same = absurd cc
-took_answer f t (Core cores.NoMemory) page q same = absurd cc
-took_answer f t (Core cores.OutOfPlace) page q same = absurd cc
+took_answer : (f : KeyedFn) (t : ServerState) (answer : StoreAnswer) (page : List ℕ) (q : ℕ) → store_replies f t answer page ≡ texts.Took q ∷ [] → answer ≡ Answered (cores.Took q)
+took_answer f t (Answered (cores.Next p)) page q same = absurd cc
+took_answer f t (Answered (cores.Took p)) page q same = let number : p ≡ q = cc in ap (λ n. Answered (cores.Took n)) number
+took_answer f t (Answered (cores.Number p)) page q same = absurd cc
+took_answer f t (Answered (cores.Clash what place)) page q same = absurd cc
+took_answer f t (Answered (cores.Found count walk)) page q same = absurd (pages_no_took (parts 8192 _) q same)
+took_answer f t (Answered cores.BadList) page q same = absurd cc
+took_answer f t (Answered cores.NoMemory) page q same = absurd cc
+took_answer f t (Answered cores.OutOfPlace) page q same = absurd cc
 took_answer f t StoreFault page q same = absurd cc
 
 -- an update that isn't refused is acknowledged
@@ -129,10 +129,10 @@ step_of f s frame = by (update_number frame) refl (refusal s frame) refl
 
 -- a store that answered by its step has taken the update that it was, and else it is as before
 pub stored_step : {D : Type 0} (content : D → Option (List ℕ)) (images : D → List ℕ → Type 0) (disk disk' : D) (f : KeyedFn) (frame : FrameText) (s t : StoreView) (answer : StoreAnswer) (page : List ℕ)
-    → answer ≢ Core cores.NoMemory → answer ≢ StoreFault
+    → answer ≢ Answered cores.NoMemory → answer ≢ StoreFault
     → t.state ≡ (step f s.state frame).0
     → store_replies f t.state answer page ≡ (step f s.state frame).1
-    → ((q : ℕ) → answer ≡ Core (cores.Took q) → (frames : List FrameText) → IsStoreOf frames s (content disk) (images disk) → IsStoreOf (frames ++ frame ∷ []) t (content disk') (images disk'))
+    → ((q : ℕ) → answer ≡ Answered (cores.Took q) → (frames : List FrameText) → IsStoreOf frames s (content disk) (images disk) → IsStoreOf (frames ++ frame ∷ []) t (content disk') (images disk'))
     → ((IsTaken s.state frame → ⊥) → (disk' ≡ disk) × (t.journal ≡ s.journal))
     → (frames : List FrameText) → IsStoreOf frames s (content disk) (images disk) → IsStoreOf (frames ++ taken_one s.state frame) t (content disk') (images disk')
 stored_step content images disk disk' f frame s t answer page has kept state replied added untouched frames is = by (step_of f s.state frame)
@@ -151,7 +151,7 @@ stored_step content images disk disk' f frame s t answer page has kept state rep
 -- where a journal isn't broken by its disk and the disk doesn't fail, no frame is answered by a store fault, and the journal isn't broken so
 pub no_failure : (old new : Option DeviceFault) (answer : StoreAnswer) (was : Type 0) → old ≢ Some device.Failed
     → (answer ≡ StoreFault → was)
-    → IfSome old (λ why. was → (answer ≡ fault_answer why) ⊎ (answer ≡ Core cores.NoMemory))
+    → IfSome old (λ why. was → (answer ≡ fault_answer why) ⊎ (answer ≡ Answered cores.NoMemory))
     → (old ≡ None → IfSome new (λ why. answer ≡ fault_answer why))
     → (IsSome old → new ≡ old)
     → (answer ≡ StoreFault → old ≡ None → ⊥)
@@ -166,17 +166,17 @@ no_failure (Some device.NoMemory) new answer was ok is stays breaks kept rose = 
   λ e. lacking (stays (is e)) e,
 )
   where
-    lacking : (answer ≡ Core cores.NoMemory) ⊎ (answer ≡ Core cores.NoMemory) → answer ≡ StoreFault → ⊥
-    lacking (inl a) e = let no : Core cores.NoMemory ≡ StoreFault = sym a ∙ e in cc
-    lacking (inr a) e = let no : Core cores.NoMemory ≡ StoreFault = sym a ∙ e in cc
+    lacking : (answer ≡ Answered cores.NoMemory) ⊎ (answer ≡ Answered cores.NoMemory) → answer ≡ StoreFault → ⊥
+    lacking (inl a) e = let no : Answered cores.NoMemory ≡ StoreFault = sym a ∙ e in cc
+    lacking (inr a) e = let no : Answered cores.NoMemory ≡ StoreFault = sym a ∙ e in cc
 
 -- each answer has a reply
 pub is_nil-store_replies : (f : KeyedFn) (s : ServerState) (answer : StoreAnswer) (page : List ℕ) → is_nil (store_replies f s answer page) ≡ false
-is_nil-store_replies f s (Core answer) page = is_nil-answer_replies f s answer page
+is_nil-store_replies f s (Answered answer) page = is_nil-answer_replies f s answer page
 is_nil-store_replies f s StoreFault page = refl
 
 -- a frame that is marked as stepped was answered by none of the two
-pub not_lacking : (answer : StoreAnswer) (mark : Mark) → IsStepped mark → (answer ≡ Core cores.NoMemory → mark ≡ LackedMemory) → answer ≢ Core cores.NoMemory
+pub not_lacking : (answer : StoreAnswer) (mark : Mark) → IsStepped mark → (answer ≡ Answered cores.NoMemory → mark ≡ LackedMemory) → answer ≢ Answered cores.NoMemory
 not_lacking answer mark stepped lacked is = subst IsStepped (lacked is) stepped
 
 pub not_failing : (answer : StoreAnswer) (mark : Mark) → IsStepped mark → (answer ≡ StoreFault → mark ≡ StoreFailed) → answer ≢ StoreFault

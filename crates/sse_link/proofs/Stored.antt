@@ -11,12 +11,12 @@ use Rattle.server_core.specs.State.{ServerState, at_first}
 use Rattle.server_core.specs.Step.{taken, step, steps}
 use Rattle.sse_server.specs.StoreView.{StoreView, IsStoreOf}
 use Rattle.sse_server.specs.Taken.{taken_all, bodies}
-use Rattle.link_events.specs.Events.{Event, Sent, Received, IsStepped, AreStepped}
-use Rattle.link_events.specs.Taken.{AreSent, taken_one, frames_taken, bodies_taken, NoneRefused, updates_among}
-use Rattle.link_events.specs.declared.mark.Mark.{Mark}
-use Rattle.link_events.proofs.Taken.{AreSent-sent, AreSent-received, AreSent-once, AreStepped-sent, AreStepped-received, frames_taken-push, frames_taken-updates}
+use Rattle.def_link_events.specs.Events.{Event, Sent, Received, IsStepped, AreStepped}
+use Rattle.def_link_events.specs.Taken.{AreSent, taken_one, frames_taken, bodies_taken, NoneRefused, updates_among}
+use Rattle.def_link_events.specs.declared.mark.Mark.{Mark}
+use Rattle.def_link_events.proofs.Taken.{AreSent-sent, AreSent-received, AreSent-once, AreStepped-sent, AreStepped-received, frames_taken-push, frames_taken-updates}
 use Rattle.sse_link.specs.Stored.{HasTaken, HasStored, IsStored}
-use Rattle.sse_link.specs.Told.{Told}
+use Rattle.sse_link.specs.LinkStates.{LinkState}
 use Rattle.sse_link.proofs.StoreSteps.{IsStepOf, Takes, Leaves, step_of}
 
 -- States.
@@ -100,7 +100,7 @@ map_some (Some x) P Q more has = more x has
 gives_file : (payloads : List (List ℕ)) → All IsPayload payloads → Gives payloads (file payloads)
 gives_file payloads are = inr (record { payloads_are = are; commit = 0; tail = []; are = refl; unset = λ e. refl })
 
-pub IsStored-has : (f : KeyedFn) (told : Told) (store : StoreView) (images : List ℕ → Type 0) → IfSome told.began_file (λ bytes. HasStored f told.events told.began bytes store told.file images) → IsStored f told
+pub IsStored-has : (f : KeyedFn) (told : LinkState) (store : StoreView) (images : List ℕ → Type 0) → IfSome told.began_file (λ bytes. HasStored f told.events told.began bytes store told.file images) → IsStored f told
 IsStored-has f told store images has payloads frames are began sent stepped =
     let here : HasStored f told.events told.began (file payloads) store told.file images = subst (λ o. IfSome o (λ bytes. HasStored f told.events told.began bytes store told.file images)) began has in
     let is = here.now_is stepped in
@@ -111,8 +111,9 @@ IsStored-has f told store images has payloads frames are began sent stepped =
     ∙ ap (λ ps. Some (file ps)) (map-append body_of here.before (frames_taken f told.began here.frames))
     ∙ (λ i. Some (file (sym same i ++ bodies_taken f told.began (one i))))
 
+-- Promise P82, also here
 -- from a server that has taken nothing, with the journal of nothing, and where no frame is refused: it is the journal of the updates
-pub IsStored-updates : (f : KeyedFn) (told : Told) (frames : List FrameText) → IsStored f told → told.began ≡ at_first → told.began_file ≡ Some (file []) → AreSent frames told.events → AreStepped told.events → NoneRefused at_first frames
+pub IsStored-updates : (f : KeyedFn) (told : LinkState) (frames : List FrameText) → IsStored f told → told.began ≡ at_first → told.began_file ≡ Some (file []) → AreSent frames told.events → AreStepped told.events → NoneRefused at_first frames
     → told.file ≡ Some (file (bodies (updates_among frames)))
 IsStored-updates f told frames stored began empty sent stepped accepted =
     stored [] frames (All-nil IsPayload) empty sent stepped

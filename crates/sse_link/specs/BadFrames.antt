@@ -1,4 +1,4 @@
--- How bytes are answered that aren't one whole frame.
+-- The answer to bytes that aren't one whole frame.
 use Rattle.std.specs.Prelude.{ℕ, Bool, List, Result, Ok, Err}
 use Rattle.sse_frames.specs.declared.fault.FrameFault.{FrameFault}
 use Rattle.sse_frames.specs.declared.fault.FrameFault.TheVariants.{BadLength, BadKind, BadBody}

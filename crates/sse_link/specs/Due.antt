@@ -1,12 +1,12 @@
--- What a reply says of the replies to come.
+-- The replies to come after a reply.
 use Rattle.std.specs.Prelude.{ℕ, Bool, false, not, List, [], ◌∷◌, ◌++◌, take, Option, Some, None, if◌then◌else◌}
 use Rattle.keyed_fn.specs.KeyedFn.{KeyedFn}
 use Rattle.server_core.specs.State.{ServerState}
 use Rattle.server_core.specs.Walk.{contents_of, rest_of, IsFront, HasPage}
 use Rattle.sse_frames.specs.Replies.{ReplyText, Page, InReplies}
-use Rattle.sse_frames.specs.Reading.{IsReply}
+use Rattle.sse_frames.specs.ReadOutcomes.{IsReply}
 use Rattle.sse_frames.specs.FrameViews.{reply_view}
-use Rattle.sse_frames.specs.Sending.{pages}
+use Rattle.sse_frames.specs.SentParts.{pages}
 use Rattle.sse_link.specs.declared.due.Due.{Due}
 use Rattle.sse_link.specs.declared.due.Due.TheVariants as dues
 

@@ -1,10 +1,10 @@
 pub mod Due
 pub mod Marks
 pub mod Recorded
-pub mod Told
+pub mod LinkStates
 pub mod Counts
 pub mod Steady
-pub mod Failing
+pub mod FailingLoopback
 pub mod Scripted
 pub mod BadFrames
 pub mod Texts

@@ -1,8 +1,8 @@
--- What a link's record of all that passed holds, and whether it has the memory for one more.
+-- The contents of a link's record of all traffic, and whether it has the memory for one more event.
 use Rattle.std.specs.Prelude.{List, ◌<◌, vec_len, vec_capacity}
 use Rattle.sse_link.specs.declared.transcript.Transcript.{Transcript}
-use Rattle.link_events.specs.Events.{Event}
-use Rattle.link_events.specs.Passed.{events_of}
+use Rattle.def_link_events.specs.Events.{Event}
+use Rattle.def_link_events.specs.Passed.{events_of}
 
 abbrev pub recorded : Transcript → List Event
 recorded kept = events_of kept.passed.items

@@ -1,4 +1,4 @@
--- A store at the other end of a link, with its disk: what its file holds, and what a link to it keeps.
+-- A store at the other end of a link, with its disk: the contents of its file, and the parts that a link to it keeps.
 use Rattle.std.specs.Prelude.{◌≡◌, ◌≢◌, ℕ, List, ◌++◌, All, Option, Some, IfSome}
 use Rattle.sse_outside.specs.Causes.{Rose}
 use Rattle.sse_outside.specs.declared.device_fault.DeviceFault.TheVariants.{Failed}
@@ -9,17 +9,17 @@ use Rattle.sse_journal.specs.JournalView.{broken_by}
 use Rattle.server_core.specs.State.{ServerState, at_first}
 use Rattle.sse_server.specs.StoreView.{StoreView, IsStoreOf, IsWithin}
 use Rattle.sse_server.specs.Taken.{taken_all, bodies}
-use Rattle.link_events.specs.Events.{Event, AreStepped}
-use Rattle.link_events.specs.Taken.{AreSent, frames_taken, bodies_taken}
-use Rattle.link_events.specs.declared.mark.Mark.TheVariants.{StoreFailed}
+use Rattle.def_link_events.specs.Events.{Event, AreStepped}
+use Rattle.def_link_events.specs.Taken.{AreSent, frames_taken, bodies_taken}
+use Rattle.def_link_events.specs.declared.mark.Mark.TheVariants.{StoreFailed}
 use Rattle.sse_link.specs.declared.due.Due.{Due}
 use Rattle.sse_link.specs.Marks.{mark_of}
 use Rattle.sse_link.specs.Steady.{IsTelling}
-use Rattle.sse_link.specs.Told.{Told}
+use Rattle.sse_link.specs.LinkStates.{LinkState}
 
 -- what the file at the other end holds: where it was the journal of these records, and each of the frames that were sent was
 -- answered by the server's step, it is the journal of these and of the bodies of those frames that were taken as updates
-abbrev pub IsStored : KeyedFn → Told → Type 0
+abbrev pub IsStored : KeyedFn → LinkState → Type 0
 IsStored f told =
     (payloads : List (List ℕ)) (frames : List FrameText) → All IsPayload payloads → told.began_file ≡ Some (file payloads) → AreSent frames told.events → AreStepped told.events
     → told.file ≡ Some (file (payloads ++ bodies_taken f told.began frames))

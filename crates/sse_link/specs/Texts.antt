@@ -1,4 +1,4 @@
--- What is printed where a link did not carry a frame or a reply.
+-- The text printed when a link did not carry a frame or a reply.
 use Rattle.std.specs.Prelude.{ℕ, List, codes}
 use Rattle.sse_link.specs.declared.link_fault.LinkFault.{LinkFault}
 use Rattle.sse_link.specs.declared.link_fault.LinkFault.TheVariants.{Cut, NoMemory}

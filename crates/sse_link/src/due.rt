@@ -3,7 +3,7 @@ ghost use Rattle.keyed_fn.specs.KeyedFn.{KeyedFn, keyed_fn};
 ghost use Rattle.sse_frames.specs.Replies.{Page, StoreFault, reply_bytes};
 ghost use Rattle.server_core.specs.State.{ServerState};
 ghost use Rattle.server_core.specs.Views.{answer_replies, HasRange, HasBegun};
-ghost use Rattle.link_events.specs.declared.mark.Mark.TheVariants.{Stepped, LackedMemory, StoreFailed};
+ghost use Rattle.def_link_events.specs.declared.mark.Mark.TheVariants.{Stepped, LackedMemory, StoreFailed};
 ghost use Rattle.sse_link.specs.Due.{waiting, first_of, behind_first, is_more, IsOpenPage, IsDue, CanWrite};
 ghost use Rattle.sse_link.specs.Marks.{mark_of};
 ghost use Rattle.sse_link.specs.Scripted.{reply_size};

@@ -1,33 +1,35 @@
-//! What stands between client and server: it carries frames one way and replies the other. `Link` is the trait that the
-//! client is written over, and its ghost members let a contract speak of all that was sent and received. In memory
-//! there are loopbacks to a server in this process, with a journal on a disk or without one, which never fail or fail at
-//! chosen calls, and a link that plays back replies, honest or not; `answer_bytes` is what a server replies to any bytes.
-//! It depends on `sse_frames`, `server_core` and `sse_server`; it knows no word and no key. The theorem that callers use:
-//! all that a loopback tells is honest (`IsServed` of specs/Served.antt), each frame with the server's step, or out of
-//! memory or with a fault of its disk, and its replies in order; and where each had the step, the file at the other end is
-//! the journal of the updates that were taken (`IsStored` of specs/Stored.antt). It says nothing of a real connection.
+//! Carries frames from client to server and replies back: the trait `Link`, over which the client is written, and
+//! links in memory. Its ghost members let a contract speak of all that was sent and received. There are loopbacks to
+//! a server in this process, with a journal on a disk or without one, that never fail or fail at chosen calls, and a
+//! link that plays back replies, honest or not. `answer_bytes` is what a server replies to any bytes. It depends on
+//! `sse_frames`, `server_core` and `sse_server`, and knows no word and no key.
+//! Proved: all that a loopback reports is honest (`IsServed`): each frame had the server's step, or was out of
+//! memory, or met a fault of the disk. If each had its step, the file at the server is the journal of the updates
+//! (`IsStored` of specs/Stored.antt).
+//! Not covered: a real connection.
+//! Side: server.
 #![tactic(auto)]
 
-mod answering;
+mod answers;
 mod counts;
 mod due;
 mod fail;
-mod far;
 mod link;
 mod link_fault;
 mod loopback;
+mod remote;
 mod scripted;
 mod steady;
 mod steady_store;
-mod storing;
+mod stored_answers;
 mod transcript;
 mod whole;
 
-pub use answering::answer_bytes;
+pub use answers::answer_bytes;
+pub use def_link_events::{Mark, Passed};
 pub use due::{Due, FULL_PAGE};
 pub use fail::Fail;
 pub use link::Link;
-pub use link_events::{Mark, Passed};
 pub use link_fault::LinkFault;
 pub use loopback::Loopback;
 pub use scripted::ScriptedLink;

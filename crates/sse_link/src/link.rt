@@ -3,8 +3,8 @@ ghost use Rattle.std.specs.declared.option.Option.{Option};
 ghost use Rattle.std.specs.Option.{option_map};
 ghost use Rattle.sse_outside.specs.Causes.{Rose};
 ghost use Rattle.sse_frames.specs.Replies.{StoreFault, reply_bytes};
-ghost use Rattle.link_events.specs.declared.mark.Mark.{Mark};
-ghost use Rattle.link_events.specs.Events.{Event, Sent, Received, Remote};
+ghost use Rattle.def_link_events.specs.declared.mark.Mark.{Mark};
+ghost use Rattle.def_link_events.specs.Events.{Event, Sent, Received, Remote};
 ghost use Rattle.sse_link.specs.Due.{IsOpenPage};
 ghost use Rattle.sse_link.specs.Scripted.{reply_size};
 ghost use Rattle.sse_frames.specs.Frames.{IsFrame};
@@ -31,6 +31,8 @@ pub trait Link {
 
     ghost began: { Self → Option Remote };
 
+    // Promise P83 (caller): A link's fault count rises at a call that is cut and at a reported fault of the server's disk, and nowhere else.
+    //   clauses: steady, cut_cause, no_memory_count; assumes: sizes in bounds; not: How the link counts is a duty of each link; sockets meet it as tested.
     /// Sends one frame of the grammar, all of its bytes, with its four length bytes. Replies to an earlier frame that
     /// weren't received are dropped.
     ///
@@ -56,6 +58,7 @@ pub trait Link {
         ensures began_kept { began self.new ≡ began self.old }
         ensures later { faults self.old ≤ faults self.new };
 
+    // Promise P83, also here; clauses: steady, cut_cause, store_fault, no_memory_count, due_after, one_reply
     /// Receives the next reply to the frame sent last at the front of `out`, with its four length bytes, and answers
     /// how many bytes it has: 4 to 65,544. A reply whose length is out of its range is given as these four bytes alone.
     ///

@@ -5,18 +5,18 @@ ghost use Rattle.server_core.specs.Refusal.{is_nil};
 ghost use Rattle.keyed_fn.specs.KeyedFn.{keyed_fn};
 ghost use Rattle.sse_link.specs.Due.{IsOpenPage};
 ghost use Rattle.sse_link.specs.Scripted.{reply_size};
-ghost use Rattle.link_events.specs.Events.{AreKnown};
-ghost use Rattle.sse_link.specs.Failing.{listed_at, worked, failed, FailsSend};
-ghost use Rattle.link_events.specs.Passed.{events_of};
-ghost use Rattle.link_events.specs.Served.{IsServed, idle};
+ghost use Rattle.def_link_events.specs.Events.{AreKnown};
+ghost use Rattle.sse_link.specs.FailingLoopback.{failure_at, worked, failed, FailsSend};
+ghost use Rattle.def_link_events.specs.Passed.{events_of};
+ghost use Rattle.def_link_events.specs.Served.{IsServed, idle};
 ghost use Rattle.sse_frames.specs.Frames.{IsFrame};
 ghost use Rattle.sse_link.specs.Stored.{HasTaken, IsStored};
-ghost use Rattle.sse_link.specs.Told.{told_on, served, dropped, IsSent, IsReceived};
+ghost use Rattle.sse_link.specs.LinkStates.{link_state_on, served, dropped, IsSent, IsReceived};
 ghost use Rattle.sse_journal.specs.JournalView.{broken_by};
 ghost use Rattle.sse_server.specs.StoreView.{IsWithin};
 
 use crate::counts::one_more;
-use crate::far::Far;
+use crate::remote::RemoteServer;
 use crate::scripted::is_store_fault;
 use crate::{Fail, Link, LinkFault, Passed};
 use keyed_fn::Keyed;
@@ -34,7 +34,7 @@ use std::marker::Model;
 /// that receives the report of a fault of the disk, and with no other. A call without memory isn't counted.
 #[derive(Drop)]
 pub struct Loopback<K: Keyed, T: Tables, D: Disk> {
-    far: Far<K, T, D>,
+    far: RemoteServer<K, T, D>,
     fails: Vec<Fail>,
     calls: u64,
     cut: bool,
@@ -43,9 +43,9 @@ pub struct Loopback<K: Keyed, T: Tables, D: Disk> {
 
 impl<K: Keyed, T: Tables, D: Disk> Model for Loopback<K, T, D> {
     ghost use Rattle.std.specs.Prelude.{[], if◌then◌else◌};
-    ghost use Rattle.sse_link.specs.Failing.{FailingTold, failing_code};
+    ghost use Rattle.sse_link.specs.FailingLoopback.{FailingState, failing_code};
 
-    ghost Value = { FailingTold };
+    ghost Value = { FailingState };
 
     ghost coded = { failing_code };
 
@@ -72,10 +72,10 @@ impl<K: Keyed, T: Tables, D: Disk> Loopback<K, T, D> {
         requires whole { broken_by store.journal ≡ None }
         requires within { IsWithin store.journal (D.content disk) }
         requires taken { IfSome (D.content disk) (λ _. HasTaken store (D.content disk) (D.images disk)) }
-        ensures { result ≡ record { told = told_on store.state (D.content disk); fails = fails.items; calls = 0; faults = 0 } }
+        ensures { result ≡ record { told = link_state_on store.state (D.content disk); fails = fails.items; calls = 0; faults = 0 } }
     {
         Loopback {
-            far: Far::new(alloc, keyed, store, disk),
+            far: RemoteServer::new(alloc, keyed, store, disk),
             fails,
             calls: 0,
             cut: false,
@@ -83,6 +83,8 @@ impl<K: Keyed, T: Tables, D: Disk> Loopback<K, T, D> {
         }
     }
 
+    // Promise P81, also here; clauses: honest, known
+    // Promise P82, also here; clauses: stored
     /// All that passed, in order: each frame was answered by the server's step, or out of memory or with a fault of its
     /// disk where its mark says so, and each reply that was received was the next of its replies. Where each was answered by
     /// the step, the file is the journal of what it was, and of the updates that were taken since (`IsStored`).
@@ -126,20 +128,22 @@ impl<K: Keyed, T: Tables, D: Disk> Link for Loopback<K, T, D> {
 
     ghost began = { λ l. Some (record { state = l.told.began; file = l.told.began_file }) };
 
+    // Promise P84 (caller): The failing loopback is cut at exactly its listed calls, if memory suffices; the steady ones never are.
+    //   clauses: not_listed, listed, undelivered, worked, failed; assumes: enough memory
     fn send(&mut self, frame: &[u8]) -> Result<(), LinkFault>
         requires frame { IsFrame frame.now }
 
         // A call that works isn't listed.
-        ensures not_listed { OnOk result (listed_at self.old.fails self.old.calls ≡ None) }
+        ensures not_listed { OnOk result (failure_at self.old.fails self.old.calls ≡ None) }
         ensures sent { OnOk result (IsSent (keyed_fn K.prf K.pad) self.old.told self.new.told frame.now) }
         ensures waits { OnOk result (is_nil self.new.told.due ≡ false) }
         ensures worked { OnOk result (self.new ≡ worked self.old self.new.told) }
 
         // One that is cut is listed, and fails as listed.
-        ensures listed { result ≡ Err LinkFault.Cut → IsSomeAnd (listed_at self.old.fails self.old.calls)
+        ensures listed { result ≡ Err LinkFault.Cut → IsSomeAnd (failure_at self.old.fails self.old.calls)
             (λ delivered. FailsSend (keyed_fn K.prf K.pad) delivered self.old.told self.new.told frame.now) }
         ensures failed { result ≡ Err LinkFault.Cut → self.new ≡ failed self.old self.new.told }
-        ensures undelivered { listed_at self.old.fails self.old.calls ≡ Some false → result ≡ Err LinkFault.Cut }
+        ensures undelivered { failure_at self.old.fails self.old.calls ≡ Some false → result ≡ Err LinkFault.Cut }
 
         ensures no_memory { result ≡ Err LinkFault.NoMemory → self.new ≡ self.old }
         ensures later { self.old.faults ≤ self.new.faults }
@@ -159,12 +163,13 @@ impl<K: Keyed, T: Tables, D: Disk> Link for Loopback<K, T, D> {
         }
     }
 
+    // Promise P84, also here; clauses: not_listed, listed, worked, reported, failed
     fn recv(&mut self, out: &mut [u8]) -> Result<usize, LinkFault>
         requires room { 65544 ≤ length out.old }
         requires due { not (is_nil self.old.told.due) ≡ true }
 
         // A call that works isn't listed.
-        ensures not_listed { IfOk result (λ _. listed_at self.old.fails self.old.calls ≡ None) }
+        ensures not_listed { IfOk result (λ _. failure_at self.old.fails self.old.calls ≡ None) }
         ensures received { IfOk result (λ n. IsReceived self.old.told self.new.told (take n out.new)) }
         ensures due_after { IfOk result (λ n. IsTrue (not (is_nil self.new.told.due)) ↔ IsOpenPage (take n out.new)) }
         ensures least { IfOk result (λ n. 4 ≤ n) }
@@ -178,7 +183,7 @@ impl<K: Keyed, T: Tables, D: Disk> Link for Loopback<K, T, D> {
         ensures reported { IfOk result (λ n. take n out.new ≡ reply_bytes StoreFault → self.new ≡ failed self.old self.new.told) }
 
         // One that is listed is cut.
-        ensures listed { (result ≡ Err LinkFault.Cut) ↔ IsSome (listed_at self.old.fails self.old.calls) }
+        ensures listed { (result ≡ Err LinkFault.Cut) ↔ IsSome (failure_at self.old.fails self.old.calls) }
         ensures failed { result ≡ Err LinkFault.Cut → self.new ≡ failed self.old (dropped self.old.told) }
 
         ensures no_memory { result ≡ Err LinkFault.NoMemory → self.new ≡ self.old }
@@ -198,7 +203,7 @@ impl<K: Keyed, T: Tables, D: Disk> Link for Loopback<K, T, D> {
 
 /// Whether the call fails, and then whether it fails after its work.
 fn fail_at(fails: &[Fail], call: u64) -> Option<bool>
-    ensures { result ≡ listed_at fails.now call }
+    ensures { result ≡ failure_at fails.now call }
 {
     for fail in fails {
         if fail.call == call {

@@ -2,7 +2,7 @@ ghost use Rattle.std.specs.Prelude.{◌≡◌, ◌≢◌, ◌↔◌, ◌+◌, �
 ghost use Rattle.sse_frames.specs.Replies.{StoreFault, reply_bytes};
 ghost use Rattle.sse_frames.specs.FrameViews.{reply_view};
 ghost use Rattle.sse_link.specs.Due.{leaves_more, IsOpenPage};
-ghost use Rattle.link_events.specs.Passed.{events_of};
+ghost use Rattle.def_link_events.specs.Passed.{events_of};
 ghost use Rattle.sse_link.specs.Scripted.{reply_size};
 
 use crate::counts::one_more;
@@ -28,9 +28,9 @@ pub struct ScriptedLink {
 impl Model for ScriptedLink {
     ghost use Rattle.std.specs.Prelude.{◌≤◌, drop, vec_len};
     ghost use Rattle.sse_link.specs.Recorded.{recorded};
-    ghost use Rattle.sse_link.specs.Scripted.{ScriptTold, script_code};
+    ghost use Rattle.sse_link.specs.Scripted.{ScriptState, script_code};
 
-    ghost Value = { ScriptTold };
+    ghost Value = { ScriptState };
 
     ghost coded = { script_code };
 
@@ -64,8 +64,8 @@ impl ScriptedLink {
 impl Link for ScriptedLink {
     ghost use Rattle.std.specs.Prelude.{None, Err, ◌∷◌, ◌++◌, drop, IfOk, OnOk, OnErr};
     ghost use Rattle.sse_outside.specs.Causes.{Rose};
-    ghost use Rattle.link_events.specs.declared.mark.Mark.TheVariants.{Unknown};
-    ghost use Rattle.link_events.specs.Events.{Sent, Received};
+    ghost use Rattle.def_link_events.specs.declared.mark.Mark.TheVariants.{Unknown};
+    ghost use Rattle.def_link_events.specs.Events.{Sent, Received};
     ghost use Rattle.sse_frames.specs.Frames.{IsFrame};
 
     ghost reply_due = { λ l. l.due };
@@ -90,6 +90,8 @@ impl Link for ScriptedLink {
         Ok(())
     }
 
+    // Promise P85 (caller): A link over made-up replies hands them out reply by reply and is cut exactly where they end.
+    //   clauses: size, reply, rest, end
     /// Hands out the reply in front of the bytes that are left.
     fn recv(&mut self, out: &mut [u8]) -> Result<usize, LinkFault>
         requires room { 65544 ≤ length out.old }

@@ -4,13 +4,13 @@ ghost use Rattle.server_core.specs.Refusal.{is_nil};
 ghost use Rattle.keyed_fn.specs.KeyedFn.{keyed_fn};
 ghost use Rattle.sse_link.specs.Due.{IsOpenPage};
 ghost use Rattle.sse_link.specs.Scripted.{reply_size};
-ghost use Rattle.link_events.specs.Events.{AreKnown};
-ghost use Rattle.link_events.specs.Passed.{events_of};
-ghost use Rattle.link_events.specs.Served.{IsServed, idle};
+ghost use Rattle.def_link_events.specs.Events.{AreKnown};
+ghost use Rattle.def_link_events.specs.Passed.{events_of};
+ghost use Rattle.def_link_events.specs.Served.{IsServed, idle};
 ghost use Rattle.sse_frames.specs.Frames.{IsFrame};
-ghost use Rattle.sse_link.specs.Told.{told_first, served, IsSent, IsReceived};
+ghost use Rattle.sse_link.specs.LinkStates.{link_state_first, served, IsSent, IsReceived};
 
-use crate::answering::answer_bytes;
+use crate::answers::answer_bytes;
 use crate::due::FULL_PAGE;
 use crate::transcript::Transcript;
 use crate::{Due, Link, LinkFault, Passed};
@@ -40,11 +40,11 @@ pub struct SteadyLoopback<K: Keyed, T: Tables> {
 impl<K: Keyed, T: Tables> Model for SteadyLoopback<K, T> {
     ghost use Rattle.std.specs.Prelude.{map, None};
     ghost use Rattle.sse_frames.specs.Replies.{reply_bytes};
-    ghost use Rattle.sse_link.specs.Told.{Told, told_code};
+    ghost use Rattle.sse_link.specs.LinkStates.{LinkState, link_state_code};
 
-    ghost Value = { Told };
+    ghost Value = { LinkState };
 
-    ghost coded = { told_code };
+    ghost coded = { link_state_code };
 
     ghost use Rattle.keyed_fn.specs.KeyedFn.{keyed_fn};
     ghost use Rattle.sse_link.specs.Due.{waiting};
@@ -66,7 +66,7 @@ impl<K: Keyed, T: Tables> Model for SteadyLoopback<K, T> {
 impl<K: Keyed, T: Tables> SteadyLoopback<K, T> {
     /// A link to this server, over which nothing has passed. Takes no memory.
     pub fn new(alloc: Global, keyed: K, server: Server<T>) -> SteadyLoopback<K, T>
-        ensures { result ≡ told_first server.state }
+        ensures { result ≡ link_state_first server.state }
     {
         let began = Snapshot::of(&server);
         SteadyLoopback {
@@ -79,6 +79,8 @@ impl<K: Keyed, T: Tables> SteadyLoopback<K, T> {
         }
     }
 
+    // Promise P81 (caller): All traffic over a loopback in memory is that of an honest server.
+    //   clauses: honest, known; assumes: earlier calls; not: A connection between two programs. Out of memory and a fault of the server's disk come only in reply to updates.
     /// All that passed, in order: each frame was answered by the server's step, or out of memory where its mark says
     /// so, and each reply that was received was the next of its replies.
     pub fn transcript(&self) -> &[Passed]
@@ -103,6 +105,7 @@ impl<K: Keyed, T: Tables> Link for SteadyLoopback<K, T> {
 
     ghost began = { λ l. Some (record { state = l.began; file = l.began_file }) };
 
+    // Promise P84, also here; clauses: err
     fn send(&mut self, frame: &[u8]) -> Result<(), LinkFault>
         requires frame { IsFrame frame.now }
         ensures sent { OnOk result (IsSent (keyed_fn K.prf K.pad) self.old self.new frame.now) }
@@ -115,6 +118,7 @@ impl<K: Keyed, T: Tables> Link for SteadyLoopback<K, T> {
         Ok(())
     }
 
+    // Promise P84, also here; clauses: no_fault, err
     fn recv(&mut self, out: &mut [u8]) -> Result<usize, LinkFault>
         requires room { 65544 ≤ length out.old }
         requires due { not (is_nil self.old.due) ≡ true }

@@ -5,18 +5,18 @@ ghost use Rattle.sse_frames.specs.Replies.{StoreFault, reply_bytes};
 ghost use Rattle.sse_journal.specs.JournalView.{broken_by};
 ghost use Rattle.server_core.specs.Refusal.{is_nil};
 ghost use Rattle.sse_server.specs.StoreView.{IsWithin};
-ghost use Rattle.link_events.specs.Events.{AreKnown};
-ghost use Rattle.link_events.specs.Passed.{events_of};
-ghost use Rattle.link_events.specs.Served.{IsServed, idle};
+ghost use Rattle.def_link_events.specs.Events.{AreKnown};
+ghost use Rattle.def_link_events.specs.Passed.{events_of};
+ghost use Rattle.def_link_events.specs.Served.{IsServed, idle};
 ghost use Rattle.sse_link.specs.Due.{IsOpenPage};
 ghost use Rattle.sse_link.specs.Scripted.{reply_size};
 ghost use Rattle.sse_link.specs.Stored.{HasTaken, IsStored};
-ghost use Rattle.sse_link.specs.Told.{told_on, served, IsSent, IsReceived};
+ghost use Rattle.sse_link.specs.LinkStates.{link_state_on, served, IsSent, IsReceived};
 
-use crate::far::Far;
+use crate::remote::RemoteServer;
 use crate::{Link, LinkFault, Passed};
 use keyed_fn::Keyed;
-use memory_disk::SteadyDisk;
+use outside_memory_disk::SteadyDisk;
 use server_tables::Tables;
 use sse_outside::Disk;
 use sse_server::Store;
@@ -29,15 +29,15 @@ use std::marker::Model;
 /// keeps all that passed. Besides it tells the store's file.
 #[derive(Drop)]
 pub struct SteadyStoreLoopback<K: Keyed, T: Tables> {
-    far: Far<K, T, SteadyDisk>,
+    far: RemoteServer<K, T, SteadyDisk>,
 }
 
 impl<K: Keyed, T: Tables> Model for SteadyStoreLoopback<K, T> {
-    ghost use Rattle.sse_link.specs.Told.{Told, told_code};
+    ghost use Rattle.sse_link.specs.LinkStates.{LinkState, link_state_code};
 
-    ghost Value = { Told };
+    ghost Value = { LinkState };
 
-    ghost coded = { told_code };
+    ghost coded = { link_state_code };
 
     ghost view = { λ l. l.far };
 }
@@ -54,13 +54,16 @@ impl<K: Keyed, T: Tables> SteadyStoreLoopback<K, T> {
         requires whole { broken_by store.journal ≡ None }
         requires within { IsWithin store.journal (⟦<SteadyDisk as Disk>⟧.content disk) }
         requires taken { IfSome (⟦<SteadyDisk as Disk>⟧.content disk) (λ _. HasTaken store (⟦<SteadyDisk as Disk>⟧.content disk) (⟦<SteadyDisk as Disk>⟧.images disk)) }
-        ensures { result ≡ told_on store.state (⟦<SteadyDisk as Disk>⟧.content disk) }
+        ensures { result ≡ link_state_on store.state (⟦<SteadyDisk as Disk>⟧.content disk) }
     {
         SteadyStoreLoopback {
-            far: Far::new(alloc, keyed, store, disk),
+            far: RemoteServer::new(alloc, keyed, store, disk),
         }
     }
 
+    // Promise P81, also here; clauses: honest, known
+    // Promise P82 (caller): While the server's step answers each frame, the loopback's file is the old journal plus the bodies of the updates taken.
+    //   clauses: stored; assumes: earlier calls; not: The file after a reply of out of memory or a disk fault.
     /// All that passed, in order: each frame was answered by the server's step, or out of memory where its mark says
     /// so, and each reply that was received was the next of its replies. Where each was answered by the step, the file is
     /// the journal of what it was, and of the updates that were taken since (`IsStored`).
@@ -92,6 +95,7 @@ impl<K: Keyed, T: Tables> Link for SteadyStoreLoopback<K, T> {
 
     ghost began = { λ l. Some (record { state = l.began; file = l.began_file }) };
 
+    // Promise P84, also here; clauses: err
     fn send(&mut self, frame: &[u8]) -> Result<(), LinkFault>
         requires frame { IsFrame frame.now }
         ensures sent { OnOk result (IsSent (keyed_fn K.prf K.pad) self.old self.new frame.now) }
@@ -101,6 +105,7 @@ impl<K: Keyed, T: Tables> Link for SteadyStoreLoopback<K, T> {
         self.far.send(frame)
     }
 
+    // Promise P84, also here; clauses: no_fault, err
     fn recv(&mut self, out: &mut [u8]) -> Result<usize, LinkFault>
         requires room { 65544 ≤ length out.old }
         requires due { not (is_nil self.old.due) ≡ true }

@@ -1,6 +1,6 @@
 ghost use Rattle.std.specs.Prelude.{◌≡◌, ◌<◌, [], ◌∷◌, ◌++◌, vec_len, vec_capacity, IfOk, OnOk};
-ghost use Rattle.link_events.specs.Events.{Sent, Received};
-ghost use Rattle.link_events.specs.Passed.{events_of};
+ghost use Rattle.def_link_events.specs.Events.{Sent, Received};
+ghost use Rattle.def_link_events.specs.Passed.{events_of};
 
 use crate::{Mark, Passed};
 use std::alloc::{AllocError, Global};

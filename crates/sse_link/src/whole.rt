@@ -1,6 +1,6 @@
 ghost use Rattle.std.specs.Prelude.{◌≡◌, IfOk, IfErr, IsOkAnd};
 ghost use Rattle.sse_frames.specs.Frames.{InGrammar, frame_bytes};
-ghost use Rattle.sse_frames.specs.Reading.{frame_outcome};
+ghost use Rattle.sse_frames.specs.ReadOutcomes.{frame_outcome};
 ghost use Rattle.sse_frames.specs.FrameViews.{frame_view};
 ghost use Rattle.sse_frames.specs.Sizes.{HasSizes};
 ghost use Rattle.sse_link.specs.BadFrames.{bad_reason};

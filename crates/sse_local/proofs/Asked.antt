@@ -2,10 +2,10 @@
 use Rattle.std.proofs.Common.{◌≡◌, ℕ, true, false, List, [], ◌∷◌, None, Some, map, refl, sym, ap, subst, ◌∙◌}
 use Rattle.std.specs.Prelude.{codes}
 use Rattle.std.proofs.lemmas.Slice.Eq.{bytes_eq-Decides}
-use Rattle.made_script.specs.Asked.{made_of}
-use Rattle.made_script.specs.declared.words.Made.{Made}
-use Rattle.run_texts.specs.Twins.{is_twin}
-use Rattle.run_texts.specs.Words.{Run, mode_of}
+use Rattle.script_made_lines.specs.Asked.{made_of}
+use Rattle.script_made_lines.specs.declared.words.Made.{Made}
+use Rattle.script_run_texts.specs.Twins.{is_twin}
+use Rattle.script_run_texts.specs.Words.{Run, mode_of}
 
 pub mode_of-twin : (words : List (List ℕ)) → is_twin words ≡ true → mode_of words ≡ None
 mode_of-twin [] e = refl

@@ -3,28 +3,28 @@ use Rattle.std.proofs.Common.{◌≡◌, ◌≤◌, inr, ℕ, ◌+◌, Bool, tru
 use Rattle.std.specs.Prelude.{IfErr, IfOk, IfSome, IsErrAnd, Result, Ok, Err}
 use Rattle.client_registry.specs.Run.{Run, at_first}
 use Rattle.client_registry.specs.Sized.{run_words}
-use Rattle.history_draws.specs.SheetOf.{IsSheetOf}
-use Rattle.history_reading.proofs.ReadingGoesOn.{elsewhere-steady, first-reading}
-use Rattle.history_reading.specs.Endings.{ending, stop_for}
-use Rattle.history_reading.specs.Reads.{ReadEnd, ReadsFirstFrom}
-use Rattle.history_reading.specs.Reads.{Stopped as NotRead}
-use Rattle.history_reading.specs.Turns.{IsElsewhere}
-use Rattle.history_reading.specs.TwoScripts.{EndsPart, behind_twin, first_left}
+use Rattle.leakage_draws.specs.SheetOf.{IsSheetOf}
+use Rattle.script_history.proofs.ReadingGoesOn.{elsewhere-steady, first-reading}
+use Rattle.script_history.specs.Endings.{ending, stop_for}
+use Rattle.script_history.specs.Reads.{ReadEnd, ReadsFirstFrom}
+use Rattle.script_history.specs.Reads.{Stopped as NotRead}
+use Rattle.script_history.specs.Turns.{IsElsewhere}
+use Rattle.script_history.specs.TwoScripts.{EndsPart, behind_twin, first_left}
 use Rattle.keyed_fn.specs.KeyedFn.{KeyedFn}
-use Rattle.named_values.specs.Sheets.{Values}
-use Rattle.run_texts.specs.Causes.{KeepsSink, KeepsSource, SourceCause}
-use Rattle.run_texts.specs.Stops.{stop_cause}
-use Rattle.run_texts.specs.declared.stop_cause.StopCause.{StopCause}
-use Rattle.script_meaning.specs.Stops.{Stop, At}
-use Rattle.sse_comparison.specs.Sums.{sums}
-use Rattle.sse_comparison.specs.UsedNames as used
-use Rattle.sse_leakage.specs.Leaking.{leak}
-use Rattle.sse_leakage.specs.Relabelled.{relabelled}
+use Rattle.leakage_names.specs.Sheets.{Values}
+use Rattle.script_run_texts.specs.Causes.{KeepsSink, KeepsSource, SourceCause}
+use Rattle.script_run_texts.specs.Stops.{stop_cause}
+use Rattle.script_run_texts.specs.declared.stop_cause.StopCause.{StopCause}
+use Rattle.def_script_meaning.specs.Stops.{Stop, At}
+use Rattle.def_comparison.specs.Sums.{sums}
+use Rattle.def_comparison.specs.UsedNames as used
+use Rattle.def_leakage.specs.CommandLeaks.{leak}
+use Rattle.def_leakage.specs.Relabelled.{relabelled}
 use Rattle.sse_model.specs.Names.{Table}
-use Rattle.sse_relabelling.specs.Comparison.{IsComparison, LeakTheSame}
+use Rattle.def_relabelling.specs.Comparison.{IsComparison, LeakTheSame}
 use Rattle.sse_script.specs.Shown.{Cause, NoMemory}
 use Rattle.sse_script.specs.TextLines.{lines_left, lines_of}
-use Rattle.sse_local.specs.Comparing.{AreBehind, AreComparedSo, GoesOnBehind, GoesOnFirst, ReadsBehind}
+use Rattle.sse_local.specs.Compared.{AreBehind, AreComparedSo, GoesOnBehind, GoesOnFirst, ReadsBehind}
 use Rattle.sse_local.specs.ComparisonViews.{compared_view}
 use Rattle.sse_local.specs.declared.comparison.Compared.{Compared}
 

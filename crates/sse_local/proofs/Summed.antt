@@ -4,16 +4,16 @@ use Rattle.std.specs.Prelude.{IfSome, None, flat_map}
 use Rattle.std.specs.Io.KnownBytes.{append_known}
 use Rattle.std.proofs.lemmas.Bool.{leb-false, leb-true}
 use Rattle.std.proofs.lemmas.List.{append-nil}
-use Rattle.history_reading.proofs.Ended.{ends_told, status_told, told-fault}
-use Rattle.history_reading.specs.Endings.{Seen, seen_of, stop_for}
+use Rattle.script_history.proofs.Ended.{ends_told, status_told, told-fault}
+use Rattle.script_history.specs.Endings.{Seen, seen_of, stop_for}
 use Rattle.keyed_fn.specs.KeyedFn.{KeyedFn}
-use Rattle.made_meaning.proofs.MadeMeaning.{made_script-end, made_script-ran}
-use Rattle.made_script.specs.Script.{made_script}
-use Rattle.made_script.specs.Summary.{made_summary}
-use Rattle.run_texts.specs.Causes.{SinkCause}
-use Rattle.run_texts.specs.Stops.{last_line, stop_cause, stop_of_sink, stop_status}
-use Rattle.script_meaning.specs.Meaning.{meaning}
-use Rattle.script_meaning.specs.Stops.{Stop, At, SinkFault, status_of, stop_text}
+use Rattle.def_made_meaning.proofs.MadeOutcome.{made_text-end, made_text-ran}
+use Rattle.script_made_lines.specs.Script.{made_text}
+use Rattle.script_made_lines.specs.Summary.{made_summary}
+use Rattle.script_run_texts.specs.Causes.{SinkCause}
+use Rattle.script_run_texts.specs.Stops.{last_line, stop_cause, stop_of_sink, stop_status}
+use Rattle.def_script_meaning.specs.Meaning.{meaning}
+use Rattle.def_script_meaning.specs.Stops.{Stop, At, SinkFault, status_of, stop_text}
 use Rattle.sse_client.specs.OverServer.{PrintsAsMeant, PrintsAsRun, PrintsMeaning}
 use Rattle.sse_outside.specs.Causes.{Rose}
 use Rattle.sse_outside.specs.Fronts.{TookFront, TookOrRose}
@@ -51,7 +51,7 @@ kept-is P (Some bytes) old script is empty p = let same : bytes ≡ script = cc 
 
 module _ (f : KeyedFn) (seed documents : ℕ) (few : documents ≤ 10000) where
   -- it came to the end of its script with nothing refused, or stopped for memory or for equal values
-  pub made-status : (old new : Option (List ℕ)) (status : ℕ) → PrintsAsRun f (made_script seed documents) old new status → status ≤ 9 → status ≢ 3 → status ≢ 4 → status ≢ 5 → status ≢ 6
+  pub made-status : (old new : Option (List ℕ)) (status : ℕ) → PrintsAsRun f (made_text seed documents) old new status → status ≤ 9 → status ≢ 3 → status ≢ 4 → status ≢ 5 → status ≢ 6
       → (status ≡ 0) ⊎ ((7 ≤ status) × (status ≤ 9))
   made-status old new status run most source sink link disk = by (nat_le status 2) refl
     where
@@ -59,18 +59,18 @@ module _ (f : KeyedFn) (seed documents : ℕ) (few : documents ≤ 10000) where
       by true e =
           let whole = run.runs.run in
           let low = leb-true status 2 e in
-          inl (whole.status_is ∙ ap status_of (made_script-ran f seed documents few _ whole.end whole.opens (omega (arith, low, whole.status_is))))
+          inl (whole.status_is ∙ ap status_of (made_text-ran f seed documents few _ whole.end whole.opens (omega (arith, low, whole.status_is))))
       by false e =
           let high = leb-false status 2 e in
           inr (omega (arith, high, source, sink, link, disk), most)
 
   -- what was printed is what the script means
-  printed : (text : List ℕ) (status : ℕ) → PrintsMeaning (meaning (made_script seed documents)) (Some []) (Some text) status
-      → (status ≡ 0) × (text ≡ flat_map text_of (meaning (made_script seed documents)).shown)
+  printed : (text : List ℕ) (status : ℕ) → PrintsMeaning (meaning (made_text seed documents)) (Some []) (Some text) status
+      → (status ≡ 0) × (text ≡ flat_map text_of (meaning (made_text seed documents)).shown)
   printed text status m =
-      let at_end = made_script-end seed documents few in
-      let lines = flat_map text_of (meaning (made_script seed documents)).shown in
-      let nothing : stop_text (meaning (made_script seed documents)).end ≡ [] = ap stop_text at_end in
+      let at_end = made_text-end seed documents few in
+      let lines = flat_map text_of (meaning (made_text seed documents)).shown in
+      let nothing : stop_text (meaning (made_text seed documents)).end ≡ [] = ap stop_text at_end in
       let same : Some text ≡ Some lines = m.printed ∙ ap (λ (rest : List ℕ). Some (lines ++ take m.q rest)) nothing ∙ ap (λ (rest : List ℕ). Some (lines ++ rest)) (none m.q) ∙ ap (λ b. Some b) (append-nil lines) in
       (m.status_is ∙ ap status_of at_end, inner same)
     where
@@ -81,12 +81,12 @@ module _ (f : KeyedFn) (seed documents : ℕ) (few : documents ≤ 10000) where
       inner e = cc
 
   module _ (text : List ℕ) (run_status : ℕ) (now last : Seen) (status : ℕ) where
-    pub made-run : PrintsAsRun f (made_script seed documents) (Some []) (Some text) run_status → Tells documents text run_status now last status ⊎ LacksMemory now last status
+    pub made-run : PrintsAsRun f (made_text seed documents) (Some []) (Some text) run_status → Tells documents text run_status now last status ⊎ LacksMemory now last status
         → HasMadeRun f seed documents now last status
     made-run runs (inl told) = inl (record { text = text; run_status = run_status; runs = runs; told = told })
     made-run runs (inr lacks) = inr lacks
 
-    pub made-summary : (run_status ≢ 7 → PrintsAsMeant f (made_script seed documents) (Some []) (Some text) run_status) → Tells documents text run_status now last status ⊎ LacksMemory now last status
+    pub made-summary : (run_status ≢ 7 → PrintsAsMeant f (made_text seed documents) (Some []) (Some text) run_status) → Tells documents text run_status now last status ⊎ LacksMemory now last status
         → status ≢ 4 → status ≢ 7 → PrintsSummaryAsMeant f seed documents now.written last.written status
     made-summary meant (inr lacks) sink memory = absurd (memory lacks.status_is)
     made-summary meant (inl (inl (zero, inl summed))) sink memory = λ free.

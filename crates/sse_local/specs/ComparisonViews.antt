@@ -1,7 +1,7 @@
--- What came of comparing two histories, as contracts see it.
-use Rattle.history_draws.specs.declared.counting.Counted.{Counted}
-use Rattle.sse_comparison.specs.Sums.{Sums}
-use Rattle.sse_relabelling.specs.Comparison.{Comparison, LeakTheSame, LeaksDiffer}
+-- A contract's view of the result of comparing two histories.
+use Rattle.leakage_draws.specs.declared.counted.Counted.{Counted}
+use Rattle.def_comparison.specs.Sums.{Sums}
+use Rattle.def_relabelling.specs.Comparison.{Comparison, LeakTheSame, LeaksDiffer}
 use Rattle.sse_local.specs.declared.comparison.Compared.{Compared}
 use Rattle.sse_local.specs.declared.comparison.Compared.TheVariants.{Same, Differ}
 

@@ -1,4 +1,4 @@
--- What a command line gives the program.
+-- The words that a command line gives the program.
 use Rattle.std.specs.Prelude.{ℕ, List, [], Option, None, Some, drop, map, string_bytes}
 use Rattle.sse_local.specs.declared.program.CommandLine.{CommandLine}
 use Rattle.sse_local.specs.declared.program.CommandLine.TheVariants as lines

@@ -1,4 +1,4 @@
 pub mod Given
-pub mod Comparing
+pub mod Compared
 pub mod ComparisonViews
 pub mod Made

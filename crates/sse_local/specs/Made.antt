@@ -1,14 +1,14 @@
--- What the program does with a made script: a run of it prints into memory, and one line is printed of that.
+-- The program's work on a made script: a run of it prints into memory, and one line of that is printed.
 use Rattle.std.specs.Prelude.{◌≡◌, ◌≤◌, ◌⊎◌, ◌-◌, ℕ, true, List, [], ◌∷◌, drop, flat_map, nat_eq, slice_get, codes, Option, Some}
 use Rattle.std.specs.Io.KnownBytes.{append_known}
 use Rattle.std.specs.List.{ends_with, starts_with}
-use Rattle.history_reading.specs.Endings.{EndsIn, Seen, StopsTelling}
+use Rattle.script_history.specs.Endings.{EndsIn, Seen, StopsTelling}
 use Rattle.keyed_fn.specs.KeyedFn.{KeyedFn}
-use Rattle.made_script.specs.Script.{made_script}
-use Rattle.made_script.specs.Summary.{made_summary}
-use Rattle.script_meaning.specs.Meaning.{Meaning, meaning}
-use Rattle.script_meaning.specs.Session.{IsFree}
-use Rattle.script_meaning.specs.Stops.{Stop, status_of}
+use Rattle.script_made_lines.specs.Script.{made_text}
+use Rattle.script_made_lines.specs.Summary.{made_summary}
+use Rattle.def_script_meaning.specs.Meaning.{Meaning, meaning}
+use Rattle.def_script_meaning.specs.Session.{IsFree}
+use Rattle.def_script_meaning.specs.Stops.{Stop, status_of}
 use Rattle.sse_client.specs.OverServer.{PrintsAsRun}
 use Rattle.sse_outside.specs.Causes.{Rose}
 use Rattle.sse_outside.specs.Fronts.{TookOrRose}
@@ -60,7 +60,7 @@ pub record LacksMemory (now last : Seen) (status : ℕ) : Type 0 where
 pub record HasSummed (f : KeyedFn) (seed documents : ℕ) (now last : Seen) (status : ℕ) : Type 0 where
   pub text : List ℕ
   pub run_status : ℕ
-  pub runs : PrintsAsRun f (made_script seed documents) (Some []) (Some text) run_status
+  pub runs : PrintsAsRun f (made_text seed documents) (Some []) (Some text) run_status
   pub told : Tells documents text run_status now last status
 
 abbrev pub HasMadeRun : KeyedFn → (seed documents : ℕ) → (now last : Seen) → (status : ℕ) → Type 0
@@ -78,5 +78,5 @@ pub record PrintsSummary (documents : ℕ) (m : Meaning) (old new : Option (List
 -- where its history has no collision
 abbrev pub PrintsSummaryAsMeant : KeyedFn → (seed documents : ℕ) → (old new : Option (List ℕ)) → (status : ℕ) → Type 0
 PrintsSummaryAsMeant f seed documents old new status =
-    let m = meaning (made_script seed documents) in
+    let m = meaning (made_text seed documents) in
     IsFree f m.key m.history → PrintsSummary documents m old new status

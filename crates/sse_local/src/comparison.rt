@@ -2,23 +2,23 @@ ghost use Rattle.std.specs.Prelude.{◌≡◌, ◌+◌, ◌<◌, ◌^◌, IfOk, 
 ghost use Rattle.client_registry.specs.Acceptance.{size_refusal};
 ghost use Rattle.client_registry.specs.Run.{at_first};
 ghost use Rattle.client_registry.specs.Sized.{run_words};
-ghost use Rattle.history_draws.specs.SheetOf.{IsSheetOf};
+ghost use Rattle.leakage_draws.specs.SheetOf.{IsSheetOf};
 ghost use Rattle.keyed_fn.specs.KeyedFn.{keyed_fn};
-ghost use Rattle.sse_comparison.specs.Sums.{sums};
-ghost use Rattle.sse_comparison.specs.UsedNames as used;
-ghost use Rattle.sse_local.specs.Comparing as says;
-ghost use Rattle.sse_local.specs.Comparing.{text_of_comparison};
+ghost use Rattle.def_comparison.specs.Sums.{sums};
+ghost use Rattle.def_comparison.specs.UsedNames as used;
+ghost use Rattle.sse_local.specs.Compared as says;
+ghost use Rattle.sse_local.specs.Compared.{text_of_comparison};
 ghost use Rattle.sse_local.specs.ComparisonViews.{compared_view, sums_view};
 ghost use Rattle.sse_model.specs.Histories.{table_of};
 ghost use Rattle.sse_model.specs.Names.{Table};
-ghost use Rattle.sse_relabelling.specs.Comparison.{IsComparison, LeakTheSame, LeaksDiffer};
+ghost use Rattle.def_relabelling.specs.Comparison.{IsComparison, LeakTheSame, LeaksDiffer};
 
-use command_history::History;
-use history_draws::{Counted, MoveFault, count, move_table};
 use keyed_fn::Keyed;
-use named_values::Sheet;
+use leakage_draws::{Counted, MoveFault, count, move_table};
+use leakage_history::History;
+use leakage_names::Sheet;
+use leakage_sheets::sheet_of;
 use std::alloc::{AllocError, Global};
-use value_sheets::sheet_of;
 use word_keys::MasterKey;
 
 /// What comes of comparing what two histories leak.

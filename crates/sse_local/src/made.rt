@@ -1,14 +1,14 @@
 ghost use Rattle.std.specs.Prelude.{◌≡◌, ◌≢◌, ◌≤◌, ◌⊎◌, ◌-◌, ℕ, true, List, [], length, slice_get, IfOk, IfSome, Some};
-ghost use Rattle.history_reading.specs.Endings.{seen_of};
+ghost use Rattle.script_history.specs.Endings.{seen_of};
 ghost use Rattle.keyed_fn.specs.KeyedFn.{keyed_fn};
-ghost use Rattle.made_script.specs.Script.{made_script};
+ghost use Rattle.script_made_lines.specs.Script.{made_text};
 ghost use Rattle.sse_client.specs.OverServer.{PrintsAsMeant, PrintsAsRun};
 ghost use Rattle.sse_local.specs.Made.{HasMadeRun, IsMadeStatus, IsStopLine, LacksMemory, PrintsSummaryAsMeant, Tells};
 ghost use Rattle.sse_outside.specs.Fronts.{TookOrRose};
 
 use keyed_fn::Keyed;
-use made_script::{Made, MadeScript, print_summary};
-use run_texts::{StopCause, finish};
+use script_made_lines::{Made, MadeScript, print_summary};
+use script_run_texts::{StopCause, finish};
 use sse_client::run_in_memory;
 use sse_outside::{Sink, SteadySink, print_all};
 use std::alloc::{AllocError, Global};
@@ -20,6 +20,7 @@ struct KeptRun {
     printed: SteadySink,
 }
 
+// Promise P08, also here; clauses: sums, headline, status
 /// Carries out a made script as any script, but prints one line of it: the summary of what the run printed. Where the run stopped, the
 /// line that says why is printed in its place, and the run's status is answered.
 ///
@@ -45,8 +46,8 @@ pub(crate) fn made_run<K: Keyed + Copy, W: Sink>(
 /// The run. It comes to the end of its script with nothing refused, or memory was wanting or two values are equal.
 fn kept_run<K: Keyed + Copy>(alloc: Global, keyed: &K, made: Made) -> Result<KeptRun, AllocError>
     requires few { made.documents ≤ 10000 }
-    ensures runs { IfOk result (λ run. PrintsAsRun (keyed_fn K.prf K.pad) (made_script made.seed made.documents) (Some []) (⟦<SteadySink as Sink>⟧.written run.printed) run.status) }
-    ensures headline { IfOk result (λ run. run.status ≢ 7 → PrintsAsMeant (keyed_fn K.prf K.pad) (made_script made.seed made.documents) (Some []) (⟦<SteadySink as Sink>⟧.written run.printed) run.status) }
+    ensures runs { IfOk result (λ run. PrintsAsRun (keyed_fn K.prf K.pad) (made_text made.seed made.documents) (Some []) (⟦<SteadySink as Sink>⟧.written run.printed) run.status) }
+    ensures headline { IfOk result (λ run. run.status ≢ 7 → PrintsAsMeant (keyed_fn K.prf K.pad) (made_text made.seed made.documents) (Some []) (⟦<SteadySink as Sink>⟧.written run.printed) run.status) }
     ensures known { IfOk result (λ run. (run.status ≡ 0) ⊎ ((7 ≤ run.status) × (run.status ≤ 9))) }
 {
     let words = vec![in alloc; String::from_str(alloc, "run")?]?;

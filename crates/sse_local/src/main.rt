@@ -1,9 +1,12 @@
-//! A client and its server in one process: the script comes from standard input, and what its lines come to goes to standard output. The
-//! words of the command line are those of `sse_run`, `run`; or `twin`, with which two scripts are compared by what a server would learn
-//! of them, and none is carried out; or `gen SEED N`, with which a script that is made of two numbers is run and summed up in a line. It
-//! ends with the status of the run, and with `stopped: memory` and 7 where there is no memory to read the words in. What it chooses stands
-//! in `run_program`, a call over values: the keyed function, the words, the status. Here it only reads the command line and names its
-//! devices.
+//! Client and server in one program: a script comes from standard input, and what its lines come to goes to standard
+//! output. It depends on `sse_client` for `run`. It depends on `script_history`, `leakage_draws` and `leakage_sheets`
+//! for `twin`, which compares two scripts by what a server would learn and carries out neither, and on `script_made_lines`
+//! for `gen SEED N`, which runs a made script and prints a summary. `main` only reads the command line and names the
+//! devices; without memory for the words it ends with `stopped: memory` and 7.
+//! Proved: what `run_program` chooses (keyed function, words, status); `made_run` and `twin_run`, over any source and
+//! sink: the lines, or why it stopped, and the status.
+//! Tested: tests/scripts, tests/twins and the scripts of examples, answered by an independent model.
+//! Side: client.
 #![tactic(auto)]
 
 mod comparison;

@@ -1,11 +1,11 @@
 ghost use Rattle.std.specs.Prelude.{◌≡◌, ◌≢◌, None, Some, IfSome, drop, false, map, string_bytes, true};
-ghost use Rattle.history_reading.specs.Endings.{seen_of};
+ghost use Rattle.script_history.specs.Endings.{seen_of};
 ghost use Rattle.keyed_fn.specs.KeyedFn.{keyed_fn};
-ghost use Rattle.made_script.specs.Asked.{made_of};
-ghost use Rattle.run_texts.specs.Twins.{is_twin};
-ghost use Rattle.run_texts.specs.Words as asks;
+ghost use Rattle.script_made_lines.specs.Asked.{made_of};
+ghost use Rattle.script_run_texts.specs.Twins.{is_twin};
+ghost use Rattle.script_run_texts.specs.Words as asks;
 ghost use Rattle.sse_client.specs.OverServer.{PrintsAsRun, PrintsAsMeant};
-ghost use Rattle.sse_local.specs.Comparing.{HasCompared};
+ghost use Rattle.sse_local.specs.Compared.{HasCompared};
 ghost use Rattle.sse_local.specs.Given.{words_given};
 ghost use Rattle.sse_local.specs.Made.{HasMadeRun, IsMadeStatus, PrintsSummaryAsMeant};
 ghost use Rattle.sse_outside.specs.Fronts.{TookOrRose};
@@ -15,8 +15,8 @@ ghost use Rattle.sse_script.specs.Texts.{text_of};
 use crate::made::made_run;
 use crate::twin::twin_run;
 use keyed_fn::{Keyed, Real};
-use made_script::made_of;
-use run_texts::{StopCause, asks_twin, finish};
+use script_made_lines::made_of;
+use script_run_texts::{StopCause, asks_twin, finish};
 use sse_client::run_in_memory;
 use sse_outside::{Sink, Source};
 use std::alloc::Global;
@@ -32,6 +32,18 @@ pub(crate) enum CommandLine {
     NoMemory,
 }
 
+// Promise P06 (user): Over an observable source, `sse_local run` prints its script's lines and ends with its status, under HMAC-SHA-256 and ChaCha20.
+//   clauses: runs, headline; assumes: observable devices, no collision, no device fault, enough memory; checks: .ci/end_to_end, .ci/random_scripts, .ci/long_scripts, .ci/memory; not:
+//     Standard input and output: they aren't observable, so of the shipped program these clauses say nothing, not even of its status. No clause says that status 3 or 4 means a fault of a
+//     device.
+// Promise P07 (user): The local program ends with 2 after unknown words and with 7 without memory for its words, and prints only that cause.
+//   clauses: other_words, other_words_line, no_memory, no_memory_line; assumes: observable devices; checks: .ci/end_to_end; not: That `main` passes the command line and ends
+//     with this status. Of the line a prefix may be printed if a fault or shortage count of the sink rose. Standard output isn't observable: there only the status is claimed.
+// Promise P08 (user): With `gen SEED N` the program runs a made script and prints one line: the summary, or why the run stopped.
+//   clauses: sums_up, summary, made_status, made_unread; assumes: no collision, no device fault, enough memory, observable devices; checks: .ci/end_to_end; not: If a run
+//     stopped, the line is only known to be the end of the run's output that begins with `stopped: `. Standard output isn't observable: of it only the status is claimed
+//     (`made_status`).
+// Promise P29, also here; clauses: compares, other_words
 /// All that the program does with a command line, a source and a sink, and the status to end with: under the real keyed function
 /// it carries out the script, or compares two, or sums up a run of a made one, where the words after its name ask for that. Where they
 /// aren't all texts it goes by no words.

@@ -1,21 +1,21 @@
 ghost use Rattle.std.specs.Prelude.{◌≡◌, ◌≢◌, ◌≤◌, ◌⊎◌, ◌+◌, ◌^◌, ℕ, List, None, Ok, Option, Some, IfErr, IfOk, IfSome, OnErr, OnOk, ◌||◌, true};
 ghost use Rattle.std.specs.Io.KnownBytes.{IsAtEnd};
 ghost use Rattle.client_registry.specs.Sized.{IsSized};
-ghost use Rattle.history_reading.specs.Endings.{ending, seen_of};
-ghost use Rattle.history_reading.specs.Turns.{IsElsewhere, first_end, reading_end};
+ghost use Rattle.script_history.specs.Endings.{ending, seen_of};
+ghost use Rattle.script_history.specs.Turns.{IsElsewhere, first_end, reading_end};
 ghost use Rattle.keyed_fn.specs.KeyedFn.{keyed_fn};
-ghost use Rattle.run_texts.specs.Causes.{KeepsSink, KeepsSource, SourceCause};
-ghost use Rattle.script_meaning.specs.Stops.{At};
-ghost use Rattle.sse_local.specs.Comparing.{AreBehind, AreComparedSo, GoesOnBehind, GoesOnFirst, HasCompared, IsCompared, ReadsBehind};
+ghost use Rattle.script_run_texts.specs.Causes.{KeepsSink, KeepsSource, SourceCause};
+ghost use Rattle.def_script_meaning.specs.Stops.{At};
+ghost use Rattle.sse_local.specs.Compared.{AreBehind, AreComparedSo, GoesOnBehind, GoesOnFirst, HasCompared, IsCompared, ReadsBehind};
 ghost use Rattle.sse_outside.specs.Causes.{Rose};
 ghost use Rattle.sse_script.specs.Shown.{NoMemory};
 ghost use Rattle.sse_script.specs.TextLines.{bytes_to_come, lines_left, lines_of};
 
 use crate::comparison::compare;
-use command_history::History;
-use history_reading::{FirstScript, ReadScript, read_first, read_history};
 use keyed_fn::Keyed;
-use run_texts::{Input, InputStop, StopCause, finish};
+use leakage_history::History;
+use script_history::{FirstScript, ReadScript, read_first, read_history};
+use script_run_texts::{Input, InputStop, StopCause, finish};
 use sse_outside::{Sink, Source, print_all};
 use std::alloc::Global;
 use word_keys::MasterKey;
@@ -28,6 +28,9 @@ struct Parted {
     refused: bool,
 }
 
+// Promise P29 (user): With `twin` the program compares two scripts by their leakage: the counts of the second, or the first command that leaks otherwise.
+//   clauses: compares, at_end, source_failed, source_steady, sink_failed, sink_steady; assumes: observable devices, no device fault, enough memory; checks: .ci/twin; not: That histories
+//     with different leakage can be told apart. Standard input and output, which aren't observable.
 /// Compares two scripts with a line `twin` between them: prints their refusals as a run prints them, then whether the two histories
 /// look the same to a server, and answers the status: 0 where they do, or 1 where they don't or a command was refused. The first
 /// script's key gives the values; the second one's only hashes.

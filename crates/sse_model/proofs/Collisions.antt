@@ -34,6 +34,7 @@ Contains-first o n run x within =
     parts : Contains (joined (drawn o (first n run)) ++ joined (probed o (first n run))) x
     parts = subst (λ names. Contains names x) (flat_map-append (λ n. n) (drawn o (first n run)) (probed o (first n run))) within
 
+-- Promise P160, also here
 -- where no names of a run collide, none of its first commands do
 pub IsCollisionFree-first : (t : Table) (o : Offsets) (n : ℕ) (run : Run) → IsCollisionFree t o run → IsCollisionFree t o (first n run)
 IsCollisionFree-first t o n run free =

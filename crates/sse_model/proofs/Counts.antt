@@ -24,7 +24,7 @@ use Rattle.client_registry.specs.Sized.{update_frames}
 use Rattle.sse_frames.proofs.Sorted.{length-by_bytes}
 use Rattle.sse_frames.specs.Frames.{Entry, FrameText, SetupBegin, SetupDict, SetupArray, SetupEnd, update_number}
 use Rattle.sse_frames.specs.Order.{by_bytes}
-use Rattle.sse_frames.specs.Sending.{numbered, dict_frames, array_frames, setup_frames}
+use Rattle.sse_frames.specs.SentParts.{numbered, dict_frames, array_frames, setup_frames}
 use Rattle.sse_model.specs.Names.{Table}
 use Rattle.sse_model.specs.Positions.{word_blocks, entries_from, blocks_from, entry_positions, block_positions, block_position, dummy_entry, dummy_block, sealed, ranks_of}
 use Rattle.sse_model.specs.Wire.{labels_in, frames_of_setup, frames_of, next_number, wire}
@@ -192,6 +192,7 @@ numbers-later t o s =
         ∙ sym (range_with_len-add first (length (filter is_update xs)) (length (filter is_update (x ∷ []))))
         ∙ ap (range_with_len first) (sym (ap length (filter-append is_update xs (x ∷ [])) ∙ length-append (filter is_update xs) (filter is_update (x ∷ []))))
 
+-- Promise P160, also here
 -- the update frames of a run are as many as it counts, and numbered one after another
 pub numbers-wire : (t : Table) (o : Offsets) (run : Run) → filter_map update_number (flat_map (λ fs. fs) (wire t o run)) ≡ range_with_len o.frame (update_frames run)
 numbers-wire t o run =

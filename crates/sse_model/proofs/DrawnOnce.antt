@@ -147,6 +147,8 @@ pub drawn_once : (o : Offsets) (run : Run) → IsCollected run.setup.documents �
     → IsDistinct same_name (flat_map (λ n. n) (drawn o run))
 drawn_once o run collected sized accepted = (all o run.setup collected run.later sized accepted).once
 
+-- Promise P160 (inside): No history draws a name twice, and its frames are in the grammar and numbered in a row.
+--   assumes: countable history, kept limits, no collision, sized table; not: That compared values rarely collide.
 -- no history draws a name twice
 pub drawn_once-history : (o : Offsets) (run : Run) → IsHistory run → IsDistinct same_name (flat_map (λ n. n) (drawn o run))
 drawn_once-history o run history = drawn_once o run history.collected history.each history.accepted

@@ -121,6 +121,7 @@ module _ (t : Table) (o : Offsets) (s : Setup) (later : List Command) (history :
       (over_all (frames_by t o s) InGrammar [] later
       (λ front c back e. All-from_recursion InGrammar (frames_by t o s front c) (command_in_grammar t o s names told front c (next_is told front c back e))))
 
+-- Promise P160, also here
 -- the frames of a history are in the grammar, where the numbers of its update frames fit, and the table is collision-free
 -- and gives each drawn name a value of its size
 pub wire_in_grammar : (t : Table) (o : Offsets) (run : Run) → IsHistory run → o.frame + update_frames run < 2 ^ 32 → IsCollisionFree t o run
@@ -128,6 +129,7 @@ pub wire_in_grammar : (t : Table) (o : Offsets) (run : Run) → IsHistory run �
     → All InGrammar (flat_map (λ fs. fs) (wire t o run))
 wire_in_grammar t o run history fits free values = in_grammar t o run.setup run.later history fits (IsTold-drawn t o run free values)
 
+-- Promise P160, also here
 -- so are those of the table of a keyed function
 pub wire_of_keys_in_grammar : (f : KeyedFn) → IsKeyedFn f → (keys : ℕ → List ℕ) (o : Offsets) (run : Run) → IsHistory run → o.frame + update_frames run < 2 ^ 32
     → IsCollisionFree (table f run.setup.shape keys) o run → All InGrammar (flat_map (λ fs. fs) (wire (table f run.setup.shape keys) o run))

@@ -9,7 +9,7 @@ use Rattle.sse_frames.proofs.Sorted.{AllDiffer}
 use Rattle.sse_model.proofs.Counts.{AllByRecursion-append, AllByRecursion-each}
 use Rattle.sse_model.proofs.SameName.{same_name-Decides}
 use Rattle.sse_model.proofs.SetupNames.{IsDistinct-entry_labels, IsDistinct-block_labels}
-use Rattle.sse_model.specs.Drawn.{is_compared, AreToldApart}
+use Rattle.sse_model.specs.Drawn.{is_compared, AreDistinct}
 use Rattle.sse_model.specs.Names.{Name, Class, ListLabels, PlaceTags, class_of, same_name, Table}
 use Rattle.sse_model.specs.Positions.{Position, word_blocks, block_position, dummy_entry, dummy_block, entries_from, blocks_from, entry_positions, block_positions}
 use Rattle.sse_model.specs.Wire.{labels_in}
@@ -40,7 +40,7 @@ blocks_have_tags epoch s =
     AllByRecursion-append (IsOfClass epoch PlaceTags) (blocks_from epoch s 0 (setup_words s)) (map (dummy_block epoch s) (range_with_len 0 (dummy_blocks s)))
     (own_tags epoch s 0 (setup_words s)) (AllByRecursion-each (IsOfClass epoch PlaceTags) (dummy_block epoch s) (λ j. (refl, refl)) (range_with_len 0 (dummy_blocks s)))
 
-module _ (t : Table) (epoch : ℕ) (class : Class) (compared : is_compared class ≡ true) (names : List Name) (apart : AreToldApart t names) where
+module _ (t : Table) (epoch : ℕ) (class : Class) (compared : is_compared class ≡ true) (names : List Name) (apart : AreDistinct t names) where
   one_differs : (x : Name) → x.epoch ≡ epoch → class_of x ≡ class → Contains names x → (ps : List Position)
       → AllByRecursion (IsOfClass epoch class) ps → AllByRecursion (λ p. Contains names p.label) ps
       → AllByRecursion (λ n. same_name x n ≡ false) (map (λ p. p.label) ps) → AllByRecursion (λ v. t x ≢ v) (labels_in t ps)
@@ -59,7 +59,7 @@ module _ (t : Table) (epoch : ℕ) (class : Class) (compared : is_compared class
   each_differs [] are there differ = tt
   each_differs (p ∷ ps) are there differ = (one_differs p.label are.0.0 are.0.1 there.0 ps are.1 there.1 differ.0, each_differs ps are.1 there.1 differ.1)
 
-module _ (t : Table) (epoch : ℕ) (s : Setup) (names : List Name) (apart : AreToldApart t names) where
+module _ (t : Table) (epoch : ℕ) (s : Setup) (names : List Name) (apart : AreDistinct t names) where
   -- so the labels of a setup's entries differ
   pub entry_labels_differ : AllByRecursion (λ p. Contains names p.label) (entry_positions epoch s) → AllDiffer (labels_in t (entry_positions epoch s))
   entry_labels_differ there = each_differs t epoch ListLabels refl names apart (entry_positions epoch s) (entries_have_labels epoch s) there (IsDistinct-entry_labels epoch s)

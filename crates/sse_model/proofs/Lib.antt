@@ -24,5 +24,5 @@ pub mod SetupGrammar
 pub mod UpdateGrammar
 pub mod Grammar
 pub mod HistoryLaws
-pub mod Exchanging
+pub mod ExchangeLaws
 pub mod LiveWords

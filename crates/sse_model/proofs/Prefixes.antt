@@ -60,6 +60,7 @@ module _ (o : Offsets) (s : Setup) (xs ys : List Command) where
   pub probed-append : probed o (run_of s (xs ++ ys)) ≡ probed o (run_of s xs) ++ over (probed_by o.epoch s) xs ys
   probed-append = ap (λ rest. [] ∷ rest) (over-append (probed_by o.epoch s) [] xs ys)
 
+-- Promise P160, also here
 -- the frames of the setup and of the first n commands are the wire of these commands
 pub take-wire : (t : Table) (o : Offsets) (n : ℕ) (run : Run) → take (suc n) (wire t o run) ≡ wire t o (first n run)
 take-wire t o n run = ap (λ rest. frames_of_setup t o run.setup ∷ rest) (take-over (frames_by t o run.setup) n [] run.later)
@@ -68,10 +69,12 @@ take-wire t o n run = ap (λ rest. frames_of_setup t o run.setup ∷ rest) (take
 pub take-transcript : (t : Table) (o : Offsets) (n : ℕ) (run : Run) → take (suc n) (transcript t o run) ≡ transcript t o (first n run)
 take-transcript t o n run = ap (λ rest. exchanged_setup t o run.setup ∷ rest) (take-over (exchanged_by t o run.setup) n [] run.later)
 
+-- Promise P160, also here
 -- the same of the replies
 pub take-replies : (o : Offsets) (n : ℕ) (run : Run) → take (suc n) (replies o run) ≡ replies o (first n run)
 take-replies o n run = ap (λ rest. acknowledgements o.frame (frames_needed run.setup) ∷ rest) (take-over (replies_of o run.setup) n [] run.later)
 
+-- Promise P160, also here
 -- the same of the drawn names
 pub take-drawn : (o : Offsets) (n : ℕ) (run : Run) → take (suc n) (drawn o run) ≡ drawn o (first n run)
 take-drawn o n run = ap (λ rest. names_of_setup o.epoch run.setup ∷ rest) (take-over (drawn_by o.epoch run.setup) n [] run.later)

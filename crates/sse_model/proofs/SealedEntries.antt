@@ -16,7 +16,7 @@ use Rattle.sse_model.proofs.Collisions.{joined}
 use Rattle.sse_model.proofs.Counts.{AllByRecursion-append, AllByRecursion-each}
 use Rattle.sse_model.proofs.Members.{Contains-head, Contains-cons}
 use Rattle.sse_model.proofs.Texts.{HasText, IsBytes-xored}
-use Rattle.sse_model.specs.Drawn.{drawn, probed, is_compared, AreToldApart, IsCollisionFree}
+use Rattle.sse_model.specs.Drawn.{drawn, probed, is_compared, AreDistinct, IsCollisionFree}
 use Rattle.sse_model.specs.Names.{Name, name, Kind, Table, class_of, size_at, cell_size, block_size}
 use Rattle.sse_model.specs.Positions.{Position, word_blocks, sealed, entries_from, blocks_from, block_position, dummy_entry, dummy_block, entry_positions, block_positions}
 use Rattle.sse_model.specs.Values.{IsValue}
@@ -24,7 +24,7 @@ use Rattle.sse_model.specs.Values.{IsValue}
 -- the table gives these names values of their sizes, different ones to different names of one epoch and one compared class
 pub record IsTold (s : Shape) (t : Table) (names : List Name) : Type 0 where
   pub values : (n : Name) → Contains names n → IsValue s t n
-  pub apart : AreToldApart t names
+  pub apart : AreDistinct t names
 
 -- so does the table of a collision-free run, for what it draws
 pub IsTold-drawn : (t : Table) (o : Offsets) (run : Run) → IsCollisionFree t o run

@@ -67,6 +67,7 @@ holds_pair-others (d ∷ docs) word id other differ = by (d.id == other) refl (h
     by true e h = h ∙ ap (λ b. (b && has_word word d) || holds_pair docs word id) (sym (ap (λ n. n == id) (eqb-true d.id other e) ∙ differ))
     by false e h = ap (λ b. (d.id == id && has_word word d) || b) h
 
+-- Promise P160, also here
 -- a pair that is listed and whose document isn't live with the word was sent
 pub listed_dead_was_sent : (s : Setup) (word : List ℕ) (id : ℕ) (past : List Command)
     → is_listed s past word id ≡ true → is_live_with s past word id ≡ false → was_sent s past word id ≡ true
@@ -217,6 +218,7 @@ deleted_is_drawn o s past id word accepted within =
     ⊎_elim (λ before. drawn_before o s past (Delete id) number (sent_is_drawn o s word id past accepted before))
     (λ unsent. drawn_now o s past (Delete id) number (deletion_draws o.epoch s past word id within unsent)) (cases_Bool (was_sent s past word id))
 
+-- Promise P160, also here
 -- each number in the frame of an addition is the value of a name that was drawn before
 pub relisted_is_drawn : (o : Offsets) (s : Setup) (past : List Command) (d : Document) (word : List ℕ)
     → are_accepted s past ≡ true → is_accepted s past (Add d) ≡ true → Contains (listed_words s past d) word

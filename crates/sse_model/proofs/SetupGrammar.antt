@@ -23,7 +23,7 @@ use Rattle.client_registry.specs.Setup.{Setup, setup_words}
 use Rattle.sse_frames.proofs.Sorted.{AllDiffer, Rises-by_bytes, All-by_bytes}
 use Rattle.sse_frames.specs.Frames.{Entry, FrameText, SetupBegin, SetupDict, SetupArray, SetupEnd, IsNumber, IsBytes, IsEntry, Rises, InGrammar}
 use Rattle.sse_frames.specs.Order.{by_bytes}
-use Rattle.sse_frames.specs.Sending.{numbered, dict_frames, array_frames}
+use Rattle.sse_frames.specs.SentParts.{numbered, dict_frames, array_frames}
 use Rattle.sse_model.proofs.BlocksWithin.{blocks_within}
 use Rattle.sse_model.proofs.Counts.{AllByRecursion-append, length-entry_positions, length-block_positions, length-frames_of_setup, length-numbered}
 use Rattle.sse_model.proofs.LabelsApart.{entry_labels_differ}

@@ -12,7 +12,7 @@ use Rattle.client_registry.specs.Run.{Offsets}
 use Rattle.client_registry.specs.Setup.{Setup}
 use Rattle.sse_frames.specs.Frames.{Entry, FrameText, SetupBegin, SetupDict, SetupArray, SetupEnd, AddFrame, DeleteFrame, SearchFrame, be64}
 use Rattle.sse_frames.specs.Order.{by_bytes}
-use Rattle.sse_frames.specs.Sending.{numbered, dict_frames, array_frames, setup_frames}
+use Rattle.sse_frames.specs.SentParts.{numbered, dict_frames, array_frames, setup_frames}
 use Rattle.list_packing.specs.Parts.{parts}
 use Rattle.two_level.specs.Shape.{Shape}
 use Rattle.sse_model.proofs.Prefixes.{run_of, frames_by}
@@ -101,6 +101,7 @@ frames_by-no_search t o s past (Add d) = refl
 frames_by-no_search t o s past (Delete id) = refl
 frames_by-no_search t o s past (Search word) = refl
 
+-- Promise P160, also here
 -- so the frames of a run's updates are those of the run that are no search's
 pub frames-updates : (t : Table) (o : Offsets) (s : Setup) (cs : List Command)
     → flat_map (λ frames. frames) (wire t o (run_of s (filter is_update cs))) ≡ filter is_no_search (flat_map (λ frames. frames) (wire t o (run_of s cs)))

@@ -1,4 +1,4 @@
--- The values of a command that have to differ, and where two of them are equal.
+-- The values of a command that must differ, and the place where two of them are equal.
 use Rattle.std.specs.Prelude.{ℕ, not, Bool, true, List, [], length, map, filter, slice_index, slice_index_or, Option, None, option_map}
 use Rattle.std.specs.List.{range_with_len}
 use Rattle.std.specs.Option.{option_or}

@@ -1,4 +1,4 @@
--- Which names a run draws, command by command and repeats included, and which a server looks up.
+-- The names that a run draws, command by command and repeats included, and those that a server looks up.
 use Rattle.std.specs.Prelude.{◌≡◌, ℕ, ◌+◌, Bool, true, false, not, ◌&&◌, ◌==◌, List, [], ◌∷◌, ◌++◌, map, filter, flat_map, bytes_eq, Contains, if◌then◌else◌}
 use Rattle.std.specs.List.{list_any, range_with_len}
 use Rattle.client_registry.specs.Documents.{has_word}
@@ -68,11 +68,11 @@ is_compared PlaceTags = true
 is_compared _ = false
 
 -- a table gives different values to different ones of these names, where they are of one epoch and of one compared class
-abbrev pub AreToldApart : Table → List Name → Type 0
-AreToldApart t names =
+abbrev pub AreDistinct : Table → List Name → Type 0
+AreDistinct t names =
     (x y : Name) → Contains names x → Contains names y →
     x.epoch ≡ y.epoch → class_of x ≡ class_of y → is_compared (class_of x) ≡ true → t x ≡ t y → x ≡ y
 
 -- no two different names of one epoch and one compared class, drawn or looked up, have equal values
 abbrev pub IsCollisionFree : Table → Offsets → Run → Type 0
-IsCollisionFree t o run = AreToldApart t (flat_map (λ n. n) (drawn o run ++ probed o run))
+IsCollisionFree t o run = AreDistinct t (flat_map (λ n. n) (drawn o run ++ probed o run))

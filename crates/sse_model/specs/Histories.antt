@@ -1,4 +1,4 @@
--- What passes for a history, whatever it is made of, and which of its values have to differ. Keys are by epoch.
+-- The traffic of a history, whatever it is made of, and its values that must differ. Keys are by epoch.
 use Rattle.std.specs.Prelude.{ℕ, List, [], ◌∷◌, flat_map, Option, None, Some}
 use Rattle.std.specs.Option.{option_or}
 use Rattle.keyed_fn.specs.KeyedFn.{KeyedFn}

@@ -64,6 +64,7 @@ pub data Class : Type 0 where
   Revocations : Class
   PlaceTags : Class
 
+-- Promise P156, also here
 abbrev pub class_at : Kind → ℕ → Class
 class_at Token number = Tokens
 class_at ListLabel number = ListLabels

@@ -1,4 +1,4 @@
--- What is encrypted: for each cell, block and new addition its label or tag, its pad, and its plaintext.
+-- The encrypted texts: for each cell, block and new addition its label or tag, its pad, and its plaintext.
 use Rattle.std.specs.Prelude.{ℕ, suc, ◌+◌, ◌&&◌, ◌||◌, not, Bool, List, [], ◌∷◌, ◌++◌, length, map, filter, take, drop, replicate, slice_index_or, bytes_eq, nat_lt, Option, None, Some}
 use Rattle.std.specs.List.{range_with_len}
 use Rattle.two_level.specs.Plan.{plan, block_count}

@@ -1,4 +1,4 @@
--- Which values a table may give a name.
+-- The values that a table may give a name.
 use Rattle.two_level.specs.Shape.{Shape}
 use Rattle.sse_frames.specs.Frames.{IsBytes}
 use Rattle.sse_model.specs.Names.{Name, Table, size_at}

@@ -1,4 +1,4 @@
--- The wire and the replies of a run: for each command its frames, and what they are answered.
+-- The wire and the replies of a run: for each command its frames, and their answers.
 use Rattle.std.specs.Prelude.{ℕ, ◌+◌, ◌==◌, List, [], ◌∷◌, length, map, filter, flat_map, if◌then◌else◌}
 use Rattle.client_registry.specs.Document.{Document}
 use Rattle.client_registry.specs.Setup.{Setup}
@@ -11,7 +11,7 @@ use Rattle.std.specs.List.{range_with_len}
 use Rattle.sse_frames.specs.Frames.{FrameText, AddFrame, DeleteFrame, SearchFrame}
 use Rattle.sse_frames.specs.Replies.{ReplyText, Took}
 use Rattle.sse_frames.specs.Order.{by_bytes}
-use Rattle.sse_frames.specs.Sending.{setup_frames, pages}
+use Rattle.sse_frames.specs.SentParts.{setup_frames, pages}
 use Rattle.sse_model.specs.Names.{name, Token, Revocation, Table}
 use Rattle.sse_model.specs.Positions.{Position, sealed, ranks_of, entry_positions, block_positions, addition_positions, listed_words}
 

@@ -1,7 +1,10 @@
-//! What a history sends and what is answered, as definitions alone: the names of all labels, tags, numbers,
-//! tokens and pads; the table of their values under a key; the wire, the replies, and which names a run draws
-//! and looks up. It depends on `client_registry` for histories, `two_level` for the layout of a list, `keyed_fn`
-//! for the key formulas and `sse_frames` for the frames. The laws are in proofs/: prefixes, searches that change
-//! no update's frames, names that are drawn once, frames that are in the grammar. The server's crates never stand
-//! here, since a name holds a word.
+//! What a history sends and what is answered, as definitions: the names of all labels, tags, numbers, tokens and
+//! pads, their values under a key, the frames, the replies, and which names a run draws and looks up. It depends on
+//! `client_registry` for histories, `two_level` for layouts, `keyed_fn` for key formulas and `sse_frames` for frames.
+//! A name holds its word, so no crate of the server depends on this one. Dummies have names of no word, at positions
+//! after those of the words, so that every Q has one definition; names are told apart by class, so that a dummy's
+//! label is compared with a word's.
+//! Proved: what a history sends is in the grammar, no name is drawn twice, and searches change no frame of an update
+//! (laws).
+//! Side: client.
 #![tactic(auto)]

@@ -1,12 +1,12 @@
--- A run that doesn't begin, since its file or its server can't be had.
+-- A run that doesn't begin, since its file or its server isn't available.
 use Rattle.std.specs.Prelude.{◌≡◌, ◌⊎◌, ℕ, List, Option}
 use Rattle.sse_outside.specs.Fronts.{TookOrRose}
 use Rattle.sse_outside.specs.declared.device_fault.DeviceFault.TheVariants as devices
-use Rattle.run_texts.specs.Stops.{last_line, stop_status}
-use Rattle.run_texts.specs.declared.command_stop.CommandStop.TheVariants as commands
-use Rattle.run_texts.specs.declared.peer_stop.PeerStop.TheVariants as peers
-use Rattle.run_texts.specs.declared.stop_cause.StopCause.{StopCause}
-use Rattle.run_texts.specs.declared.stop_cause.StopCause.TheVariants as stops
+use Rattle.script_run_texts.specs.Stops.{last_line, stop_status}
+use Rattle.script_run_texts.specs.declared.command_stop.CommandStop.TheVariants as commands
+use Rattle.script_run_texts.specs.declared.peer_stop.PeerStop.TheVariants as peers
+use Rattle.script_run_texts.specs.declared.stop_cause.StopCause.{StopCause}
+use Rattle.script_run_texts.specs.declared.stop_cause.StopCause.TheVariants as stops
 
 -- the file can't be opened
 abbrev pub no_file : StopCause

@@ -1,4 +1,4 @@
--- A run over a connection and a file of which nothing is told.
+-- A run over a connection and a file that aren't observable.
 use Rattle.std.specs.Prelude.{◌≡◌, ◌⊎◌, ℕ, List, Option, None}
 use Rattle.keyed_fn.specs.KeyedFn.{KeyedFn}
 use Rattle.sse_client.specs.OnDisk.{seen_with, IsNotBegun, IsNotReopened, IsUnopened, HasBegun, HasGoneOn}

@@ -1,15 +1,19 @@
-//! The client as a program: the script comes from standard input, its frames go to a server over TCP, and what its lines come to goes
-//! to standard output. It stands on `sse_client` for the run, on `stream_link` for the connection and on `journal_file` for the file
-//! of its records. What it chooses stands in `net_main`: what the words of the command line ask for, in which order the file and the
-//! address are opened, the real keyed function, the status, the last line. What a real file and a real socket do is no part of any
-//! proof.
+//! The client's program over TCP: a script comes from standard input, its frames go to a server, and what its lines
+//! come to goes to standard output. It depends on `sse_client` for the run, on `client_stream_link` for the connection and
+//! on `outside_journal_file` for the file of its records. `net_main` chooses. All words are read first, so that a misspelt
+//! word leaves no file behind; then the file is opened, then the address, so that a run which can't keep records
+//! never calls a server. A name is looked up by the C library; an IP address isn't.
+//! Proved: what the words ask for; if words, file or server fail, that nothing is read, and the line and status; else
+//! a run under the real keyed function, over any source and sink.
+//! Not covered: what a real file and socket do (tested by `.ci/tcp`).
+//! Side: client.
 #![tactic(auto)]
 
 mod asked;
 mod places;
 mod program;
 
-use command_words::command_line;
+use outside_words::command_line;
 use program::net_main;
 use sse_outside::{StdSink, StdSource};
 use std::process::ExitCode;

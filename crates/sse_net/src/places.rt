@@ -1,17 +1,17 @@
 ghost use Rattle.std.specs.Prelude.{◌≡◌, Err, IsErr};
 ghost use Rattle.sse_net.specs.Places.{no_file, no_server};
 
-use run_texts::{CommandStop, PeerStop, StopCause};
+use client_stream_link::{TcpLink, tcp_link};
+use script_run_texts::{CommandStop, PeerStop, StopCause};
 use sse_outside::{DeviceFault, FileDisk};
 use std::io;
 use std::net::TcpStream;
-use stream_link::{TcpLink, tcp_link};
 
 /// Opens the file of the journal, which is made where it isn't there.
 pub(crate) fn open(rt: &HostRuntime, path: &str) -> Result<FileDisk, StopCause>
     ensures { IsErr result → result ≡ Err no_file }
 {
-    match journal_file::open(rt, path) {
+    match outside_journal_file::open(rt, path) {
         Ok(disk) => Ok(disk),
         Err(_) => Err(StopCause::Command(CommandStop::Keeping(DeviceFault::Failed))),
     }

@@ -1,8 +1,8 @@
 ghost use Rattle.std.specs.Prelude.{◌≡◌, ◌≢◌, ◌⊎◌, ◌≤◌, Some, Err, IfErr, IfOk, IfSome, map, string_bytes};
 ghost use Rattle.std.specs.Io.KnownBytes.{IsAtEnd};
 ghost use Rattle.keyed_fn.specs.KeyedFn.{keyed_fn};
-ghost use Rattle.run_texts.specs.Stops.{last_line, stop_status};
-ghost use Rattle.run_texts.specs.Words as modes;
+ghost use Rattle.script_run_texts.specs.Stops.{last_line, stop_status};
+ghost use Rattle.script_run_texts.specs.Words as modes;
 ghost use Rattle.sse_net.specs.Asked as asks;
 ghost use Rattle.sse_net.specs.Places.{IsNoPlace, HasNoPlace};
 ghost use Rattle.sse_net.specs.Runs.{Begins, GoesOn};
@@ -11,13 +11,13 @@ ghost use Rattle.sse_outside.specs.Fronts.{TookOrRose};
 
 use crate::asked::asked_by;
 use crate::places::{connect, open};
-use command_words::CommandLine;
+use client_stream_link::TcpLink;
 use keyed_fn::{Keyed, Real};
-use run_texts::{StopCause, finish};
+use outside_words::CommandLine;
+use script_run_texts::{StopCause, finish};
 use sse_client::run_on_disk;
 use sse_outside::{FileDisk, Sink, Source};
 use std::alloc::Global;
-use stream_link::TcpLink;
 
 /// What a run begins with.
 #[derive(Drop)]
@@ -30,6 +30,12 @@ struct Begun<'a> {
     link: TcpLink,
 }
 
+// Promise P33 (user): `sse_net` takes an address, a path and `run` or `more`; with other words it reads nothing and ends with 2.
+//   clauses: wrong, wrong_line, wrong_source; checks: .ci/tcp; not: That nothing is opened or connected to after wrong words. Without memory for the words the status is 7.
+// Promise P34 (user): With right words, `sse_net` prints and ends as some run over some link and file does, or ends with 5 or 6 without reading.
+//   clauses: begins, goes_on, at_end, source_failed, source_steady, sink_failed, sink_steady; assumes: observable devices; checks: .ci/tcp, .ci/memory_tcp; not: Which of the
+//     two happens. The connection and the file aren't observable, so any replies and any records are allowed: of the shipped program the clauses say very little. That the file
+//     and the address are those of the words, or that any is opened.
 /// All that the program does with a command line, a source and a sink, and the status to end with.
 ///
 /// Where the words aren't right nothing is opened, made, connected to or read. Else it opens the file, connects to the address, and

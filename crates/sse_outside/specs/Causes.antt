@@ -1,4 +1,4 @@
--- Why a call on a device fails: its count of faults rises at a call that failed, and at no other.
+-- Why a call on a device fails: its fault count rises at a call that failed, and at no other.
 use Rattle.std.specs.Prelude.{◌≡◌, ℕ, ◌+◌, ◌-◌, ◌^◌, ◌≤◌, min, OnOk, OnErr}
 use Rattle.std.specs.declared.result.Result.{Result}
 

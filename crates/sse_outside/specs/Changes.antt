@@ -1,4 +1,4 @@
--- A disk in memory as the record of its calls: what a read gives and what a stop may leave, after each of them.
+-- A disk in memory as the record of its calls: the result of a read and the files that a crash may leave, after each of them.
 use Rattle.std.specs.Prelude.{◌≡◌, ℕ, ◌≤◌, List, [], ◌∷◌, length, take}
 use Rattle.sse_outside.specs.Images.{overwritten, Torn, Shortened}
 

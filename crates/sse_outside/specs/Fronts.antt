@@ -1,4 +1,4 @@
--- What a sink took of bytes that it didn't take whole.
+-- The prefix that a sink took of bytes that it didn't take whole.
 use Rattle.std.specs.Prelude.{◌≡◌, ◌⊎◌, ◌<◌, ℕ, List, Option, length, take}
 use Rattle.std.specs.Io.KnownBytes.{append_known}
 use Rattle.sse_outside.specs.Causes.{Rose}

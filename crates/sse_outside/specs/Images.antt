@@ -1,4 +1,4 @@
--- What a crash may leave of a file.
+-- The files that a crash may leave (docs/DISKS.md).
 use Rattle.std.specs.Prelude.{◌≡◌, ◌⊎◌, ℕ, ◌+◌, ◌<◌, ◌≤◌, min, max, List, ◌++◌, length, take, drop, get_or}
 
 -- the file with these bytes at this place

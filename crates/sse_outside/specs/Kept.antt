@@ -1,4 +1,4 @@
--- Records that are put one behind the other where they last, as in a journal on a disk: those that were taken, and one that was refused.
+-- Records put one after another where they last, as in a journal on a disk: those that were taken, and one that was refused.
 use Rattle.std.specs.Prelude.{ℕ, List, ◌++◌, Option, option_map}
 
 -- the records that were taken, in order, where they are told; and one that was refused, which a crash may leave behind them or not

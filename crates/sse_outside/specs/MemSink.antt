@@ -1,4 +1,4 @@
--- What a contract sees of a sink in memory.
+-- A contract's view of a sink in memory.
 use Rattle.std.specs.Prelude.{ℕ, List}
 use Rattle.sse_outside.specs.declared.mem_sink.MemSink.{MemSink}
 
@@ -8,7 +8,7 @@ bytes_of s = s.bytes.items
 
 -- the numbers of the calls that fail, counted from 0
 abbrev pub fails_of : MemSink → List ℕ
-fails_of s = s.calls.listed.items
+fails_of s = s.calls.failing.items
 
 -- the number of the next call
 abbrev pub next_call_of : MemSink → ℕ

@@ -1,4 +1,4 @@
--- What a contract sees of a source in memory.
+-- A contract's view of a source in memory.
 use Rattle.std.specs.Prelude.{ℕ, List, drop}
 use Rattle.sse_outside.specs.declared.mem_source.MemSource.{MemSource}
 
@@ -12,7 +12,7 @@ handed_out_of s = s.at
 
 -- the numbers of the calls that fail, counted from 0
 abbrev pub fails_of : MemSource → List ℕ
-fails_of s = s.calls.listed.items
+fails_of s = s.calls.failing.items
 
 -- the number of the next call
 abbrev pub next_call_of : MemSource → ℕ

@@ -1,4 +1,4 @@
--- What a contract sees of a sink over a writer of std.
+-- A contract's view of a sink over a writer of std.
 use Rattle.std.specs.Prelude.{ℕ, List}
 use Rattle.std.specs.declared.option.Option.{Option}
 use Rattle.std.specs.declared.io.traits.Write as std_write

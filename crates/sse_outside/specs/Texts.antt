@@ -1,4 +1,4 @@
--- What is printed of each fault of a device.
+-- The text printed for each fault of a device.
 use Rattle.std.specs.Prelude.{ℕ, List, codes}
 use Rattle.sse_outside.specs.declared.device_fault.DeviceFault.{DeviceFault}
 use Rattle.sse_outside.specs.declared.device_fault.DeviceFault.TheVariants.{Failed, NoMemory}

@@ -1,4 +1,4 @@
--- What readers and writers of std tell of their bytes.
+-- The bytes that readers and writers of std tell.
 use Rattle.std.specs.Prelude.{◌≡◌, ℕ, List, is_some}
 use Rattle.std.specs.declared.option.Option.{Option}
 

@@ -29,6 +29,8 @@ pub trait Disk {
 
     ghost faults: { Self → ℕ };
 
+    // Promise P108, also here; clauses: cause
+    // Promise P110, also here; clauses: size
     /// The number of bytes of the file, at most 2^63. With `Failed` the count of faults rose, and else it stays.
     fn len(&mut self) -> Result<u64, Failed>
         ensures bound { IfOk result (λ n. n ≤ 2 ^ 63) }
@@ -39,6 +41,8 @@ pub trait Disk {
         ensures time { Elapses (moment self.old) (moment self.new) (left_since self.old) (left_since self.new) (images self.new) }
         ensures cause { HasCause (faults self.old) (faults self.new) result };
 
+    // Promise P108, also here; clauses: cause
+    // Promise P110, also here; clauses: bytes, kept, images_kept, time
     /// Puts the bytes of the file from byte `at` on, counted from 0, at the front of `out`, as many as there are
     /// and as fit, and answers how many: none where `at` is at or after the end.
     ///
@@ -53,6 +57,10 @@ pub trait Disk {
         ensures time { Elapses (moment self.old) (moment self.new) (left_since self.old) (left_since self.new) (images self.new) }
         ensures cause { HasCause (faults self.old) (faults self.new) result };
 
+    // Promise P108, also here; clauses: failed, steady, no_memory
+    // Promise P110 (caller): A disk gives back the bytes written and not cut; after a successful sync a crash leaves the file as it reads.
+    //   clauses: written, limit, torn, time, told; assumes: observable devices; checks: .ci/journal; not: That a real disk behaves so: `FileDisk` tells only its fault count. The clauses
+    //     bound crash images from above, so a disk that tears less meets them.
     /// Writes `bytes` over those from byte `at` on, which is at most the length, and after the end. An end above
     /// 2^63 is refused.
     ///
@@ -73,6 +81,8 @@ pub trait Disk {
         ensures steady { OnOk result (faults self.new ≡ faults self.old) }
         ensures no_memory { IsErrOf result DeviceFault.NoMemory → faults self.new ≡ faults self.old };
 
+    // Promise P108, also here; clauses: failed, steady, no_memory
+    // Promise P110, also here; clauses: shortened, torn, time
     /// Cuts the file to its first `len` bytes; `len` is at most the length.
     ///
     /// The count of faults is as with `write_at`. What was cut is gone after a crash once a later `sync` succeeds;
@@ -90,6 +100,8 @@ pub trait Disk {
         ensures steady { OnOk result (faults self.new ≡ faults self.old) }
         ensures no_memory { IsErrOf result DeviceFault.NoMemory → faults self.new ≡ faults self.old };
 
+    // Promise P108, also here; clauses: failed, steady, no_memory
+    // Promise P110, also here; clauses: durable, images_kept, time
     /// Makes what was written and cut last: after `Ok` a crash leaves the file as it reads.
     ///
     /// The count of faults is as with `write_at`. After an error nothing more is known to last than before.
@@ -106,12 +118,15 @@ pub trait Disk {
         ensures steady { OnOk result (faults self.new ≡ faults self.old) }
         ensures no_memory { IsErrOf result DeviceFault.NoMemory → faults self.new ≡ faults self.old };
 
+    // Promise P110, also here
     /// A crash at this moment may leave the file as it reads.
     ghost reads_as_image: { (disk : Self) → IfSome (content disk) (images disk) };
 
+    // Promise P110, also here
     /// This moment is one of those since an earlier one.
     ghost counts_now: { (disk : Self) (t : ℕ) (c : List ℕ) → t ≤ moment disk → images disk c → left_since disk t c };
 
+    // Promise P110, also here
     /// Since this moment there is no other yet.
     ghost only_now: { (disk : Self) (c : List ℕ) → left_since disk (moment disk) c → images disk c };
 }

@@ -96,8 +96,9 @@ fn len_of(file: &File) -> Result<u64, Failed>
     }
 }
 
-/// Reads from byte `at` on until `out` is full or the file ends, and no byte after the first 2^63.
-fn read_full<F: FileExt>(file: &F, at: u64, out: &mut [u8]) -> Result<usize, Failed>
+/// Reads from byte `at` on until `out` is full or the file ends, and no byte after the first 2^63. A read that a signal
+/// interrupts is tried again; it fails at every other error.
+pub fn read_full<F: FileExt>(file: &F, at: u64, out: &mut [u8]) -> Result<usize, Failed>
     ensures bound { ReadsAtMost result out.new }
 {
     let (room, _) = out.split_at_mut(room_left(at, out.len()));
@@ -116,8 +117,8 @@ fn read_full<F: FileExt>(file: &F, at: u64, out: &mut [u8]) -> Result<usize, Fai
     Err(Failed)
 }
 
-/// Writes all of `bytes` from byte `at` on, where they end within the first 2^63.
-fn write_full<F: FileExt>(file: &F, at: u64, bytes: &[u8]) -> Result<(), Failed>
+/// Writes all of `bytes` from byte `at` on, where they end within the first 2^63; else it fails, and the file isn't asked.
+pub fn write_full<F: FileExt>(file: &F, at: u64, bytes: &[u8]) -> Result<(), Failed>
     requires { at + length bytes.now < 2 ^ 64 }
     ensures limit { OnOk result (at + length bytes.now ≤ 2 ^ 63) }
 {
@@ -125,122 +126,4 @@ fn write_full<F: FileExt>(file: &F, at: u64, bytes: &[u8]) -> Result<(), Failed>
         return Err(Failed);
     }
     file.write_all_at(bytes, at).map_err(|_| Failed)
-}
-
-#[cfg(test)]
-mod tests {
-    use super::*;
-    use std::cell::Cell;
-    use std::test::Fail;
-    use std::{fs, io};
-
-    /// A file of which each call answers what is next in a list: that many bytes, each 7, or an error.
-    #[derive(Drop)]
-    struct Scripted<'a> {
-        answers: &'a [Result<usize, ErrorKind>],
-        calls: Cell<usize>,
-    }
-
-    impl Scripted<'_> {
-        fn answer(&self) -> io::Result<usize> {
-            let call = self.calls.get();
-            self.calls.set(call.wrapping_add(1));
-            match self.answers.get(call) {
-                Some(Ok(count)) => Ok(*count),
-                Some(Err(kind)) => Err(io::Error::new(*kind, "scripted")),
-                None => Ok(0),
-            }
-        }
-    }
-
-    impl FileExt for Scripted<'_> {
-        fn read_at(&self, buf: &mut [u8], _offset: u64) -> io::Result<usize> {
-            let count = self.answer()?.min(buf.len());
-            let (front, _) = buf.split_at_mut(count);
-            front.fill(7);
-            Ok(count)
-        }
-
-        fn write_at(&self, buf: &[u8], _offset: u64) -> io::Result<usize> {
-            Ok(self.answer()?.min(buf.len()))
-        }
-    }
-
-    /// What a read of three bytes and a write of three come to, each over a file of these answers.
-    fn answers_at(
-        answers: &[Result<usize, ErrorKind>],
-        at: u64,
-    ) -> (Result<usize, Failed>, Result<(), Failed>)
-        requires { at + 3 < 2 ^ 64 }
-    {
-        let file = Scripted {
-            answers,
-            calls: Cell::new(0),
-        };
-        let read = read_full(&file, at, &mut [0; 3]);
-        file.calls.set(0);
-        (read, write_full(&file, at, b"abc"))
-    }
-
-    /// Reads of three bytes and writes of three: in parts, interrupted, at the end, with an error, past the limit.
-    #[test]
-    fn interrupted_calls_go_on_and_other_errors_are_faults(rt: HostRuntime) {
-        let interrupted = Err(ErrorKind::Interrupted);
-        let full = Err(ErrorKind::StorageFull);
-        let rows = [
-            (&[Ok(2), interrupted, Ok(2)] as &[_], 0, Ok(3), Ok(())),
-            (&[Ok(2), interrupted, interrupted], 0, Ok(2), Err(Failed)),
-            (&[Ok(1), full], 0, Err(Failed), Err(Failed)),
-            (&[Ok(3), full], MOST_BYTES - 3, Ok(3), Ok(())),
-            (&[Ok(3), full], MOST_BYTES - 2, Ok(2), Err(Failed)),
-            (&[full, full], MOST_BYTES + 1, Ok(0), Err(Failed)),
-        ];
-        for (answers, at, read, written) in rows {
-            assert_eq!(rt; answers_at(answers, at), (read, written));
-        }
-    }
-
-    /// A disk over the file of this name, which is made where it isn't there.
-    fn open(rt: &HostRuntime, name: &str) -> io::Result<FileDisk> {
-        let mut options = File::options();
-        options.read(true).write(true).create(true);
-        Ok(FileDisk::new(options.open(rt, name)?))
-    }
-
-    /// Whether a file takes two writes, a cut, a sync and a write more, and refuses a cut past its limit.
-    fn is_written(disk: &mut FileDisk) -> bool {
-        let answers = [
-            disk.write_at(0, b"abcdef").is_ok(),
-            disk.write_at(2, b"CD").is_ok(),
-            disk.cut(5).is_ok(),
-            disk.sync().is_ok(),
-            disk.write_at(1, &[0; 2]).is_ok(),
-            disk.cut(MOST_BYTES) == Err(DeviceFault::Failed),
-        ];
-        answers == [true; 6]
-    }
-
-    /// How long the file is, what of four bytes from the third on is read, and how many bytes behind its end.
-    fn read(disk: &mut FileDisk, out: &mut [u8; 4]) -> [Result<u64, Failed>; 3] {
-        [
-            disk.len(),
-            disk.read_at(2, out).map(|count| count as u64),
-            disk.read_at(5, &mut [0; 4]).map(|count| count as u64),
-        ]
-    }
-
-    /// A file is written, cut, synced and read, and another disk over it reads the same.
-    #[test]
-    fn a_file_keeps_what_is_written(rt: HostRuntime) -> Result<(), Fail> {
-        let _ = fs::remove_file(&rt, "file_disk_test");
-        let mut disk = open(&rt, "file_disk_test")?;
-        assert_eq!(rt; disk.len(), Ok(0));
-        assert_eq!(rt; (is_written(&mut disk), disk.faults), (true, 1));
-        let mut again = open(&rt, "file_disk_test")?;
-        let mut out = [9; 4];
-        assert_eq!(rt; read(&mut again, &mut out), [Ok(5), Ok(3), Ok(0)]);
-        assert_eq!(rt; (out, again.faults), (*b"\0De\x09", 0));
-        fs::remove_file(&rt, "file_disk_test")?;
-        Ok(())
-    }
 }

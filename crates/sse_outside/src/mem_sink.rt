@@ -82,33 +82,3 @@ impl Sink for MemSink {
         }
     }
 }
-
-#[cfg(test)]
-mod tests {
-    use super::*;
-    use crate::print_all;
-    use std::test::Fail;
-
-    /// The answers to three writes of two bytes.
-    fn written(
-        sink: &mut MemSink,
-    ) -> (
-        Result<(), DeviceFault>,
-        Result<(), DeviceFault>,
-        Option<usize>,
-    ) {
-        let first = print_all(sink, b"ab");
-        let second = print_all(sink, b"cd");
-        (first, second, sink.write(b"ef").ok())
-    }
-
-    /// The second of three writes fails, and what it was to write is not there.
-    #[test]
-    fn listed_writes_fail_and_take_nothing(rt: HostRuntime) -> Result<(), Fail> {
-        let mut sink = MemSink::new(rt.alloc(), vec![in rt.alloc(); 1]?);
-        let answers = written(&mut sink);
-        assert_eq!(rt; answers, (Ok(()), Err(DeviceFault::Failed), Some(2)));
-        assert_eq!(rt; sink.bytes(), b"abef".as_slice());
-        Ok(())
-    }
-}

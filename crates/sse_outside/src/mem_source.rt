@@ -4,7 +4,7 @@ ghost use Rattle.std.specs.Io.KnownBytes.{prepend_known, IsAtEnd};
 ghost use Rattle.sse_outside.specs.Causes.{HasCause};
 
 use crate::failing_calls::FailingCalls;
-use crate::handing::hand_out;
+use crate::handed_bytes::hand_out;
 use crate::{Failed, Source};
 
 /// A source over bytes in memory, of which some calls fail.
@@ -69,31 +69,5 @@ impl Source for MemSource {
         let count = hand_out(&self.bytes, self.at, out);
         self.at += count;
         Ok(count)
-    }
-}
-
-#[cfg(test)]
-mod tests {
-    use super::*;
-    use std::test::Fail;
-
-    /// The second and the third read fail, and the next one gives what came after the first.
-    #[test]
-    fn listed_reads_fail_and_lose_nothing(rt: HostRuntime) -> Result<(), Fail> {
-        let fails = vec![in rt.alloc(); 1, 2]?;
-        let mut source = MemSource::new(b"abcde".to_vec(rt.alloc())?, fails);
-        let mut out = [0; 3];
-        let expected = [
-            (Ok(3), b"abc"),
-            (Err(Failed), b"abc"),
-            (Err(Failed), b"abc"),
-            (Ok(2), b"dec"),
-            (Ok(0), b"dec"),
-        ];
-        for (answer, bytes) in expected {
-            let read = source.read(&mut out);
-            assert_eq!(rt; (read, out), (answer, *bytes));
-        }
-        Ok(())
     }
 }

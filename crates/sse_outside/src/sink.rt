@@ -17,6 +17,8 @@ pub trait Sink {
 
     ghost shortages: { Self → ℕ };
 
+    // Promise P107, also here; clauses: some, bytes, bytes_err
+    // Promise P108, also here; clauses: failed, steady, no_memory
     /// Takes bytes from the front of `bytes`, which isn't empty, and answers how many: between one and all.
     ///
     /// After an error none of `bytes` was taken. With `DeviceFault::Failed` the count of faults rose in this call;

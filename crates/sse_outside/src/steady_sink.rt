@@ -46,32 +46,3 @@ impl Sink for SteadySink {
         }
     }
 }
-
-#[cfg(test)]
-mod tests {
-    use super::*;
-    use crate::{Source, SteadySource};
-    use std::test::Fail;
-
-    /// Writes what one read gives.
-    fn pass_on<S: Source, W: Sink>(source: &mut S, sink: &mut W) -> Option<usize> {
-        let mut room = [0; 3];
-        let count = source.read(&mut room).ok()?;
-        if count == 0 {
-            return None;
-        }
-        sink.write(&room[..count]).ok()
-    }
-
-    /// Five bytes passed on in reads of at most three.
-    #[test]
-    fn what_is_read_is_written(rt: HostRuntime) -> Result<(), Fail> {
-        let mut source = SteadySource::new(b"abcde".to_vec(rt.alloc())?);
-        let mut sink = SteadySink::new(rt.alloc());
-        for count in [Some(3), Some(2), None] {
-            assert_eq!(rt; pass_on(&mut source, &mut sink), count);
-        }
-        assert_eq!(rt; sink.bytes(), b"abcde".as_slice());
-        Ok(())
-    }
-}

@@ -1,6 +1,6 @@
 ghost use Rattle.std.specs.Prelude.{◌≡◌, ◌^◌, ◌≤◌, length, drop, Some};
 
-use crate::handing::hand_out;
+use crate::handed_bytes::hand_out;
 use crate::{Failed, Source};
 
 /// A source over bytes in memory that never fails: its count of faults is 0.

@@ -1,4 +1,4 @@
--- What is printed where no further line can be read, and of a line that is not in the grammar.
+-- The text printed when no further line can be read, and for a line that is not in the grammar.
 use Rattle.std.specs.Prelude.{ℕ, List, ◌++◌, codes, decimal}
 use Rattle.sse_script.specs.declared.read_stop.ReadStop.{ReadStop}
 use Rattle.sse_script.specs.declared.read_stop.ReadStop.TheVariants.{Failed, NoMemory}

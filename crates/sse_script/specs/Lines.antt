@@ -1,4 +1,4 @@
--- The grammar of a script's lines.
+-- The grammar of a script's lines (docs/FORMATS.md).
 use Rattle.std.specs.Prelude.{ℕ, ◌^◌, List, [], ◌∷◌, length, nat_lt, codes, Option, Some, None, option_map, if◌then◌else◌}
 use Rattle.std.specs.Str.{bytes_eq}
 use Rattle.sse_script.specs.Fields.{fields_of}

@@ -1,4 +1,4 @@
--- The lines of a text, and what a reader of lines takes of them.
+-- The lines of a text, and those that a reader of lines takes.
 use Rattle.std.specs.Prelude.{◌≡◌, ℕ, ◌+◌, ◌-◌, ◌^◌, ◌<◌, ◌==◌, if◌then◌else◌, List, [], ◌∷◌, length, IfSome}
 use Rattle.std.specs.Option.{option_map}
 use Rattle.std.specs.List.{onto_first}

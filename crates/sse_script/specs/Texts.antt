@@ -1,4 +1,4 @@
--- The text of each printed line, in ASCII: pieces that are joined, numbers in decimal.
+-- The text of each printed line, in ASCII: pieces that are joined, numbers in decimal (docs/FORMATS.md).
 use Rattle.std.specs.Prelude.{ℕ, List, [], ◌∷◌, ◌++◌, length, take, flat_map, codes, decimal, ◌==◌, if◌then◌else◌}
 use Rattle.std.specs.List.{concat}
 use Rattle.hex.specs.Hex.{encode_lower}

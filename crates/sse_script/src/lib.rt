@@ -1,9 +1,11 @@
-//! The script of the client's programs: its lines as they are read, and every line that is printed. `LineReader`
-//! cuts what a source hands out into lines, `read_line` takes one apart into a `Line`, which borrows its words, and
-//! `print` writes one `Shown` as text into a sink, and `print_stop` why a run stopped, without memory; sources and sinks are those of `sse_outside`. Callers use that
-//! the lines are those of the source's bytes, that each reads as the grammar of specs/Lines.antt says, and that a
-//! sink took exactly the text of specs/Texts.antt, or a front of it after a fault. Whether a field is a word of a
-//! document, and what a command does, is decided above.
+//! The script language of the client's programs: its lines as they are read, and every line that is printed.
+//! `LineReader` cuts a source into lines, `read_line` parses one into a `Line` that borrows its words, `print` writes
+//! a `Shown` to a sink, and `print_stop` writes why a run stopped, without taking memory. A line above 2^19 bytes is
+//! skipped to its end and never kept whole. It depends on `sse_outside` for sources and sinks.
+//! Proved: the lines are those of the source's bytes, each read by the grammar of specs/Lines.antt; a sink took the
+//! text of specs/Texts.antt or, after a fault, a strict prefix of it.
+//! Not here: whether a field is a word of a document, and what a command does.
+//! Side: client.
 #![tactic(auto)]
 
 mod bad_line;
@@ -11,13 +13,13 @@ mod cause;
 mod fields;
 mod key;
 mod line;
+mod line_grammar;
 mod line_reader;
 mod next_line;
 mod number;
 mod pieces;
-mod printing;
+mod printed_line;
 mod read_stop;
-mod reading;
 mod refusal;
 mod shown;
 mod stop_line;
@@ -27,11 +29,11 @@ pub use bad_line::BadLine;
 pub use cause::Cause;
 pub use fields::Fields;
 pub use line::Line;
+pub use line_grammar::read_line;
 pub use line_reader::{LineReader, MAX_LINE};
 pub use next_line::NextLine;
-pub use printing::print;
+pub use printed_line::print;
 pub use read_stop::ReadStop;
-pub use reading::read_line;
 pub use refusal::Refusal;
 pub use shown::Shown;
 pub use std::alloc::AllocError as NoMemory;

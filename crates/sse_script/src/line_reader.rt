@@ -50,6 +50,8 @@ impl LineReader {
         })
     }
 
+    // Promise P105 (caller): The lines taken from a source are its text's lines; a line longer than 2^19 bytes is passed over.
+    //   clauses: taken, short, failed, steady, no_memory; assumes: observable devices
     /// Puts the next line of `source`, without its ending, in the place of what `line` holds.
     ///
     /// A last line needs no ending: `a`, and `a` with 0a after it, have one line each, an empty input has none.

@@ -18,6 +18,8 @@ use sse_outside::{DeviceFault, Sink, print_all};
 /// Room for the longest line that says why a run stopped: three numbers of at most 20 digits, and 36 bytes of text.
 type StopLine = ArrayString<96>;
 
+// Promise P09, also here; clauses: all, front, failed, shortage, supplied
+// Promise P101, also here; clauses: all, front, failed, steady, no_memory, supplied, failed_supplied, shortage
 /// Prints the line that says why a run stopped, its end (byte 0a) included, as `print` does, and takes no memory: the line is
 /// made on the stack.
 ///

@@ -1,2 +1,2 @@
 mod CountLemmas
-mod Stopping
+mod StopLaws

@@ -1,9 +1,9 @@
--- What the words of a command line ask for.
+-- The meaning of the words of the server's command line (docs/FORMATS.md).
 use Rattle.std.specs.Prelude.{ℕ, ◌-◌, ◌^◌, List, [], ◌∷◌, Option, None, Some, Result, Ok, Err, drop, map, string_bytes}
 use Rattle.std.specs.Option.{option_map}
 use Rattle.sse_served.specs.Counts.{count_of}
-use Rattle.command_words.specs.declared.CommandLine.{CommandLine}
-use Rattle.command_words.specs.declared.CommandLine.TheVariants as lines
+use Rattle.outside_words.specs.declared.CommandLine.{CommandLine}
+use Rattle.outside_words.specs.declared.CommandLine.TheVariants as lines
 use Rattle.sse_served.specs.declared.asked.Asked.{Asked as AskedBy}
 use Rattle.sse_served.specs.declared.stop.ServiceStop.TheVariants.{Memory}
 use Rattle.sse_served.specs.declared.stop.Stop.{Stop}

@@ -1,4 +1,4 @@
--- What is printed, by how a service ended.
+-- The printed text, by how a service ended.
 use Rattle.std.specs.Prelude.{◌≡◌, ◌⊎◌, ℕ, List, Option, Result, Ok, Err}
 use Rattle.sse_outside.specs.Fronts.{TookOrRose}
 use Rattle.sse_served.specs.declared.stop.Stop.{Stop}

@@ -1,12 +1,12 @@
--- What a service does over a disk and connections, from the file on.
+-- The effect of a service over a disk and connections, from the file on.
 use Rattle.std.specs.Prelude.{◌⊎◌, ℕ, List, Option, IfSome}
 use Rattle.keyed_fn.specs.KeyedFn.{KeyedFn}
 use Rattle.sse_journal.specs.Walks.{IsNoJournalAt}
 use Rattle.sse_server.specs.Records.{HasBadRecord}
 use Rattle.sse_server.specs.StoreView.{StoreView, IsStoreFrom}
-use Rattle.sse_serving.specs.declared.duplex.Duplex.{Duplex}
-use Rattle.sse_serving.specs.Handled.{IsWholeStoreOf}
-use Rattle.sse_serving.specs.Served.{HaveServed}
+use Rattle.server_connections.specs.declared.duplex.Duplex.{Duplex}
+use Rattle.server_connections.specs.Handled.{IsWholeStoreOf}
+use Rattle.server_connections.specs.Served.{HaveServed}
 
 -- the bytes of a file that no server has written: it stops being a journal, or a record of it is no frame that a server takes
 -- after those before it

@@ -1,9 +1,9 @@
--- Why a service ends before it has served as many connections as were asked for: its status and its last line.
+-- Why a service ends before it has served as many connections as were asked for: its status and its last line (docs/FORMATS.md).
 use Rattle.std.specs.Prelude.{ℕ, List, ◌∷◌, [], ◌++◌, codes}
 use Rattle.sse_server.specs.declared.open_fault.OpenFault.{OpenFault}
 use Rattle.sse_server.specs.declared.open_fault.OpenFault.TheVariants as opens
-use Rattle.sse_serving.specs.declared.serving.ServeFault.{ServeFault}
-use Rattle.sse_serving.specs.declared.serving.ServeFault.TheVariants as serves
+use Rattle.server_connections.specs.declared.service.ServeFault.{ServeFault}
+use Rattle.server_connections.specs.declared.service.ServeFault.TheVariants as serves
 use Rattle.sse_served.specs.declared.stop.ServiceStop.{ServiceStop}
 use Rattle.sse_served.specs.declared.stop.ServiceStop.TheVariants.{Link, Disk, Memory, NoJournal}
 use Rattle.sse_served.specs.declared.stop.Stop.{Stop}

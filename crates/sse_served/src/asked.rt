@@ -15,6 +15,7 @@ pub(crate) struct Asked<'a> {
     pub count: u32,
 }
 
+// Promise P30, also here; clauses: ensures
 /// What the words after the program's name ask for; nothing where they aren't right.
 pub(crate) fn asked_of(words: &[String]) -> Option<Asked<'_>>
     ensures { option_map asked_view result ≡ asks.asked_of (map (λ word. string_bytes word) words.now) }

@@ -3,6 +3,7 @@ ghost use Rattle.std.specs.Char.{is_ascii_digit};
 ghost use Rattle.std.specs.List.{list_all};
 ghost use Rattle.sse_served.specs.Counts as counts;
 
+// Promise P30, also here; clauses: ensures
 /// The count that a word writes: decimal, from 1 to 2^32-1, with no sign and no leading zero.
 pub fn count_of(word: &str) -> Option<u32>
     ensures { result ≡ counts.count_of word.now }

@@ -1,9 +1,13 @@
-//! The server as a program: it serves connections to an address, one after the other, from a store whose journal is a file. It
-//! stands on `sse_serving` for connections, on `sse_server` for the store, and on `sse_outside` for the file, the sockets and
-//! standard output; it knows no word of a document and no master key. What it chooses stands in `served_main`: what the words of
-//! the command line ask for, the status, the lines that are printed; and in `serve_all`, a call over any disk and any
-//! connections, which is the real keyed function's server from the file on. What a real file and a real socket do is no part of
-//! any proof.
+//! The server's program: serves connections to an address, one after the other, from a store whose journal is a file.
+//! It depends on `server_connections` for connections, on `sse_server` for the store, and on `sse_outside` for file, sockets
+//! and standard output; it knows no word and no master key. `served_main` chooses what the command line asks for, the
+//! status and the lines; `serve_all`, over any disk and connections, is the real keyed function's server. All words
+//! are read first, then the file is opened, then the address; `serving` is printed once the server listens, and then
+//! the journal is read.
+//! Proved: status and lines by how it ended; over any disk and any connections, what is served from the file on, or
+//! why no more is.
+//! Not covered: what a real file and socket do (tested by `.ci/served` and `.ci/tcp`).
+//! Side: server.
 #![tactic(auto)]
 
 mod asked;
@@ -13,7 +17,7 @@ mod program;
 mod service;
 mod stop;
 
-use command_words::command_line;
+use outside_words::command_line;
 use program::served_main;
 use sse_outside::StdSink;
 use std::process::ExitCode;

@@ -1,15 +1,15 @@
 ghost use Rattle.std.specs.Prelude.{◌≡◌, Err, IsErr};
 
 use crate::stop::ServiceStop;
+use server_connections::TcpConns;
 use sse_outside::FileDisk;
-use sse_serving::TcpConns;
 use std::net::TcpListener;
 
 /// Opens the file of the journal, which is made where it isn't there.
 pub(crate) fn open(rt: &HostRuntime, path: &str) -> Result<FileDisk, ServiceStop>
     ensures { IsErr result → result ≡ Err ServiceStop.Disk }
 {
-    match journal_file::open(rt, path) {
+    match outside_journal_file::open(rt, path) {
         Ok(disk) => Ok(disk),
         Err(_) => Err(ServiceStop::Disk),
     }

@@ -9,10 +9,15 @@ use crate::asked::{Asked, asked_of};
 use crate::places::{listen, open};
 use crate::service::serve_all;
 use crate::stop::{ServiceStop, Stop};
-use command_words::{CommandLine, behind_name};
 use keyed_fn::Real;
+use outside_words::{CommandLine, behind_name};
 use sse_outside::{Sink, print_all};
 
+// Promise P30 (user): `sse_served` takes an address, a path and an optional count; other words end with 2, missing memory for them with 7.
+//   clauses: wrong, wrong_line, words; checks: .ci/served; not: That nothing is opened after wrong words. With right words only P31 is claimed: no clause joins the words to the service.
+// Promise P31 (user): `sse_served` prints `serving` if it ends with 0; otherwise at most that, and then the line of the cause that its status names.
+//   clauses: printed; assumes: observable devices; checks: .ci/served; not: The service itself. Of each line a prefix may be printed if a count of the sink rose. No clause says that
+//     right words start any service, or under which keyed function.
 /// All that the program does with a command line and a sink, and the status to end with.
 ///
 /// Where the words aren't right nothing is opened and nothing is made. Else it opens the file, listens at the address, prints

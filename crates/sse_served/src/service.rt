@@ -9,12 +9,16 @@ ghost use Rattle.sse_served.specs.Services.{HasServed, IsNoJournal};
 
 use crate::stop::ServiceStop;
 use keyed_fn::Keyed;
+use server_connections::{Conns, Incoming, Outgoing, serve};
 use server_tables::BucketTables;
 use sse_outside::Disk;
 use sse_server::{Buffers, Store};
-use sse_serving::{Conns, Incoming, Outgoing, serve};
 use std::alloc::Global;
 
+// Promise P32 (user): After an Ok or a link fault, connections were served one after another from the frames of the file's records.
+//   clauses: served, all, few, none_lent, link, link_served, disk, no_journal, no_journal_refused, journal_taken; assumes: observable devices; checks: .ci/served, .ci/tcp; not:
+//     Connections and the file after `Memory`, `Disk` or `NoJournal`: nothing is said of them. The real file and the real address. Locking, owner-only access and syncing the folder are
+//     tested or read.
 /// Starts a store on the journal of a disk, and serves connections from it, as many as `most` says or there are.
 ///
 /// `Disk` where the disk failed, at the start or at a record; `NoJournal` where the file is no journal of a server; `Link` where

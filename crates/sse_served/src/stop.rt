@@ -1,8 +1,8 @@
 ghost use Rattle.std.specs.Prelude.{◌≡◌};
 ghost use Rattle.sse_served.specs.Stops.{line_of_service, status_of_service, stop_line, stop_of_open, stop_of_serve, stop_status};
 
+use server_connections::ServeFault;
 use sse_server::OpenFault;
-use sse_serving::ServeFault;
 
 /// Why no further connection is served, before there were as many as were asked for.
 #[derive(Clone, Copy)]
@@ -27,6 +27,7 @@ pub(crate) enum Stop {
 }
 
 impl ServiceStop {
+    // Promise P31, also here; clauses: ensures
     /// The exit status.
     fn status(self) -> u8
         ensures { result ≡ status_of_service self }
@@ -39,6 +40,7 @@ impl ServiceStop {
         }
     }
 
+    // Promise P31, also here; clauses: ensures
     /// The last line that is printed, with its end.
     fn line(self) -> &'static [u8]
         ensures { result.now ≡ line_of_service self }
@@ -53,6 +55,7 @@ impl ServiceStop {
 }
 
 impl Stop {
+    // Promise P31, also here; clauses: ensures
     /// The exit status.
     pub(crate) fn status(self) -> u8
         ensures { result ≡ stop_status self }
@@ -63,6 +66,7 @@ impl Stop {
         }
     }
 
+    // Promise P31, also here; clauses: ensures
     /// The last line that is printed, with its end.
     pub(crate) fn line(self) -> &'static [u8]
         ensures { result.now ≡ stop_line self }

@@ -2,7 +2,7 @@
 use Rattle.std.proofs.Common.{◌≡◌, ℕ, ◌≤◌, ◌++◌, List, [], length, drop, refl, arith}
 use Rattle.sse_frames.specs.Frames.{FrameText, InGrammar, body_of, frame_bytes}
 use Rattle.sse_frames.proofs.Heads.{length-frame_bytes}
-use Rattle.sse_frames.proofs.Spelling.{length-body_of}
+use Rattle.sse_frames.proofs.FrameBytesLaws.{length-body_of}
 use Rattle.sse_journal.specs.Files.{IsPayload}
 
 pub payload_of : (text : FrameText) → InGrammar text → IsPayload (body_of text)

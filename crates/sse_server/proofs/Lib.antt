@@ -1,6 +1,6 @@
 mod Bodies
-pub mod Taking
-mod Answering
-mod Replaying
+pub mod TakenFrames
+mod AnswerLaws
+mod ReplaySteps
 pub mod Once
-mod Starting
+mod StartedStore

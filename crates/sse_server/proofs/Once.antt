@@ -3,7 +3,7 @@ use Rattle.std.proofs.Common.{◌≡◌, inl, inr, ℕ, ◌+◌, ◌<◌, ◌≤
 use Rattle.std.specs.Prelude.{◌≢◌}
 use Rattle.std.proofs.lemmas.List.{get_or-take, take-take, take-append-drop, drop_more, length-take-le}
 use Rattle.sse_frames.specs.Frames.{FrameText, body_of}
-use Rattle.sse_frames.proofs.Spelling.{one_body}
+use Rattle.sse_frames.proofs.FrameBytesLaws.{one_body}
 use Rattle.sse_journal.specs.Files.{Gives}
 use Rattle.sse_journal.proofs.Once.{gives_once}
 use Rattle.server_core.specs.State.{ServerState, at_first}
@@ -45,10 +45,12 @@ no_later payloads k l bad later lt =
 pub bad_record_once : (payloads : List (List ℕ)) (k l : ℕ) → IsBadRecord payloads k → IsBadRecord payloads l → k ≡ l
 bad_record_once payloads k l bad too = grind (arith, no_later payloads k l bad too, no_later payloads l k too bad)
 
+-- Promise P130, also here
 -- a file whose records are all taken has no bad one
 pub no_bad_record_of : (bytes : List ℕ) (k : ℕ) (frames : List FrameText) → HasBadRecord bytes k → AreTaken at_first frames → Gives (bodies frames) bytes → ⊥
 no_bad_record_of bytes k frames has are gives = no_bad_record has.payloads k frames has.bad are (gives_once has.payloads (bodies frames) bytes has.gives gives)
 
+-- Promise P130, also here
 -- and which it is is determined by the file
 pub bad_record_once_of : (bytes : List ℕ) (k l : ℕ) → HasBadRecord bytes k → HasBadRecord bytes l → k ≡ l
 bad_record_once_of bytes k l has too = bad_record_once has.payloads k l has.bad (subst (λ ps. IsBadRecord ps l) (gives_once too.payloads has.payloads bytes too.gives has.gives) too.bad)

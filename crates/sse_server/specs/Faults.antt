@@ -1,4 +1,4 @@
--- What starting a store answers for a fault of its journal, and what an append for one of the journal is to the disk.
+-- The answer of a store's start to a fault of its journal, and the disk fault that refused an append.
 use Rattle.sse_journal.specs.declared.start_fault.StartFault.{StartFault}
 use Rattle.sse_journal.specs.declared.start_fault.StartFault.TheVariants as starts
 use Rattle.sse_journal.specs.declared.read_fault.ReadFault.{ReadFault}

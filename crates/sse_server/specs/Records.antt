@@ -1,4 +1,4 @@
--- Which records a server's journal may have.
+-- The records that a server's journal may have.
 use Rattle.std.specs.Prelude.{◌≡◌, ◌≢◌, ℕ, ◌+◌, ◌<◌, List, [], length, take, get_or, Option, Some, None}
 use Rattle.sse_frames.specs.Frames.{FrameText, body_of}
 use Rattle.sse_journal.specs.Files.{Gives}

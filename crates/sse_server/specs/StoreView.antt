@@ -1,4 +1,4 @@
--- What a contract sees of a store, and which frames it has taken.
+-- A contract's view of a store, and the frames that it has taken.
 use Rattle.std.specs.Prelude.{◌≡◌, ℕ, ◌+◌, ◌≤◌, List, length, Option, None, IfSome, refl}
 use Rattle.std.specs.Coded.{Coded, code_by, coded×}
 use Rattle.sse_frames.specs.Frames.{FrameText}

@@ -1,4 +1,4 @@
--- Update frames that a server takes one after the other, and the state after them.
+-- Update frames that a server takes one after another, and the state after them.
 use Rattle.std.specs.Prelude.{◌≡◌, ℕ, List, [], ◌∷◌, IsSome, None, map}
 use Rattle.sse_frames.specs.Frames.{FrameText, InGrammar, update_number, body_of}
 use Rattle.server_core.specs.Refusal.{refusal}

@@ -1,4 +1,4 @@
--- What is printed where a store isn't started.
+-- The text printed when a store isn't started.
 use Rattle.std.specs.Prelude.{ℕ, List, ◌++◌, codes, decimal}
 use Rattle.sse_server.specs.declared.open_fault.OpenFault.{OpenFault}
 use Rattle.sse_server.specs.declared.open_fault.OpenFault.TheVariants.{DiskFault, NotAJournal, BadRecord, NoMemory}

@@ -1,13 +1,16 @@
-//! A server that lasts: its state, and a journal of the frames that made it, on one file of a disk. An update frame is in
-//! the journal before it is applied and before it is acknowledged, so that a server that is started again from the file, after
-//! any crash, has taken each frame that was acknowledged, and at most one more. It is for a link or a connection whose
-//! server is to outlive the process, and depends on `server_core` for what a frame does and on `sse_journal` for what a crash
-//! leaves; it knows no word and no key. Callers use `Store::start`, `Store::handle` for each frame, and `Store::walk`
-//! and `Store::fill` for searches, which don't touch the disk.
+//! A server that lasts: its state, with a journal of the frames that made it on one file of a disk. It depends on
+//! `server_core` for what a frame does and on `sse_journal` for what a crash leaves; it knows no word and no key. A
+//! frame is prepared, then appended, then applied and acknowledged: a refused frame leaves nothing on the disk, and
+//! whatever is applied is there. After a failed append the store takes no update until a restart, which finds out
+//! what the file holds. A record is a frame's body, without its length; searches (`Store::walk`, `Store::fill`) don't
+//! touch the disk.
+//! Proved: `Store::handle` answers by the server's step, or is out of memory, or its disk failed; after any crash,
+//! `Store::start` has taken each acknowledged frame and at most one more, or names what is wrong with the file.
+//! Side: server.
 #![tactic(auto)]
 
 mod buffers;
-mod keeping;
+mod kept_body;
 mod open_fault;
 mod replay;
 mod store;

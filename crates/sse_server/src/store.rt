@@ -19,9 +19,9 @@ ghost use Rattle.server_core.specs.Walk.{IsWalk, contents_of, rest_of};
 ghost use Rattle.sse_server.specs.Taken.{IsTaken, AreTaken, bodies};
 ghost use Rattle.sse_server.specs.Records.{HasBadRecord};
 ghost use Rattle.sse_server.specs.StoreView.{StoreView, IsStoreOf, IsStoreFrom, IsWithin};
-ghost use Rattle.sse_server.specs.Answers.{IfCore, store_replies, fault_answer};
+ghost use Rattle.sse_server.specs.Answers.{IfAnswered, store_replies, fault_answer};
 
-use crate::keeping::keep;
+use crate::kept_body::keep;
 use crate::replay::replay;
 use crate::{OpenFault, StoreAnswer};
 use keyed_fn::Keyed;
@@ -57,6 +57,13 @@ impl<T: Tables> Model for Store<T> {
 }
 
 impl<T: Tables> Store<T> {
+    // Promise P128 (caller): After a start the store has taken exactly the frames whose bodies the file gives.
+    //   clauses: started, whole, within; assumes: observable devices, fresh tables
+    // Promise P129 (caller): Once the first sync of a store's start succeeds, a crash leaves a file that gives the records of the file as it read.
+    //   clauses: any_moment; assumes: observable devices, disk model, fresh tables
+    // Promise P130 (caller): A store's start refuses a file only at the place where it stops being a journal, or at the first record no server takes.
+    //   clauses: no_journal, bad_record, later, failed, steady; assumes: observable devices, fresh tables; not: That it comes when the disk fails or memory runs out: then that
+    //     is the answer.
     /// Starts the journal in the file of a disk, reads its records, and has a server with these tables of nothing take the
     /// frames whose bodies they are, from the first to the last. A file of less than nine bytes becomes one without records.
     ///
@@ -110,6 +117,16 @@ impl<T: Tables> Store<T> {
         }
     }
 
+    // Promise P23 (user): A store acknowledges an update frame only after every crash would leave it; without an acknowledgement the store stays as it was.
+    //   clauses: added, counted, stays; assumes: observable devices, disk model, earlier calls; not: The store after its disk failed: `stays` speaks of a journal that isn't broken.
+    // Promise P26 (user): A crash while a store handles a frame leaves the earlier frames, with the frame in hand or without it.
+    //   clauses: any_moment; assumes: observable devices, disk model, earlier calls; not: A store whose journal is broken.
+    // Promise P125 (caller): A store answers by the server's step; in place of taking an update it may report out of memory or a disk fault.
+    //   clauses: state, replies, begun, no_memory, store_fault, range, long, later, failed, steady; assumes: earlier calls, sizes in bounds
+    // Promise P126 (caller): A frame that the server doesn't take, such as Hello or a search, leaves disk and journal untouched.
+    //   clauses: untouched; not: The other calls of a search, `walk` and `fill`, are given no disk.
+    // Promise P127 (caller): After a refused append a store takes no update frame; disk, journal and state stay, and searches continue.
+    //   clauses: whole, broken, stays_broken, breaks, no_memory, store_fault, state, replies; assumes: earlier calls
     /// The answer to a frame, by the server's step. An update frame that the server takes is in the journal before it is
     /// applied, and it is answered that it was taken only where every crash leaves its record.
     ///
@@ -131,32 +148,32 @@ impl<T: Tables> Store<T> {
         requires within { IsWithin self.old.journal (D.content disk.old) }
 
         // The server's step, or nothing.
-        ensures state { result ≢ StoreAnswer.Core Answer.NoMemory → result ≢ StoreAnswer.StoreFault →
+        ensures state { result ≢ StoreAnswer.Answered Answer.NoMemory → result ≢ StoreAnswer.StoreFault →
             self.new.state ≡ (step (keyed_fn K.prf K.pad) self.old.state (frame_view frame.now)).0 }
-        ensures replies { result ≢ StoreAnswer.Core Answer.NoMemory → result ≢ StoreAnswer.StoreFault →
+        ensures replies { result ≢ StoreAnswer.Answered Answer.NoMemory → result ≢ StoreAnswer.StoreFault →
             store_replies (keyed_fn K.prf K.pad) self.new.state result page.new ≡ (step (keyed_fn K.prf K.pad) self.old.state (frame_view frame.now)).1 }
-        ensures begun { IfCore result (λ answer. HasBegun (keyed_fn K.prf K.pad) self.new.state answer page.new) }
-        ensures no_memory { result ≡ StoreAnswer.Core Answer.NoMemory → (self.new.state ≡ self.old.state) × IsTaken self.old.state (frame_view frame.now) }
+        ensures begun { IfAnswered result (λ answer. HasBegun (keyed_fn K.prf K.pad) self.new.state answer page.new) }
+        ensures no_memory { result ≡ StoreAnswer.Answered Answer.NoMemory → (self.new.state ≡ self.old.state) × IsTaken self.old.state (frame_view frame.now) }
         ensures store_fault { result ≡ StoreAnswer.StoreFault → (self.new.state ≡ self.old.state) × IsTaken self.old.state (frame_view frame.now) }
-        ensures range { IfCore result (λ answer. HasRange answer) }
+        ensures range { IfAnswered result (λ answer. HasRange answer) }
         ensures long { length page.new ≡ length page.old }
 
         // Its journal: at each moment of the call, and after it.
-        ensures added { (q : ℕ) → result ≡ StoreAnswer.Core (Answer.Took q) → (frames : List FrameText) → IsStoreOf frames self.old (D.content disk.old) (D.images disk.old) →
+        ensures added { (q : ℕ) → result ≡ StoreAnswer.Answered (Answer.Took q) → (frames : List FrameText) → IsStoreOf frames self.old (D.content disk.old) (D.images disk.old) →
             IsStoreOf (frames ++ frame_view frame.now ∷ []) self.new (D.content disk.new) (D.images disk.new) }
         ensures any_moment { (frames : List FrameText) → broken_by self.old.journal ≡ None → IsStoreOf frames self.old (D.content disk.old) (D.images disk.old) →
             LeavesOnly D.moment D.left_since disk.old disk.new (GivesWithOrWithout (bodies frames) (body_of (frame_view frame.now))) }
-        ensures stays { (frames : List FrameText) → broken_by self.new.journal ≡ None → ((q : ℕ) → result ≢ StoreAnswer.Core (Answer.Took q)) → IsStoreOf frames self.old (D.content disk.old) (D.images disk.old) →
+        ensures stays { (frames : List FrameText) → broken_by self.new.journal ≡ None → ((q : ℕ) → result ≢ StoreAnswer.Answered (Answer.Took q)) → IsStoreOf frames self.old (D.content disk.old) (D.images disk.old) →
             IsStoreOf frames self.new (D.content disk.new) (D.images disk.new) }
         ensures untouched { (IsTaken self.old.state (frame_view frame.now) → ⊥) → (disk.new ≡ disk.old) × (self.new.journal ≡ self.old.journal) }
-        ensures counted { (q : ℕ) → result ≡ StoreAnswer.Core (Answer.Took q) → records_of self.new.journal ≡ records_of self.old.journal + 1 }
+        ensures counted { (q : ℕ) → result ≡ StoreAnswer.Answered (Answer.Took q) → records_of self.new.journal ≡ records_of self.old.journal + 1 }
         ensures within_after { IsWithin self.new.journal (D.content disk.new) }
 
         // Whether it is broken.
-        ensures whole { (q : ℕ) → result ≡ StoreAnswer.Core (Answer.Took q) → (broken_by self.old.journal ≡ None) × (broken_by self.new.journal ≡ None) }
+        ensures whole { (q : ℕ) → result ≡ StoreAnswer.Answered (Answer.Took q) → (broken_by self.old.journal ≡ None) × (broken_by self.new.journal ≡ None) }
         ensures broken { IsSome (broken_by self.old.journal) → (disk.new ≡ disk.old) × (self.new.journal ≡ self.old.journal) × (self.new.state ≡ self.old.state) }
         ensures stays_broken { IfSome (broken_by self.old.journal) (λ why. IsTaken self.old.state (frame_view frame.now) →
-            (result ≡ fault_answer why) ⊎ (result ≡ StoreAnswer.Core Answer.NoMemory)) }
+            (result ≡ fault_answer why) ⊎ (result ≡ StoreAnswer.Answered Answer.NoMemory)) }
         ensures breaks { broken_by self.old.journal ≡ None → IfSome (broken_by self.new.journal) (λ why. result ≡ fault_answer why) }
         ensures failed_breaks { result ≡ StoreAnswer.StoreFault → broken_by self.new.journal ≡ Some DeviceFault.Failed }
 
@@ -167,7 +184,7 @@ impl<T: Tables> Store<T> {
     {
         match frame.update_number() {
             Some(_) => self.take(disk, frame),
-            None => StoreAnswer::Core(self.server.handle(keyed, frame, page)),
+            None => StoreAnswer::Answered(self.server.handle(keyed, frame, page)),
         }
     }
     /// Opens the whole way of a search, as `Server::walk` does: the disk isn't touched, and no memory is taken.
@@ -214,28 +231,28 @@ impl<T: Tables> Store<T> {
         requires within { IsWithin self.old.journal (D.content disk.old) }
         ensures refused { IfSome (refusal self.old.state (frame_view frame.now)) (λ reply. (self.new ≡ self.old) × (disk.new ≡ disk.old) ×
             ((f : KeyedFn) (s : ServerState) (page : List ℕ) → store_replies f s result page ≡ reply ∷ [])) }
-        ensures taken { refusal self.old.state (frame_view frame.now) ≡ None → result ≢ StoreAnswer.Core Answer.NoMemory → result ≢ StoreAnswer.StoreFault →
-            (self.new.state ≡ taken self.old.state (frame_view frame.now)) × (Some self.old.state.next ≡ update_number (frame_view frame.now)) × (result ≡ StoreAnswer.Core (Answer.Took self.old.state.next)) }
-        ensures no_memory { result ≡ StoreAnswer.Core Answer.NoMemory → (self.new.state ≡ self.old.state) × IsTaken self.old.state (frame_view frame.now) }
+        ensures taken { refusal self.old.state (frame_view frame.now) ≡ None → result ≢ StoreAnswer.Answered Answer.NoMemory → result ≢ StoreAnswer.StoreFault →
+            (self.new.state ≡ taken self.old.state (frame_view frame.now)) × (Some self.old.state.next ≡ update_number (frame_view frame.now)) × (result ≡ StoreAnswer.Answered (Answer.Took self.old.state.next)) }
+        ensures no_memory { result ≡ StoreAnswer.Answered Answer.NoMemory → (self.new.state ≡ self.old.state) × IsTaken self.old.state (frame_view frame.now) }
         ensures store_fault { result ≡ StoreAnswer.StoreFault → (self.new.state ≡ self.old.state) × IsTaken self.old.state (frame_view frame.now) }
-        ensures no_search { IfCore result (λ answer. (f : KeyedFn) (s : ServerState) (page : List ℕ) → HasBegun f s answer page) }
-        ensures range { IfCore result (λ answer. HasRange answer) }
+        ensures no_search { IfAnswered result (λ answer. (f : KeyedFn) (s : ServerState) (page : List ℕ) → HasBegun f s answer page) }
+        ensures range { IfAnswered result (λ answer. HasRange answer) }
 
         // Its journal: at each moment of the call, and after it.
-        ensures added { (q : ℕ) → result ≡ StoreAnswer.Core (Answer.Took q) → (frames : List FrameText) → IsStoreOf frames self.old (D.content disk.old) (D.images disk.old) →
+        ensures added { (q : ℕ) → result ≡ StoreAnswer.Answered (Answer.Took q) → (frames : List FrameText) → IsStoreOf frames self.old (D.content disk.old) (D.images disk.old) →
             IsStoreOf (frames ++ frame_view frame.now ∷ []) self.new (D.content disk.new) (D.images disk.new) }
         ensures any_moment { (frames : List FrameText) → broken_by self.old.journal ≡ None → IsStoreOf frames self.old (D.content disk.old) (D.images disk.old) →
             LeavesOnly D.moment D.left_since disk.old disk.new (GivesWithOrWithout (bodies frames) (body_of (frame_view frame.now))) }
-        ensures stays { (frames : List FrameText) → broken_by self.new.journal ≡ None → ((q : ℕ) → result ≢ StoreAnswer.Core (Answer.Took q)) → IsStoreOf frames self.old (D.content disk.old) (D.images disk.old) →
+        ensures stays { (frames : List FrameText) → broken_by self.new.journal ≡ None → ((q : ℕ) → result ≢ StoreAnswer.Answered (Answer.Took q)) → IsStoreOf frames self.old (D.content disk.old) (D.images disk.old) →
             IsStoreOf frames self.new (D.content disk.new) (D.images disk.new) }
-        ensures counted { (q : ℕ) → result ≡ StoreAnswer.Core (Answer.Took q) → records_of self.new.journal ≡ records_of self.old.journal + 1 }
+        ensures counted { (q : ℕ) → result ≡ StoreAnswer.Answered (Answer.Took q) → records_of self.new.journal ≡ records_of self.old.journal + 1 }
         ensures within_after { IsWithin self.new.journal (D.content disk.new) }
 
         // Whether it is broken.
-        ensures whole { (q : ℕ) → result ≡ StoreAnswer.Core (Answer.Took q) → (broken_by self.old.journal ≡ None) × (broken_by self.new.journal ≡ None) }
+        ensures whole { (q : ℕ) → result ≡ StoreAnswer.Answered (Answer.Took q) → (broken_by self.old.journal ≡ None) × (broken_by self.new.journal ≡ None) }
         ensures broken { IsSome (broken_by self.old.journal) → (disk.new ≡ disk.old) × (self.new.journal ≡ self.old.journal) × (self.new.state ≡ self.old.state) }
         ensures stays_broken { IfSome (broken_by self.old.journal) (λ why. IsTaken self.old.state (frame_view frame.now) →
-            (result ≡ fault_answer why) ⊎ (result ≡ StoreAnswer.Core Answer.NoMemory)) }
+            (result ≡ fault_answer why) ⊎ (result ≡ StoreAnswer.Answered Answer.NoMemory)) }
         ensures breaks { broken_by self.old.journal ≡ None → IfSome (broken_by self.new.journal) (λ why. result ≡ fault_answer why) }
         ensures failed_breaks { result ≡ StoreAnswer.StoreFault → broken_by self.new.journal ≡ Some DeviceFault.Failed }
 
@@ -246,12 +263,12 @@ impl<T: Tables> Store<T> {
     {
         let q = self.server.next();
         if let Err(refuse) = self.server.prepare(frame) {
-            return StoreAnswer::Core(Answer::from(refuse));
+            return StoreAnswer::Answered(Answer::from(refuse));
         }
         match keep(&mut self.journal, &mut self.spelled, disk, frame) {
             Ok(()) => {
                 self.server.apply(frame);
-                StoreAnswer::Core(Answer::Took(q))
+                StoreAnswer::Answered(Answer::Took(q))
             }
             Err(fault) => StoreAnswer::from(fault),
         }

@@ -8,7 +8,7 @@ use sse_outside::DeviceFault;
 #[derive(Clone, Copy)]
 pub enum StoreAnswer {
     /// The server's answer. `Answer::NoMemory` also where the disk has no memory for the record of an update frame.
-    Core(Answer),
+    Answered(Answer),
     /// To an update frame that the server would take: the disk failed, now or at an earlier frame, and it wasn't taken.
     StoreFault,
 }
@@ -19,7 +19,7 @@ impl From<DeviceFault> for StoreAnswer {
     fn from(fault: DeviceFault) -> StoreAnswer {
         match fault {
             DeviceFault::Failed => StoreAnswer::StoreFault,
-            DeviceFault::NoMemory => StoreAnswer::Core(Answer::NoMemory),
+            DeviceFault::NoMemory => StoreAnswer::Answered(Answer::NoMemory),
         }
     }
 }

@@ -12,6 +12,7 @@ none_is_some x e = absurd (let never : None ≡ Some x = e in cc)
 inside : {A : Type 0} (x y : A) → Some x ≡ Some y → x ≡ y
 inside x y e = cc
 
+-- Promise P146, also here
 -- for all leakage and draws of which something is made
 pub take-simulated_from : (n : ℕ) (sim : Sim) (leaks : List Leak) (drawn : List (List Draw)) (frames : List (List FrameText))
     → simulated_from sim leaks drawn ≡ Some frames → simulated_from sim (take n leaks) (take n drawn) ≡ Some (take n frames)

@@ -1,4 +1,4 @@
--- What each command of a history leaks, and the values that it draws. No word, document or key is among them.
+-- The leakage of each command of a history, and the values that it draws (docs/LEAKAGE.md). No word, document or key is among them.
 use Rattle.std.specs.Prelude.{ℕ, Bool, List, Option}
 use Rattle.two_level.specs.Shape.{Shape}
 use Rattle.sse_frames.specs.Frames.{Entry}

@@ -1,12 +1,12 @@
--- The frames that a server receives, and then all that passes, made of the leakage and of drawn values alone, command by command. A simulator knows
--- of the commands before only what it kept of each: the numbers that a deletion drew, or the token that a search drew.
+-- The frames that a server receives, and then all traffic, made from the leakage and from drawn values only, command by command. Of each earlier
+-- command a simulator keeps only the numbers that a deletion drew or the token that a search drew.
 use Rattle.std.specs.Prelude.{ℕ, zero, suc, ◌+◌, Bool, true, false, List, [], ◌∷◌, ◌++◌, length, filter, drop, flat_map, Option, None, Some, option_map}
 use Rattle.std.specs.List.{slice_get}
 use Rattle.std.specs.Option.{option_and_then}
 use Rattle.sse_frames.specs.Exchange.{Passed, exchange, greeting}
 use Rattle.sse_frames.specs.Frames.{Entry, FrameText, AddFrame, DeleteFrame, SearchFrame}
 use Rattle.sse_frames.specs.Order.{by_bytes}
-use Rattle.sse_frames.specs.Sending.{setup_frames}
+use Rattle.sse_frames.specs.SentParts.{setup_frames}
 use Rattle.sse_simulator.specs.Leaks.{Origin, NewEntry, Fresh, Again, WordLeak, Leak, SetupLeak, AddLeak, DeleteLeak, SearchLeak, Draw, EntryDraw, BlockDraw, NumberDraw, TokenDraw}
 
 -- Draws by their kind.

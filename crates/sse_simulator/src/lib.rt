@@ -1,5 +1,9 @@
-//! What a server receives and sends, made from the leakage and from drawn values alone: definitions. An item of leakage
-//! says what a command shows, and a draw is a value that it sends for the first time; the simulator makes the command's frames
-//! of the two and of what the commands before it kept. It depends on frames and shapes alone: no word, document or key has
-//! a type here. That a client sends just this is proved in `sse_leakage`.
+//! What a server receives and sends, made only from leakage and drawn values: the simulator, as definitions. An item
+//! of leakage says what a command shows, a draw is a value that it sends for the first time. A list of facts would
+//! leave open whether more shows; a simulator makes the bytes themselves, so what it isn't given can't be in them. Of
+//! a command it keeps only what later commands may point to. It depends on frames and shapes: no word, document or
+//! key has a type here.
+//! Proved: what is simulated of the first commands is the first part of what is simulated (law). That a client sends
+//! exactly this is proved in `def_leakage`.
+//! Side: server.
 #![tactic(auto)]

@@ -5,7 +5,7 @@ use Rattle.std.specs.Option.{option_or, option_map_or}
 use Rattle.std.specs.List.{position_from}
 use Rattle.std.proofs.lemmas.Bool.{ltb-true, ltb-false}
 use Rattle.std.proofs.lemmas.List.Elements.{All-nil, All-cons}
-use Rattle.list_packing.specs.Leading.{leading, leading_count, first_hole}
+use Rattle.list_packing.specs.LeadingNumbers.{leading, leading_count, first_hole}
 use Rattle.list_packing.specs.declared.hole.HoleInBlock.{HoleInBlock}
 use Rattle.list_packing.specs.Unpacked.{unpacked}
 use Rattle.list_packing.proofs.LeadingLemmas.{unless_hole, leading-first_hole}
@@ -13,7 +13,7 @@ use Rattle.two_level.specs.declared.cell_fault.CellFault.{CellFault}
 use Rattle.two_level.specs.declared.cell_fault.CellFault.TheVariants.{BadKind, Hole, BadPointer}
 use Rattle.two_level.specs.declared.cell_read.CellRead.{CellRead}
 use Rattle.two_level.specs.Plan.{CellKind, Identifiers, DataPointers, BlockPointers}
-use Rattle.two_level.specs.Opened.{numbers_of, kind_of, joined, followed, opened, listed, EndsAfter}
+use Rattle.two_level.specs.Opened.{numbers_of, kind_of, joined, followed, opened, cell_list, EndsAfter}
 use Rattle.two_level.specs.Read.{bad_pointer, pointed_to, form_fault, block_read, cell_read}
 
 -- ---- bad pointers
@@ -149,7 +149,7 @@ module _ (block : ℕ → ℕ → Option (List ℕ)) (blocks : ℕ) (ends : Ends
 -- nor after one that is refused
 pub cell_read-refused : (blocks : ℕ) (cell : List ℕ) (r : Result CellRead CellFault) → 0 < length cell
     → r ≡ cell_read blocks (slice_index cell 0) (numbers_of (drop 1 cell))
-    → OnErr r ((block : ℕ → ℕ → Option (List ℕ)) → EndsAfter blocks block → listed block cell ≡ None)
+    → OnErr r ((block : ℕ → ℕ → Option (List ℕ)) → EndsAfter blocks block → cell_list block cell ≡ None)
 cell_read-refused blocks [] r some is = absurd (omega arith)
 cell_read-refused blocks (kind ∷ bytes) (Ok read) some is = tt
 cell_read-refused blocks (kind ∷ bytes) (Err fault) some is = λ block ends. by block ends (kind_of kind) refl is

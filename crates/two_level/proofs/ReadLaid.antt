@@ -6,7 +6,7 @@ use Rattle.std.specs.Option.{option_or}
 use Rattle.std.specs.List.{position_from}
 use Rattle.std.proofs.lemmas.Bool.{le-ltb}
 use Rattle.std.proofs.lemmas.List.Elements.{All-nil, All-append, All-head, All-tail, All-take, All-drop, All-map}
-use Rattle.list_packing.specs.Leading.{leading, leading_count, first_hole}
+use Rattle.list_packing.specs.LeadingNumbers.{leading, leading_count, first_hole}
 use Rattle.list_packing.specs.Numbers.{number_bytes, numbers_of}
 use Rattle.list_packing.specs.Parts.{filled, parts, blocks}
 use Rattle.list_packing.proofs.LeadingLemmas.{unless_hole, leading-first_hole, leading-filled}
@@ -18,7 +18,7 @@ use Rattle.two_level.specs.Shape.{Shape}
 use Rattle.two_level.specs.Plan.{plan, block_count}
 use Rattle.two_level.specs.Planned.{kind_byte}
 use Rattle.two_level.specs.Laid.{Laid, laid, pointers, cell_bytes}
-use Rattle.two_level.specs.Opened.{listed, opened}
+use Rattle.two_level.specs.Opened.{cell_list, opened}
 use Rattle.two_level.specs.Read.{bad_pointer, form_fault, cell_fault}
 use Rattle.two_level.proofs.LaidLemmas.{laid_cases, All-numbers}
 use Rattle.two_level.proofs.OpenedLaid.{IsAtRanks, opened-laid}
@@ -26,7 +26,7 @@ use Rattle.two_level.proofs.ReadLemmas.{kind_of-kind_byte}
 
 -- ---- the list behind the cell's bytes
 
-pub listed-laid : (s : Shape) (ranks ids : List ℕ) (l : Laid) (block : ℕ → ℕ → Option (List ℕ))
+pub cell_list-laid : (s : Shape) (ranks ids : List ℕ) (l : Laid) (block : ℕ → ℕ → Option (List ℕ))
     → 0 < s.big
     → All (λ id. 0 < id) ids
     → All (λ id. id < 2 ^ 64) ids
@@ -34,8 +34,8 @@ pub listed-laid : (s : Shape) (ranks ids : List ℕ) (l : Laid) (block : ℕ →
     → laid s ranks ids ≡ Some l
     → length ranks ≡ block_count (plan s (length ids))
     → IsAtRanks block ranks l.blocks
-    → listed block (cell_bytes l) ≡ Some ids
-listed-laid s ranks ids l block some form small places is count placed =
+    → cell_list block (cell_bytes l) ≡ Some ids
+cell_list-laid s ranks ids l block some form small places is count placed =
     ap (option_and_then (λ k. opened block k (numbers_of (number_bytes l.numbers)))) (kind_of-kind_byte l.kind)
     ∙ ap (opened block l.kind) (numbers_of-number_bytes l.numbers (All-numbers (λ n. n < 2 ^ 64) s ranks ids l (omega arith) small places is count))
     ∙ opened-laid s ranks ids l block some form is count placed

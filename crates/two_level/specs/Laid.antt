@@ -1,4 +1,4 @@
--- What stands in the cell and the blocks of a list.
+-- The contents of a list's cell and blocks (docs/FORMATS.md).
 use Rattle.std.specs.Prelude.{ℕ, ◌+◌, List, [], ◌∷◌, ◌++◌, length, map, take, drop, slice_index_or, Option, option_map}
 use Rattle.list_packing.specs.Parts as packing
 use Rattle.list_packing.specs.Parts.{filled}

@@ -1,7 +1,7 @@
 -- The list that a reader finds after a cell.
 use Rattle.std.specs.Prelude.{ℕ, zero, suc, ◌≡◌, ◌+◌, ◌<◌, ◌==◌, List, [], ◌∷◌, ◌++◌, length, Option, Some, None, option_map, option_and_then, slice_get, if◌then◌else◌}
 pub use Rattle.list_packing.specs.Numbers.{numbers_of}
-pub use Rattle.list_packing.specs.Leading.{leading}
+pub use Rattle.list_packing.specs.LeadingNumbers.{leading}
 use Rattle.two_level.specs.Plan.{CellKind, Identifiers, DataPointers, BlockPointers}
 
 -- the kind of cell that a byte stands for
@@ -30,9 +30,9 @@ opened block BlockPointers numbers =
     option_and_then (λ tops. option_and_then (followed block (length tops)) (followed block 0 tops)) (leading numbers)
 
 -- the list of a cell in the clear: a byte that says what its numbers are, and the numbers
-abbrev pub listed : (ℕ → ℕ → Option (List ℕ)) → List ℕ → Option (List ℕ)
-listed block [] = None
-listed block (kind ∷ numbers) = option_and_then (λ k. opened block k (numbers_of numbers)) (kind_of kind)
+abbrev pub cell_list : (ℕ → ℕ → Option (List ℕ)) → List ℕ → Option (List ℕ)
+cell_list block [] = None
+cell_list block (kind ∷ numbers) = option_and_then (λ k. opened block k (numbers_of numbers)) (kind_of kind)
 
 -- the block at a pointer into an array in the clear, whatever its number
 abbrev pub in_array : List (List ℕ) → ℕ → ℕ → Option (List ℕ)

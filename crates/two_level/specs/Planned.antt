@@ -1,4 +1,4 @@
--- What a plan of the code is of a plan of the definitions.
+-- The layout that a plan of the code stands for.
 use Rattle.std.specs.Prelude.{ℕ, Option, None, Some, Result, Ok, Err}
 use Rattle.two_level.specs.Plan as layout
 use Rattle.two_level.specs.Plan.{CellKind, Identifiers, DataPointers, BlockPointers}

@@ -1,8 +1,8 @@
--- What is read of a cell or a block in the clear: how many numbers stand before its zeros, or why it has no such form.
+-- The reading of a cell or a block in plaintext: how many numbers stand before its zeros, or why it has no such form.
 use Rattle.std.specs.Prelude.{ℕ, List, take, nat_lt, Option, None, Some, option_map, option_and_then, Result, Ok, Err}
 use Rattle.std.specs.Option.{option_or, option_map_or}
 use Rattle.std.specs.List.{position_from}
-use Rattle.list_packing.specs.Leading.{leading_count, first_hole}
+use Rattle.list_packing.specs.LeadingNumbers.{leading_count, first_hole}
 use Rattle.two_level.specs.Plan.{CellKind, Identifiers, DataPointers, BlockPointers}
 use Rattle.two_level.specs.Opened.{kind_of}
 use Rattle.two_level.specs.declared.cell_fault.CellFault.{CellFault}

@@ -1,4 +1,4 @@
--- Why two numbers are no parameters of a layout, and what is printed of it.
+-- Why two numbers are no parameters of a layout, and the text printed for it.
 use Rattle.std.specs.Prelude.{ℕ, Bool, not, ◌&&◌, nat_le, List, ◌++◌, codes, decimal, Option, None, Some, if◌then◌else◌}
 use Rattle.two_level.specs.Shape.{Shape}
 use Rattle.two_level.specs.declared.shape_fault.ShapeFault.{ShapeFault}

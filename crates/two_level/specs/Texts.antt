@@ -1,4 +1,4 @@
--- What is printed of each fault of a cell or a block.
+-- The text printed for each fault of a cell or a block.
 use Rattle.std.specs.Prelude.{ℕ, List, ◌++◌, codes, decimal}
 use Rattle.two_level.specs.declared.cell_fault.CellFault.{CellFault}
 use Rattle.two_level.specs.declared.cell_fault.CellFault.TheVariants.{BadKind, Hole, BadPointer}

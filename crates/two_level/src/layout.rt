@@ -7,6 +7,8 @@ use crate::planned::Plan;
 use crate::shape::Shape;
 use crate::too_long::ListTooLong;
 
+// Promise P78 (caller): The layout of a list is the smallest kind that holds it.
+//   clauses: ensures
 /// How a list of `n` identifiers is laid out in cells of `b` numbers and blocks of `big` numbers: [`Shape::plan`] for
 /// parameters that are numbers.
 ///

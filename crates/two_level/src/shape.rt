@@ -26,6 +26,8 @@ impl Model for Shape {
 }
 
 impl Shape {
+    // Promise P77 (caller): A shape's two parameters are within their limits; otherwise the first that isn't is named.
+    //   clauses: shape, refused, accepted
     /// The shape of these parameters. Errors, the first that stands: `BadCell(b)` where `b` is outside 1 to 64;
     /// `BadBlock(big)` where `big` is outside 1 to 256.
     pub fn new(b: u64, big: u64) -> Result<Shape, ShapeFault>

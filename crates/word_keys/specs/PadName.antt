@@ -1,4 +1,4 @@
--- Which pad a slot names.
+-- The pad that a slot names.
 use Rattle.std.specs.Prelude.{ℕ, ◌+◌, ◌^◌, List}
 use Rattle.keyed_fn.specs.KeyedFn.{KeyedFn}
 

@@ -37,6 +37,7 @@ impl DummyKey {
         }
     }
 
+    // Promise P97, also here; clauses: ensures
     /// The 16-byte label of dummy entry `i`, from 0.
     pub fn label<K: Keyed>(&self, keyed: &K, i: u32) -> [u8; 16]
         ensures { result ≡ dummy_label (keyed_fn K.prf K.pad) self.now.label_key i }
@@ -44,6 +45,7 @@ impl DummyKey {
         self.label_key.front_at(keyed, u64::from(i))
     }
 
+    // Promise P97, also here; clauses: ensures
     /// The 16-byte tag of dummy block `j`, from 0.
     pub fn tag<K: Keyed>(&self, keyed: &K, j: u32) -> [u8; 16]
         ensures { result ≡ dummy_tag (keyed_fn K.prf K.pad) self.now.label_key j }
@@ -51,6 +53,7 @@ impl DummyKey {
         self.label_key.front_at(keyed, FIRST_BLOCK + u64::from(j))
     }
 
+    // Promise P97, also here; clauses: ensures
     /// The pad of the cell of dummy entry `i`, from 0. It encrypts zeros, so a setup asks for each number once.
     pub fn cell_slot(&self, i: u32) -> PadSlot
         ensures { result ≡ dummy_cell_name self.now.pad_key i }
@@ -58,6 +61,7 @@ impl DummyKey {
         PadSlot::new(self.pad_key, u64::from(i))
     }
 
+    // Promise P97, also here; clauses: ensures
     /// The pad of dummy block `j`, from 0, which is none of a cell's. It encrypts zeros, so a setup asks for each
     /// number once.
     pub fn block_slot(&self, j: u32) -> PadSlot

@@ -1,12 +1,13 @@
-//! What only a client has: the master key, the keys that it gives for a word, and pads that are spent once.
-//! It depends on `search_token` and on the words of `client_registry`; no crate of the server depends on it.
-//! A command asks for the keys that it needs: two for an addition (`PlusKeys`), one for a deletion
-//! (`RevocationKey`), all five of a server's for a search; of a list it asks for the label and for the pads
-//! (`ListPads`), and a setup for the keys of its dummies, which are of no word (`DummyKey`). Keys can be kept, and nothing
-//! prints them or gives their bytes back. The theorem that callers use: each call gives the key formula of its name
-//! (`keyed_fn`, specs/KeyFormulas.antt and specs/DummyFormulas.antt), and `seal` XORs the pad that its slot names. A slot
-//! can't be copied or dropped.
-//! That no name is drawn twice isn't shown here: it is a law of the caller's own list of names.
+//! What only a client has: the master key, the keys that it gives for a word, and pads (keystream) that are used
+//! once. It depends on `search_token` and on the words of `client_registry`; no crate of the server depends on it. A
+//! command asks for the keys that it needs: two for an addition (`PlusKeys`), one for a deletion (`RevocationKey`),
+//! five for a search. For a list it asks for label and pads (`ListPads`), and a setup for the keys of its dummies
+//! (`DummyKey`). No type prints a key or gives its bytes back: only a token has bytes, since only it goes to a
+//! server.
+//! Proved: each call gives the key formula of its name (`keyed_fn`, specs/KeyFormulas.antt and
+//! specs/DummyFormulas.antt); `seal` XORs the pad that its slot names, and a slot can't be copied or dropped.
+//! Not here: that no name is drawn twice, a law of the caller's own list of names.
+//! Side: client.
 
 #![tactic(auto)]
 

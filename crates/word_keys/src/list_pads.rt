@@ -27,6 +27,7 @@ impl ListPads {
         ListPads { key, given: 0 }
     }
 
+    // Promise P97, also here; clauses: slot, after
     /// The next pad. Fewer than 2^22 were given.
     pub fn next(&mut self) -> PadSlot
         requires { self.old.number < 2 ^ 22 }

@@ -30,6 +30,7 @@ impl PadSlot {
     }
 }
 
+// Promise P97, also here; clauses: ensures
 /// Spends a slot: XORs its pad into a plaintext of at most 2,048 bytes.
 pub fn seal<K: Keyed>(slot: PadSlot, keyed: &K, plaintext: &mut [u8])
     requires { length plaintext.old ≤ 2048 }

@@ -36,6 +36,7 @@ impl PlaceKey {
         front_at(keyed, &self.bytes, u64::from(i))
     }
 
+    // Promise P97, also here; clauses: ensures
     /// The tags of the list's blocks, prepared for many.
     pub fn tags<K: Keyed>(&self, keyed: &K) -> PlaceTags<K>
         ensures { result ≡ self.now }

@@ -35,6 +35,7 @@ impl<K: Keyed> PlaceTags<K> {
         }
     }
 
+    // Promise P97, also here; clauses: ensures
     /// The 16-byte place tag of block `i` of the list, from 0.
     pub fn tag(&self, keyed: &K, i: u32) -> [u8; 16]
         ensures { result ≡ place_tag (keyed_fn K.prf K.pad) self.now i }

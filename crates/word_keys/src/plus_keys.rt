@@ -35,6 +35,7 @@ impl PlusKeys {
         }
     }
 
+    // Promise P97, also here; clauses: ensures
     /// The 16-byte label of addition `c`, from 0.
     pub fn label<K: Keyed>(&self, keyed: &K, c: u32) -> [u8; 16]
         ensures { result ≡ plus_label (keyed_fn K.prf K.pad) self.now.label_key c }
@@ -42,6 +43,7 @@ impl PlusKeys {
         self.label_key.front_at(keyed, u64::from(c))
     }
 
+    // Promise P97, also here; clauses: ensures
     /// The pad of addition `c`, from 0. It encrypts 8 bytes.
     pub fn slot(&self, c: u32) -> PadSlot
         ensures { result ≡ plus_name self.now.pad_key c }

@@ -80,6 +80,9 @@ impl<K: Keyed> PreparedMaster<K> {
         }
     }
 
+    // Promise P97 (caller): Every key, pad, label, tag and mark that the master key gives is the one in the key formulas.
+    //   clauses: ensures; assumes: earlier calls, sizes in bounds; not: That no two texts get one pad: P148 says it of a history. That no two different names share an input of the
+    //     functions, which no named law says. That values look random is assumed.
     /// The search token of a word: its keys of the parts 1 to 5, for one who searches.
     pub fn token(&self, keyed: &K, word: &Word) -> Token
         ensures { result ≡ token_keys (keyed_fn K.prf K.pad) self.now (word_bytes word.now) }
@@ -94,6 +97,7 @@ impl<K: Keyed> PreparedMaster<K> {
         ])
     }
 
+    // Promise P97, also here; clauses: ensures
     /// The 16-byte label of a word's list, under its key of part 1.
     pub fn list_label(&self, keyed: &K, word: &Word) -> [u8; 16]
         ensures { result ≡ list_label (keyed_fn K.prf K.pad) (part_key (keyed_fn K.prf K.pad) self.now 1 (word_bytes word.now)) }
@@ -101,6 +105,7 @@ impl<K: Keyed> PreparedMaster<K> {
         front_at(keyed, &self.key_of_part(keyed, LIST_LABEL, word.bytes()), 0)
     }
 
+    // Promise P97, also here; clauses: ensures
     /// The pads of a word's list under its key of part 2, from that of the cell on.
     pub fn list_pads(&self, keyed: &K, word: &Word) -> ListPads
         ensures { result ≡ cell_name (part_key (keyed_fn K.prf K.pad) self.now 2 (word_bytes word.now)) }
@@ -108,6 +113,7 @@ impl<K: Keyed> PreparedMaster<K> {
         ListPads::begin(self.key_of_part(keyed, LIST_PADS, word.bytes()))
     }
 
+    // Promise P97, also here; clauses: ensures
     /// The keys of a word's additions: its keys of the parts 3 and 4.
     pub fn plus_keys(&self, keyed: &K, word: &Word) -> PlusKeys
         ensures { result ≡ plus_keys (keyed_fn K.prf K.pad) self.now (word_bytes word.now) }
@@ -117,6 +123,7 @@ impl<K: Keyed> PreparedMaster<K> {
         PlusKeys::new(&label_key, pad_key)
     }
 
+    // Promise P97, also here; clauses: ensures
     /// The key of a word's revocation numbers: its key of part 5.
     pub fn revocation_key(&self, keyed: &K, word: &Word) -> RevocationKey
         ensures { result ≡ part_key (keyed_fn K.prf K.pad) self.now 5 (word_bytes word.now) }
@@ -124,6 +131,7 @@ impl<K: Keyed> PreparedMaster<K> {
         RevocationKey::new(&self.key_of_part(keyed, REVOCATIONS, word.bytes()))
     }
 
+    // Promise P97, also here; clauses: ensures
     /// The place key of a word: its key of part 6, which never leaves the client.
     pub fn place_key(&self, keyed: &K, word: &Word) -> PlaceKey
         ensures { result ≡ part_key (keyed_fn K.prf K.pad) self.now 6 (word_bytes word.now) }
@@ -131,6 +139,7 @@ impl<K: Keyed> PreparedMaster<K> {
         PlaceKey::new(self.key_of_part(keyed, PLACES, word.bytes()))
     }
 
+    // Promise P97, also here; clauses: ensures
     /// The keys of a setup's dummies: those of the parts 8 and 9, for no word, which never leave the client.
     pub fn dummy_key(&self, keyed: &K) -> DummyKey
         ensures { result ≡ dummy_keys (keyed_fn K.prf K.pad) self.now }
@@ -139,6 +148,7 @@ impl<K: Keyed> PreparedMaster<K> {
         DummyKey::new(&self.key_of_part(keyed, DUMMY_LABELS, &[]), pad_key)
     }
 
+    // Promise P97, also here; clauses: ensures
     /// The 16-byte key mark, by which a client knows again whether it was given the same key.
     pub fn mark(&self, keyed: &K) -> [u8; 16]
         ensures { result ≡ mark_of (keyed_fn K.prf K.pad) self.now }
@@ -146,6 +156,7 @@ impl<K: Keyed> PreparedMaster<K> {
         front_of(&self.key_of_part(keyed, MARK, &[]))
     }
 
+    // Promise P97, also here; clauses: ensures
     /// The keys under which a client hashes its words and identifiers.
     pub fn hash_keys(&self, keyed: &K) -> HashKeys
         ensures { hash_numbers result ≡ numbers_of_key (plain_key (keyed_fn K.prf K.pad) self.now 13) }

@@ -30,6 +30,7 @@ impl RevocationKey {
         }
     }
 
+    // Promise P97, also here; clauses: ensures
     /// The 16-byte revocation number of an identifier for the word.
     pub fn number<K: Keyed>(&self, keyed: &K, id: u64) -> [u8; 16]
         ensures { result ≡ revocation (keyed_fn K.prf K.pad) self.now id }

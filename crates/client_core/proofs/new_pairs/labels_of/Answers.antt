@@ -1,8 +1,8 @@
 use Rattle.std.proofs.Common.{◌≡◌, ◌+◌, ◌++◌, ◌∷◌, [], List, ℕ, get_or, length, map, sym, ap, take, ◌∙◌, arith}
 use Rattle.std.proofs.lemmas.List.{length-map, length-take-le, map_push, take_more}
 use Rattle.add_counters.specs.declared.entry.Entry.{Entry}
-use Rattle.tag_order.proofs.InOrder.{make, tagged_from-push}
-use Rattle.tag_order.specs.Tagged.{tagged_from}
+use Rattle.client_tag_order.proofs.InOrder.{make, tagged_from-push}
+use Rattle.client_tag_order.specs.Tagged.{tagged_from}
 use Rattle.client_core.proofs.new_pairs.labels_of.Goals as goal
 
 pub loop-i-preserved : goal.loop-i-preserved

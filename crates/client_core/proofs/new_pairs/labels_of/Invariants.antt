@@ -1,5 +1,5 @@
 use Rattle.std.proofs.Common.{◌≡◌, map, take}
-use Rattle.tag_order.specs.Tagged.{tagged_from}
+use Rattle.client_tag_order.specs.Tagged.{tagged_from}
 use Rattle.client_core.proofs.new_pairs.labels_of.Given as goal
 
 abbrev pub invariant-loop-i : goal.invariant-loop-i

@@ -5,7 +5,7 @@ use Rattle.std.proofs.lemmas.List.{length-map, map-append}
 use Rattle.std.proofs.lemmas.List.Elements.{All-push}
 use Rattle.client_registry.specs.WordBytes.{word_bytes}
 use Rattle.client_records.specs.Records.{word_field}
-use Rattle.client_records.specs.Reading.{IsWord}
+use Rattle.client_records.specs.ReaderFaults.{IsWord}
 use Rattle.client_records.proofs.Absent.{no_words, one_more}
 use Rattle.client_records.proofs.documents.read_words.Goals as goal
 

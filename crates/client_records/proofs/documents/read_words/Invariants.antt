@@ -3,7 +3,7 @@ use Rattle.std.specs.Prelude.{All}
 use Rattle.std.specs.List.{flat_map}
 use Rattle.client_registry.specs.WordBytes.{word_bytes}
 use Rattle.client_records.specs.Records.{word_field}
-use Rattle.client_records.specs.Reading.{IsWord}
+use Rattle.client_records.specs.ReaderFaults.{IsWord}
 use Rattle.client_records.proofs.documents.read_words.Given as goal
 
 abbrev pub invariant-loop : goal.invariant-loop

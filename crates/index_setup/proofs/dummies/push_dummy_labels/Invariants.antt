@@ -3,7 +3,7 @@ use Rattle.std.specs.List.{range_with_len}
 use Rattle.keyed_fn.specs.DummyFormulas.{dummy_label}
 use Rattle.keyed_fn.specs.KeyFormulas.{plain_key}
 use Rattle.keyed_fn.specs.KeyedFn.{keyed_fn}
-use Rattle.tag_order.specs.Tagged.{tagged_from}
+use Rattle.client_tag_order.specs.Tagged.{tagged_from}
 use Rattle.index_setup.proofs.dummies.push_dummy_labels.Given as goal
 
 -- the labels of the first i dummies

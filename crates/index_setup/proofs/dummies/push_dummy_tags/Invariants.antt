@@ -3,7 +3,7 @@ use Rattle.std.specs.List.{range_with_len}
 use Rattle.keyed_fn.specs.DummyFormulas.{dummy_tag}
 use Rattle.keyed_fn.specs.KeyFormulas.{plain_key}
 use Rattle.keyed_fn.specs.KeyedFn.{keyed_fn}
-use Rattle.tag_order.specs.Tagged.{tagged_from}
+use Rattle.client_tag_order.specs.Tagged.{tagged_from}
 use Rattle.index_setup.proofs.dummies.push_dummy_tags.Given as goal
 
 -- the tags of the first j dummies

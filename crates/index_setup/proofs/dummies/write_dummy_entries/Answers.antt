@@ -6,7 +6,7 @@ use Rattle.keyed_fn.specs.KeyFormulas.{plain_key}
 use Rattle.keyed_fn.specs.KeyedFn.{keyed_fn}
 use Rattle.keyed_fn.specs.Xored.{xored}
 use Rattle.sse_model.specs.Names.{cell_size}
-use Rattle.tag_order.proofs.FoundClash.{nothing}
+use Rattle.client_tag_order.proofs.FoundClash.{nothing}
 use Rattle.word_keys.specs.PadName.{named_pad}
 use Rattle.index_setup.specs.Placed.{dummy_entry_texts}
 use Rattle.index_setup.proofs.PlacedLaws.{placed_all, placed_step, slot_room, slot_within}

@@ -10,8 +10,8 @@ use Rattle.keyed_fn.specs.KeyedFn.{keyed_fn}
 use Rattle.keyed_fn.specs.KeyFormulas.{list_label, part_key, plain_key}
 use Rattle.index_setup.specs.Entries.{word_labels}
 use Rattle.index_setup.specs.SizeOf.{setup_sized}
-use Rattle.tag_order.specs.Tagged.{tagged_from}
-use Rattle.tag_order.proofs.InOrder.{length-tagged_from}
+use Rattle.client_tag_order.specs.Tagged.{tagged_from}
+use Rattle.client_tag_order.proofs.InOrder.{length-tagged_from}
 use Rattle.index_setup.proofs.AcceptedLaws.{dummy_entries-counted}
 use Rattle.index_setup.proofs.KeyTags.{index_labels-are}
 use Rattle.index_setup.proofs.TagLists.{tagged-append, tagged-map_more}

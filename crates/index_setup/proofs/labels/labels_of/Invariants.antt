@@ -2,7 +2,7 @@ use Rattle.std.proofs.Common.{◌≡◌, take}
 use Rattle.client_registry.specs.Documents.{words_of}
 use Rattle.keyed_fn.specs.KeyedFn.{keyed_fn}
 use Rattle.index_setup.specs.Entries.{word_labels}
-use Rattle.tag_order.specs.Tagged.{tagged_from}
+use Rattle.client_tag_order.specs.Tagged.{tagged_from}
 use Rattle.index_setup.proofs.labels.labels_of.Given as goal
 
 -- the labels of the first w words

@@ -2,7 +2,7 @@ use Rattle.std.proofs.Common.{◌≡◌, ◌+◌, ◌++◌, map, vec_len}
 use Rattle.std.specs.List.{range_with_len}
 use Rattle.keyed_fn.specs.KeyedFn.{keyed_fn}
 use Rattle.keyed_fn.specs.KeyFormulas.{place_tag}
-use Rattle.tag_order.specs.Tagged.{tagged_from}
+use Rattle.client_tag_order.specs.Tagged.{tagged_from}
 use Rattle.index_setup.proofs.labels.push_under.Given as goal
 
 -- the tags of the first i blocks

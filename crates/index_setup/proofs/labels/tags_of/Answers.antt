@@ -15,8 +15,8 @@ use Rattle.two_level.specs.Plan.{plan, block_count}
 use Rattle.two_level.specs.Shape.{Shape}
 use Rattle.index_setup.specs.Entries.{block_tags}
 use Rattle.index_setup.specs.SizeOf.{setup_sized}
-use Rattle.tag_order.specs.Tagged.{tagged_from}
-use Rattle.tag_order.proofs.InOrder.{length-tagged_from}
+use Rattle.client_tag_order.specs.Tagged.{tagged_from}
+use Rattle.client_tag_order.proofs.InOrder.{length-tagged_from}
 use Rattle.index_setup.proofs.AcceptedLaws.{dummy_blocks-counted, list_at, planned_at}
 use Rattle.index_setup.proofs.KeyTags.{index_tags-are, own_tags}
 use Rattle.index_setup.proofs.TagLists.{tagged-append, tagged-flat_map_more, tagged-flat_map_room}

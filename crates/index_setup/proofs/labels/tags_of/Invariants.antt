@@ -2,7 +2,7 @@ use Rattle.std.proofs.Common.{◌≡◌, take}
 use Rattle.client_registry.specs.Documents.{words_of}
 use Rattle.keyed_fn.specs.KeyedFn.{keyed_fn}
 use Rattle.index_setup.specs.Entries.{block_tags}
-use Rattle.tag_order.specs.Tagged.{tagged_from}
+use Rattle.client_tag_order.specs.Tagged.{tagged_from}
 use Rattle.index_setup.proofs.labels.tags_of.Given as goal
 
 -- the tags of the blocks of the first w words

@@ -1,8 +1,8 @@
 use Rattle.std.proofs.Common.{◌≡◌, ℕ, ◌<◌, List, length, get_or}
 use Rattle.sse_model.specs.Positions.{ranks_of}
-use Rattle.tag_order.specs.Tagged.{IsOrderOf}
-use Rattle.tag_order.proofs.FoundClash.{at}
-use Rattle.tag_order.proofs.InOrder.{pos}
+use Rattle.client_tag_order.specs.Tagged.{IsOrderOf}
+use Rattle.client_tag_order.proofs.FoundClash.{at}
+use Rattle.client_tag_order.proofs.InOrder.{pos}
 use Rattle.index_setup.proofs.order.ranks.Given as goal
 
 -- the positions of the first k of the sorted have their ranks

@@ -1,7 +1,7 @@
 use Rattle.std.proofs.Common.{◌≡◌, ◌++◌, ◌∷◌, [], Ok, Err, false, sym, ap, ◌∙◌}
 use Rattle.std.specs.Prelude.{Result, OnErr, if◌then◌else◌}
 use Rattle.client_registry.specs.IdNumber.{id_number}
-use Rattle.simulated_frames.specs.Views.{origin_view}
+use Rattle.leakage_frames.specs.Views.{origin_view}
 use Rattle.leakage_model.proofs.PairEntries.{pairs-new, sent-absent}
 use Rattle.leakage_model.specs.Pairs.{pair_with, pairs_in}
 use Rattle.leakage_model.specs.WordFacts.{lists, new_pair, sent_among}

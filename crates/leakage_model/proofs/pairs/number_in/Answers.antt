@@ -1,7 +1,7 @@
 use Rattle.std.proofs.Common.{sym, ap, ◌∙◌}
 use Rattle.std.specs.Option.{option_and_then, option_map}
 use Rattle.client_registry.specs.IdNumber.{id_number}
-use Rattle.simulated_frames.specs.Views.{origin_view}
+use Rattle.leakage_frames.specs.Views.{origin_view}
 use Rattle.leakage_model.proofs.PairEntries.{number-lookup}
 use Rattle.leakage_model.specs.declared.pair.Pair.{Pair}
 use Rattle.leakage_model.proofs.pairs.number_in.Goals as goal

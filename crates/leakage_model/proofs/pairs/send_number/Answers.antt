@@ -1,6 +1,6 @@
 use Rattle.std.proofs.Common.{sym, ◌∙◌}
 use Rattle.client_registry.specs.IdNumber.{id_number}
-use Rattle.simulated_frames.specs.Views.{origin_view}
+use Rattle.leakage_frames.specs.Views.{origin_view}
 use Rattle.leakage_model.proofs.PairEntries.{lists-lookup, sent-absent, sent-set}
 use Rattle.leakage_model.specs.Pairs.{pairs_in}
 use Rattle.leakage_model.proofs.pairs.send_number.Goals as goal

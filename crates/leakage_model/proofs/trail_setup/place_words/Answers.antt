@@ -14,7 +14,7 @@ use Rattle.client_registry.specs.WordBytes.{word_bytes}
 use Rattle.sse_model.specs.Positions.{word_blocks}
 use Rattle.leakage_model.proofs.EntryLaws.{each-next}
 use Rattle.leakage_model.proofs.SetupLaws.{home_at, placed-words, sum-word_blocks}
-use Rattle.leakage_model.specs.Following.{ChangesAt, ChangesEach}
+use Rattle.leakage_model.specs.TrailFacts.{ChangesAt, ChangesEach}
 use Rattle.leakage_model.specs.WordFacts.{placed_at}
 use Rattle.leakage_model.proofs.trail_setup.place_words.Goals as goal
 

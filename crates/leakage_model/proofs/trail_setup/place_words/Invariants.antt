@@ -4,7 +4,7 @@ use Rattle.client_registry.specs.Documents.{words_of}
 use Rattle.client_registry.specs.Setup.{setup_of}
 use Rattle.sse_model.specs.Positions.{word_blocks}
 use Rattle.leakage_model.proofs.SetupLaws.{home_at}
-use Rattle.leakage_model.specs.Following.{ChangesEach}
+use Rattle.leakage_model.specs.TrailFacts.{ChangesEach}
 use Rattle.leakage_model.specs.WordFacts.{placed_at}
 use Rattle.leakage_model.proofs.trail_setup.place_words.Given as goal
 

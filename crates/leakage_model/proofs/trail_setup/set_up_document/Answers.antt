@@ -9,7 +9,7 @@ use Rattle.client_registry.specs.IdNumber.{id_number}
 use Rattle.client_registry.specs.Numbered.{words_by_number}
 use Rattle.client_registry.specs.WordBytes.{word_bytes}
 use Rattle.leakage_model.proofs.EntryLaws.{each-more, each-other, fresh_word}
-use Rattle.leakage_model.specs.Following.{ChangesAt}
+use Rattle.leakage_model.specs.TrailFacts.{ChangesAt}
 use Rattle.leakage_model.specs.WordFacts.{set_up_with}
 use Rattle.leakage_model.proofs.trail_setup.set_up_document.Goals as goal
 

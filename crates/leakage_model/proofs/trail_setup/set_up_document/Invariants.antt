@@ -2,7 +2,7 @@ use Rattle.std.proofs.Common.{take}
 use Rattle.client_registry.specs.Documents.{words_of}
 use Rattle.client_registry.specs.IdNumber.{id_number}
 use Rattle.client_registry.specs.Numbered.{words_by_number}
-use Rattle.leakage_model.specs.Following.{ChangesEach}
+use Rattle.leakage_model.specs.TrailFacts.{ChangesEach}
 use Rattle.leakage_model.specs.WordFacts.{set_up_with}
 use Rattle.leakage_model.proofs.trail_setup.set_up_document.Given as goal
 

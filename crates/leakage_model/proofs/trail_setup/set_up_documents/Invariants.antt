@@ -1,7 +1,7 @@
 use Rattle.std.proofs.Common.{◌≡◌, ℕ, List, take}
 use Rattle.client_registry.specs.Setup.{setup_of}
 use Rattle.leakage_model.proofs.SetupLaws.{told_of}
-use Rattle.leakage_model.specs.Following.{facts_in}
+use Rattle.leakage_model.specs.TrailFacts.{facts_in}
 use Rattle.leakage_model.proofs.trail_setup.set_up_documents.Given as goal
 
 abbrev pub invariant-loop-i : goal.invariant-loop-i

@@ -1,7 +1,7 @@
 use Rattle.std.proofs.lemmas.Result.{on_ok_weaker}
 use Rattle.client_registry.specs.IdNumber.{id_number}
 use Rattle.client_registry.specs.WordBytes.{word_bytes}
-use Rattle.simulated_frames.specs.Views.{origin_view}
+use Rattle.leakage_frames.specs.Views.{origin_view}
 use Rattle.leakage_model.proofs.EntryLaws.{changes-at}
 use Rattle.leakage_model.specs.WordFacts.{added_at}
 use Rattle.leakage_model.proofs.trail_table.add_word.Goals as goal

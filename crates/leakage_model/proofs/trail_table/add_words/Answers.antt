@@ -1,6 +1,6 @@
 use Rattle.client_registry.specs.IdNumber.{id_number}
 use Rattle.client_registry.specs.WordBytes.{word_bytes}
-use Rattle.sse_leakage.specs.Firsts.{origin}
+use Rattle.def_leakage.specs.Firsts.{origin}
 use Rattle.leakage_model.proofs.EntryLaws.{each-more}
 use Rattle.leakage_model.specs.WordFacts.{added_at}
 use Rattle.leakage_model.proofs.trail_table.add_words.Goals as goal

@@ -1,8 +1,8 @@
 use Rattle.std.proofs.Common.{map, take}
 use Rattle.client_registry.specs.IdNumber.{id_number}
 use Rattle.client_registry.specs.WordBytes.{word_bytes}
-use Rattle.sse_leakage.specs.Firsts.{origin}
-use Rattle.leakage_model.specs.Following.{ChangesEach}
+use Rattle.def_leakage.specs.Firsts.{origin}
+use Rattle.leakage_model.specs.TrailFacts.{ChangesEach}
 use Rattle.leakage_model.specs.WordFacts.{added_at}
 use Rattle.leakage_model.proofs.trail_table.add_words.Given as goal
 

@@ -1,7 +1,7 @@
 use Rattle.std.proofs.Common.{refl}
 use Rattle.client_registry.specs.IdNumber.{id_number}
 use Rattle.client_registry.specs.WordBytes.{word_bytes}
-use Rattle.simulated_frames.specs.Views.{origin_view}
+use Rattle.leakage_frames.specs.Views.{origin_view}
 use Rattle.leakage_model.proofs.EntryLaws.{changes-at, place-entry}
 use Rattle.leakage_model.specs.WordFacts.{deleted_at}
 use Rattle.leakage_model.proofs.trail_table.delete_word.Goals as goal

@@ -5,9 +5,9 @@ use Rattle.std.proofs.lemmas.Option.{get_or_from_slice_get}
 use Rattle.client_registry.specs.IdNumber.{id_number}
 use Rattle.client_registry.specs.Registered.{known_words}
 use Rattle.client_registry.specs.WordBytes.{word_bytes}
-use Rattle.sse_leakage.specs.Firsts.{origin}
+use Rattle.def_leakage.specs.Firsts.{origin}
 use Rattle.leakage_model.proofs.EntryLaws.{each-more}
-use Rattle.leakage_model.specs.Following.{ChangesAt}
+use Rattle.leakage_model.specs.TrailFacts.{ChangesAt}
 use Rattle.leakage_model.specs.WordFacts.{deleted_at}
 use Rattle.leakage_model.proofs.trail_table.delete_words.Goals as goal
 

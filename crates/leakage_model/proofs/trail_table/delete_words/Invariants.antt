@@ -2,8 +2,8 @@ use Rattle.std.proofs.Common.{take}
 use Rattle.client_registry.specs.IdNumber.{id_number}
 use Rattle.client_registry.specs.Numbered.{words_by_number}
 use Rattle.client_registry.specs.Registered.{known_words}
-use Rattle.sse_leakage.specs.Firsts.{origin}
-use Rattle.leakage_model.specs.Following.{ChangesEach}
+use Rattle.def_leakage.specs.Firsts.{origin}
+use Rattle.leakage_model.specs.TrailFacts.{ChangesEach}
 use Rattle.leakage_model.specs.WordFacts.{deleted_at}
 use Rattle.leakage_model.proofs.trail_table.delete_words.Given as goal
 

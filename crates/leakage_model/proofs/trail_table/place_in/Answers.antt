@@ -5,7 +5,7 @@ use Rattle.std.proofs.lemmas.Bool.{true≢false}
 use Rattle.indexmap.proofs.CallerLemmas.{insert_entry-new}
 use Rattle.client_registry.specs.WordBytes.{word_bytes}
 use Rattle.leakage_model.proofs.EntryLaws.{facts-new, place-entry, position-new}
-use Rattle.leakage_model.specs.Following.{facts_in}
+use Rattle.leakage_model.specs.TrailFacts.{facts_in}
 use Rattle.leakage_model.specs.WordFacts.{WordFacts, unnamed}
 use Rattle.leakage_model.proofs.trail_table.place_in.Goals as goal
 

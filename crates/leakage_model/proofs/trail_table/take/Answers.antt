@@ -6,11 +6,11 @@ use Rattle.client_registry.proofs.DistinctLaws.{IsDistinct-words}
 use Rattle.client_registry.specs.IdNumber.{id_number}
 use Rattle.client_registry.specs.Live.{live}
 use Rattle.client_registry.specs.WordBytes.{word_bytes}
-use Rattle.sse_leakage.specs.Firsts.{origin, place_of}
+use Rattle.def_leakage.specs.Firsts.{origin, place_of}
 use Rattle.sse_model.proofs.LiveWords.{words_live-apart}
-use Rattle.command_history.specs.Commands.{command_of}
+use Rattle.leakage_history.specs.Commands.{command_of}
 use Rattle.leakage_model.proofs.StepLaws.{facts-add, facts-delete, facts-search}
-use Rattle.leakage_model.specs.Following.{Tells}
+use Rattle.leakage_model.specs.TrailFacts.{Tells}
 use Rattle.leakage_model.specs.WordFacts.{added_at, deleted_at, searched_by}
 use Rattle.leakage_model.proofs.trail_table.take.Goals as goal
 

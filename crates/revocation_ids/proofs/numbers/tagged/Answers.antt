@@ -1,7 +1,7 @@
 use Rattle.std.proofs.Common.{◌≡◌, ◌+◌, ◌++◌, ◌∷◌, [], ℕ, get_or, length, sym, ap, take, ◌∙◌, arith}
 use Rattle.std.proofs.lemmas.List.{length-take-le, take_more}
-use Rattle.tag_order.proofs.InOrder.{make, tagged_from-push}
-use Rattle.tag_order.specs.Tagged.{tagged_from}
+use Rattle.client_tag_order.proofs.InOrder.{make, tagged_from-push}
+use Rattle.client_tag_order.specs.Tagged.{tagged_from}
 use Rattle.revocation_ids.proofs.numbers.tagged.Goals as goal
 
 pub loop-i-preserved : goal.loop-i-preserved

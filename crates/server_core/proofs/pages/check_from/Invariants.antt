@@ -2,8 +2,8 @@ use Rattle.std.proofs.Common.{◌≡◌}
 use Rattle.std.specs.FinMap as map
 use Rattle.std.specs.Option.{is_some}
 use Rattle.keyed_fn.specs.KeyedFn.{keyed_fn}
-use Rattle.server_core.specs.Coming.{ids_from, InRange, steps_from}
-use Rattle.server_core.specs.Opening.{IsKept}
+use Rattle.server_core.specs.SearchState.{ids_from, InRange, steps_from}
+use Rattle.server_core.specs.OpenedStep.{IsKept}
 use Rattle.server_core.proofs.pages.check_from.Given as goal
 
 -- there is a list from the first spot on where there is one from here on

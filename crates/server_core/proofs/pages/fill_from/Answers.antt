@@ -6,8 +6,8 @@ use Rattle.std.proofs.lemmas.List.{length-take-le, drop-take}
 use Rattle.keyed_fn.specs.KeyedFn.{keyed_fn}
 use Rattle.keyed_fn.specs.KeyFormulas.{revocation}
 use Rattle.server_core.specs.Search.{unrevoked}
-use Rattle.server_core.specs.Coming.{ids_from, coming}
-use Rattle.server_core.specs.Opening.{IsPlace}
+use Rattle.server_core.specs.SearchState.{ids_from, coming}
+use Rattle.server_core.specs.OpenedStep.{IsPlace}
 use Rattle.server_core.proofs.PassLemmas.{at-drop, com-stops, handed-part, handed-rest, handed-past}
 use Rattle.server_core.proofs.pages.fill_from.Goals.{then-skip-place, else-skip-place}
 use Rattle.server_core.proofs.pages.fill_from.Goals as goal

@@ -4,8 +4,8 @@ use Rattle.std.specs.FinMap as map
 use Rattle.std.specs.FinSet as set
 use Rattle.keyed_fn.specs.KeyedFn.{keyed_fn}
 use Rattle.two_level.specs.Opened.{joined}
-use Rattle.server_core.specs.Coming.{coming, InRange, steps_from}
-use Rattle.server_core.specs.Opening.{IsKept}
+use Rattle.server_core.specs.SearchState.{coming, InRange, steps_from}
+use Rattle.server_core.specs.OpenedStep.{IsKept}
 use Rattle.server_core.proofs.pages.fill_from.Given as goal
 
 -- what was handed out and what still comes is all that came

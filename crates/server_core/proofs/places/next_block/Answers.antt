@@ -5,7 +5,7 @@ use Rattle.std.proofs.lemmas.List.{length-take-le}
 use Rattle.keyed_fn.specs.KeyedFn.{keyed_fn}
 use Rattle.two_level.specs.Opened.{joined, followed}
 use Rattle.server_core.specs.Search.{block_at}
-use Rattle.server_core.specs.Coming.{pointers_from, additions_from}
+use Rattle.server_core.specs.SearchState.{pointers_from, additions_from}
 use Rattle.server_core.proofs.SearchLemmas.{joined-nothing}
 use Rattle.server_core.proofs.PlaceLemmas.{next_group}
 use Rattle.server_core.proofs.places.next_block.Goals as goal

@@ -1,7 +1,7 @@
 use Rattle.std.proofs.Common.{[], ◌∷◌, subst, ◌∙◌}
-use Rattle.link_events.specs.Events.{Sent}
-use Rattle.run_texts.specs.Causes.{PeerCause}
-use Rattle.run_texts.specs.Stops.{peer_cause}
+use Rattle.def_link_events.specs.Events.{Sent}
+use Rattle.script_run_texts.specs.Causes.{PeerCause}
+use Rattle.script_run_texts.specs.Stops.{peer_cause}
 use Rattle.std.specs.Prelude.{IfErr}
 use Rattle.sse_client.proofs.TranscriptsJoined.{Adds-joined, IsUnanswered-recv, OnOk-then, IfErr-both}
 use Rattle.sse_client.proofs.exchange.exchange.Goals as goal

@@ -1,7 +1,7 @@
 use Rattle.std.proofs.Common.{ℕ, List, ◌≡◌, ◌++◌, [], sym, ap, subst, ◌∙◌}
-use Rattle.run_texts.specs.Stops.{peer_cause}
-use Rattle.run_texts.specs.declared.peer_stop.PeerStop.TheVariants as peers
-use Rattle.script_meaning.specs.Greeting.{TurnsAway}
+use Rattle.script_run_texts.specs.Stops.{peer_cause}
+use Rattle.script_run_texts.specs.declared.peer_stop.PeerStop.TheVariants as peers
+use Rattle.def_script_meaning.specs.HelloExchange.{TurnsAway}
 use Rattle.sse_frames.specs.Frames.{Hello, frame_bytes}
 use Rattle.sse_frames.specs.Replies.{Next, reply_bytes}
 use Rattle.sse_client.specs.Progress.{IsAnswered}

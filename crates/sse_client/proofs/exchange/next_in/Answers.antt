@@ -3,7 +3,7 @@ use Rattle.std.specs.Prelude.{IfSome}
 use Rattle.std.proofs.Math.Seq.{take-length}
 use Rattle.std.proofs.lemmas.List.{append-nil}
 use Rattle.sse_frames.specs.declared.reply.Reply.{Reply}
-use Rattle.sse_frames.specs.Reading.{IfRead, IsRead, IsReplyFront}
+use Rattle.sse_frames.specs.ReadOutcomes.{IfRead, IsRead, IsReplyFront}
 use Rattle.sse_frames.specs.Replies.{Next, reply_bytes}
 use Rattle.sse_frames.specs.FrameViews.{reply_view}
 use Rattle.sse_client.specs.Progress.{next_number}

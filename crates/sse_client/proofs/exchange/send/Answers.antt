@@ -1,6 +1,6 @@
 use Rattle.std.proofs.Common.{Err, sym, ap, subst}
-use Rattle.run_texts.specs.Causes.{PeerCause}
-use Rattle.run_texts.specs.Stops.{peer_cause}
+use Rattle.script_run_texts.specs.Causes.{PeerCause}
+use Rattle.script_run_texts.specs.Stops.{peer_cause}
 use Rattle.sse_client.specs.Progress.{IsUnanswered}
 use Rattle.sse_client.proofs.CountsAtStop.{PeerCause-link}
 use Rattle.sse_client.proofs.TranscriptsJoined.{IsUnanswered-send}

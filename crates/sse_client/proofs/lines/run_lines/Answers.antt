@@ -2,17 +2,17 @@ use Rattle.std.proofs.Common.{◌≡◌, refl, sym, subst, ◌∙◌, arith}
 use Rattle.std.specs.Prelude.{◌<◌, ◌+◌, Ok}
 use Rattle.keyed_fn.specs.KeyedFn.{keyed_fn}
 use Rattle.std.specs.Io.KnownBytes.{IsAtEnd}
-use Rattle.script_meaning.specs.Runs.{moment}
-use Rattle.script_meaning.specs.Stops as ends
+use Rattle.def_script_meaning.specs.Runs.{moment}
+use Rattle.def_script_meaning.specs.Stops as ends
 use Rattle.sse_script.specs.TextLines.{bytes_to_come, lines_left}
 use Rattle.sse_client.specs.Stages.{key_of}
 use Rattle.sse_client.specs.Stands.{seen, outside_of, stop_view, has_refused}
 use Rattle.sse_client.specs.Turns.{IfNext, LeadsTo, OnEnd}
 use Rattle.sse_client.specs.declared.lines.Turn.{Turn}
 use Rattle.sse_client.proofs.RunGoesOn.{ends-joined, ends-stopped_so, there-joined, there-start}
-use Rattle.sse_client.specs.Keeping.{WholeAtStop}
+use Rattle.sse_client.specs.RecordKept.{WholeAtStop}
 use Rattle.sse_client.proofs.RecordsLast.{StaysWhole-err}
-use Rattle.sse_recorder.proofs.Growing.{keeps-same, keeps-then}
+use Rattle.client_recorder.proofs.GrownRecords.{keeps-same, keeps-then}
 use Rattle.sse_client.proofs.lines.run_lines.Goals as goal
 
 pub lines-init : goal.lines-init

@@ -1,12 +1,12 @@
 use Rattle.std.proofs.Common.{◌≤◌, ◌+◌, ◌^◌, ◌≡◌}
 use Rattle.keyed_fn.specs.KeyedFn.{keyed_fn}
 use Rattle.sse_script.specs.TextLines.{bytes_to_come, lines_left}
-use Rattle.script_meaning.specs.Outcome.{Place}
-use Rattle.script_meaning.specs.Runs.{moment}
+use Rattle.def_script_meaning.specs.Outcome.{Place}
+use Rattle.def_script_meaning.specs.Runs.{moment}
 use Rattle.sse_client.specs.Stages.{key_of}
 use Rattle.sse_client.specs.Stands.{IsAt, seen, outside_of, has_refused}
 use Rattle.sse_client.specs.Turns.{IsThere}
-use Rattle.sse_recorder.specs.KeepsOn.{KeepsOn}
+use Rattle.client_recorder.specs.KeepsOn.{KeepsOn}
 use Rattle.sse_client.proofs.lines.run_lines.Given as goal
 
 abbrev pub invariant-lines : goal.invariant-lines

@@ -1,22 +1,22 @@
 use Rattle.std.proofs.Common.{◌||◌, ◌+◌, Some, Err, rules, refl, sym, ap, ◌∙◌, subst, arith}
 use Rattle.keyed_fn.specs.KeyedFn.{keyed_fn}
-use Rattle.run_texts.specs.Causes.{LinkCause, RecorderCause, SourceCause}
-use Rattle.run_texts.specs.Stops.{stop_of_sink}
-use Rattle.run_texts.specs.declared.stop_cause.StopCause.TheVariants as stops
+use Rattle.script_run_texts.specs.Causes.{LinkCause, RecorderCause, SourceCause}
+use Rattle.script_run_texts.specs.Stops.{stop_of_sink}
+use Rattle.script_run_texts.specs.declared.stop_cause.StopCause.TheVariants as stops
 use Rattle.sse_script.specs.Views.{line_view}
 use Rattle.sse_script.specs.declared.line.Line.{Line}
-use Rattle.script_meaning.proofs.Steps.{IsBad}
-use Rattle.script_meaning.specs.Lines.{line_read}
-use Rattle.script_meaning.specs.Runs.{moment}
+use Rattle.def_script_meaning.proofs.Steps.{IsBad}
+use Rattle.def_script_meaning.specs.Lines.{line_read}
+use Rattle.def_script_meaning.specs.Runs.{moment}
 use Rattle.sse_script.specs.TextLines.{lines_left}
 use Rattle.sse_client.specs.Calls.{shows}
 use Rattle.sse_client.specs.Stands.{EndsFrom, has_refused, outside_of, seen, stop_view}
 use Rattle.sse_client.proofs.CountsAtStop.{LinkCause-printed, RecorderCause-printed, SinkCause-printed, SourceCause-printed}
 use Rattle.sse_client.proofs.TranscriptsJoined.{KeepsLink-err, KeepsRecorder-err, KeepsSink-err, KeepsSource-err}
 use Rattle.sse_client.proofs.RunGoesOn.{line_in-read, line_in-none, command_of, ends-bad, ends-input, ends-end, ends-stopped, carries-printed, leads-stopped, stops-unprinted, there-empty, there-next, there-start}
-use Rattle.sse_client.specs.Keeping.{WholeAtStop}
+use Rattle.sse_client.specs.RecordKept.{WholeAtStop}
 use Rattle.sse_client.proofs.RecordsLast.{StaysWhole-err, whole_at_stop}
-use Rattle.sse_recorder.proofs.Growing.{keeps-same}
+use Rattle.client_recorder.proofs.GrownRecords.{keeps-same}
 use Rattle.sse_client.proofs.lines.take_turn.Goals as goal
 
 pub returns-in-Err-clause-turns : goal.returns-in-Err-clause-turns

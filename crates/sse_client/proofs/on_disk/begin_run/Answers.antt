@@ -8,8 +8,8 @@ use Rattle.keyed_fn.specs.KeyedFn.{IsKeyedFn, keyed_fn}
 use Rattle.sse_journal.specs.FileRecords.{records_counted}
 use Rattle.sse_outside.specs.Kept.{Kept}
 use Rattle.sse_outside.specs.Fronts.{TookOrRose}
-use Rattle.sse_recorder.specs.declared.journal_recorder.JournalRecorder.{JournalRecorder}
-use Rattle.run_texts.specs.Stops.{journal_line, journal_status}
+use Rattle.client_recorder.specs.declared.journal_recorder.JournalRecorder.{JournalRecorder}
+use Rattle.script_run_texts.specs.Stops.{journal_line, journal_status}
 use Rattle.sse_client.proofs.Devices.{devices-on, devices-unopened}
 use Rattle.sse_client.proofs.KeptOnDisk.{behind_start, gives_own, kept_at_start, kept_on_disk}
 use Rattle.sse_client.proofs.RecordsLast.{takes_lasts}

@@ -3,20 +3,20 @@ use Rattle.std.specs.Option.{option_map_or}
 use Rattle.std.specs.Prelude.{IfSome}
 use Rattle.client_journal.specs.Faults.{stop_of_records}
 use Rattle.keyed_fn.specs.KeyedFn.{IsKeyedFn, keyed_fn}
-use Rattle.run_texts.specs.Stops.{input_cause, journal_cause, journal_line, journal_status, last_line, stop_status}
-use Rattle.run_texts.specs.declared.stop_cause.StopCause.TheVariants.{Input as input}
-use Rattle.script_meaning.specs.Stops as ends
-use Rattle.script_meaning.specs.Stops.{status_of}
+use Rattle.script_run_texts.specs.Stops.{input_cause, journal_cause, journal_line, journal_status, last_line, stop_status}
+use Rattle.script_run_texts.specs.declared.stop_cause.StopCause.TheVariants.{Input as input}
+use Rattle.def_script_meaning.specs.Stops as ends
+use Rattle.def_script_meaning.specs.Stops.{status_of}
 use Rattle.sse_outside.specs.Fronts.{TookOrRose}
 use Rattle.sse_script.specs.TextLines.{lines_left}
 use Rattle.sse_journal.specs.FileRecords.{records_counted}
 use Rattle.sse_outside.specs.Kept.{Kept}
-use Rattle.sse_recorder.specs.declared.journal_recorder.JournalRecorder.{JournalRecorder}
+use Rattle.client_recorder.specs.declared.journal_recorder.JournalRecorder.{JournalRecorder}
 use Rattle.sse_client.proofs.Devices.{devices-on, devices-stopped, devices-unopened, records_rose, records_same}
 use Rattle.sse_client.proofs.KeptOnDisk.{behind_reading, kept_at_start, kept_on_disk, kept_still}
 use Rattle.sse_client.proofs.LastLine.{ends_line}
 use Rattle.sse_client.proofs.RunsOnDisk.{has_gone_on, has_gone_on-held}
-use Rattle.sse_client.specs.GoingOn.{GoesOnTo, HasEndedAfter, Restores}
+use Rattle.sse_client.specs.ResumedRun.{GoesOnTo, HasEndedAfter, Restores}
 use Rattle.sse_client.specs.OnDisk.{HasGoneOn, HeldCause, HeldSource, Lasts, RecordsCause, held_stop, kept_on, seen_with}
 use Rattle.sse_client.proofs.RecordsLast.{takes_lasts}
 use Rattle.sse_client.specs.Stands.{outside_of, seen}

@@ -4,10 +4,10 @@ use Rattle.std.specs.Prelude.{IfSome}
 use Rattle.client_journal.specs.Faults.{stop_of_reopen}
 use Rattle.client_journal.specs.declared.faults.ReopenFault.TheVariants as reopens
 use Rattle.keyed_fn.specs.KeyedFn.{keyed_fn}
-use Rattle.run_texts.specs.Stops.{journal_line, journal_status}
+use Rattle.script_run_texts.specs.Stops.{journal_line, journal_status}
 use Rattle.sse_outside.specs.Fronts.{TookOrRose}
 use Rattle.sse_client.proofs.Devices.{devices-on, devices-unopened}
-use Rattle.sse_client.proofs.GoingOn.{for_all}
+use Rattle.sse_client.proofs.ResumedRuns.{for_all}
 use Rattle.sse_client.proofs.KeptOnDisk.{behind_start, gives_own}
 use Rattle.sse_client.proofs.RunsOnDisk.{not_reopened, reopen_disk, reopen_key, unopened}
 use Rattle.sse_client.proofs.WholeRun.{IfSome-then}

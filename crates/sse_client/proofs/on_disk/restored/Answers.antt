@@ -2,12 +2,12 @@ use Rattle.std.proofs.Common.{◌≡◌, ℕ, ◌+◌, [], Option, List, ap, sym
 use Rattle.client_journal.specs.declared.faults.RecordsFault.TheVariants as records
 use Rattle.keyed_fn.specs.KeyFormulas.{mark_of}
 use Rattle.keyed_fn.specs.KeyedFn.{keyed_fn}
-use Rattle.run_texts.specs.declared.input_stop.InputStop.TheVariants as inputs
-use Rattle.script_meaning.specs.Exchange.{Told}
+use Rattle.script_run_texts.specs.declared.input_stop.InputStop.TheVariants as inputs
+use Rattle.def_script_meaning.specs.Exchange.{Told}
 use Rattle.sse_script.specs.TextLines.{lines_left}
 use Rattle.sse_client.proofs.RunsOnDisk.{found_from_start, goes_on-unread, goes_on-unrestored, holds_on, missing_from_start, restores, unrestored, unrestored-fresh}
 use Rattle.sse_client.proofs.TranscriptsJoined.{IfErr-from}
-use Rattle.sse_client.specs.GoingOn.{GoesOnTo}
+use Rattle.sse_client.specs.ResumedRun.{GoesOnTo}
 use Rattle.sse_client.specs.KeyLines.{FindsKey}
 use Rattle.sse_client.specs.OnDisk.{held_stop, seen_with}
 use Rattle.sse_client.specs.Stages.{hash_keys_under}

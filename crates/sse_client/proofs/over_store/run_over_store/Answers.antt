@@ -1,15 +1,15 @@
 use Rattle.std.proofs.Common.{◌≡◌, ◌∙◌, ap, arith, inl, inr, map, ℕ, List, Option, None, Some, refl}
 use Rattle.std.specs.Prelude.{IfSome, string_bytes}
 use Rattle.keyed_fn.specs.KeyedFn.{KeyedFn, IsKeyedFn, keyed_fn}
-use Rattle.memory_disk.specs.SteadyDisk.{began_of, changes_on, file_of, images_of}
-use Rattle.run_texts.specs.Words as asks
-use Rattle.script_meaning.specs.Headline.{IsOverHonest, IsUndisturbed}
+use Rattle.outside_memory_disk.specs.SteadyDisk.{began_of, changes_on, file_of, images_of}
+use Rattle.script_run_texts.specs.Words as asks
+use Rattle.def_script_meaning.specs.Headline.{IsOverHonest, IsUndisturbed}
 use Rattle.sse_client.proofs.FirstFrames.{nothing}
-use Rattle.sse_client.proofs.GoingOn.{for_all}
+use Rattle.sse_client.proofs.ResumedRuns.{for_all}
 use Rattle.sse_client.proofs.LentLink.{all_honest, same_file, same_start}
 use Rattle.sse_client.proofs.OverStore.{begins, begun_over, goes_on, gone_on_over, over, supposing, unopened_status}
 use Rattle.sse_client.proofs.WholeRun.{IfSome-then}
-use Rattle.sse_link.specs.Told.{Told}
+use Rattle.sse_link.specs.LinkStates.{LinkState}
 use Rattle.sse_outside.proofs.DiskLaws.{reads_now}
 use Rattle.sse_client.proofs.over_store.run_over_store.Goals as goal
 
@@ -88,10 +88,10 @@ returns-clause-over g c = by (asks.disk_mode_of (map (λ word. string_bytes word
       pad_prefix = g.met.K.Keyed.pad_prefix;
     }
 
-    old : Told
+    old : LinkState
     old = c.args.link.now
 
-    new : Told
+    new : LinkState
     new = c.run_on_disk-run.new.link
 
     remaining : Option (List ℕ)
@@ -104,7 +104,7 @@ returns-clause-over g c = by (asks.disk_mode_of (map (λ word. string_bytes word
         c.transcript-before.ensures.stored c.transcript-behind.ensures.stored (nothing (Some old.events) (Some new.events) same))
 
     by : (mode : Option asks.DiskMode) → asks.disk_mode_of (map (λ word. string_bytes word) c.args.words.now) ≡ mode → IfSome remaining (λ bytes. IsOverHonest f old.state (Some old.events) (Some new.events) new.state)
-    by None none = silent (ap (λ (t : Told). Some t.events) (c.run_on_disk-run.ensures.words_link none))
+    by None none = silent (ap (λ (t : LinkState). Some t.events) (c.run_on_disk-run.ensures.words_link none))
     by (Some asks.RunOn) asked = elim (c.run_on_disk-run.ensures.begun asked) [
       | inl was ↦ silent was.0.unsent
       | inr keeps ↦

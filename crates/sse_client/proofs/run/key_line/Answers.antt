@@ -1,13 +1,13 @@
 use Rattle.std.proofs.Common.{◌≡◌, ◌≤◌, ◌+◌, ◌-◌, ◌^◌, ℕ, min, Some, rules, sym, ap, ◌∙◌, subst, arith}
 use Rattle.sse_script.specs.Views.{line_view}
 use Rattle.sse_script.specs.declared.line.Line.{Line}
-use Rattle.script_meaning.proofs.Steps.{IsBadFirst, opens-key}
-use Rattle.script_meaning.specs.Lines.{line_read}
-use Rattle.run_texts.specs.Causes.{InputCause}
+use Rattle.def_script_meaning.proofs.Steps.{IsBadFirst, opens-key}
+use Rattle.def_script_meaning.specs.Lines.{line_read}
+use Rattle.script_run_texts.specs.Causes.{InputCause}
 use Rattle.sse_client.proofs.TranscriptsJoined.{IfErr-from, may_stop-ok}
 use Rattle.sse_client.proofs.RunGoesOn.{line_in-read, line_in-none, IfErr-line, opening-next, bad_first, key_told, opening-bad, opening-input, opening-end}
 use Rattle.std.specs.Prelude.{IfSome}
-use Rattle.script_meaning.specs.Lines.{lines_in}
+use Rattle.def_script_meaning.specs.Lines.{lines_in}
 use Rattle.sse_client.proofs.KeyLineRead.{HasSameKey, HasSameKey-empty, FindsKey-read, missing-bad}
 use Rattle.sse_client.specs.KeyLines.{FindsKey, Missing, key_line}
 use Rattle.sse_script.specs.TextLines.{lines_left}

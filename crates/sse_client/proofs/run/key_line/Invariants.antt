@@ -1,8 +1,8 @@
 use Rattle.std.proofs.Common.{◌≤◌, ◌+◌, ◌^◌, ◌≡◌}
 use Rattle.keyed_fn.specs.KeyedFn.{KeyedFn}
 use Rattle.sse_script.specs.TextLines.{bytes_to_come, lines_left}
-use Rattle.script_meaning.proofs.Steps.{ContinuesOpening}
-use Rattle.script_meaning.specs.Carries.{Outside}
+use Rattle.def_script_meaning.proofs.Steps.{ContinuesOpening}
+use Rattle.def_script_meaning.specs.Carries.{Outside}
 use Rattle.sse_client.proofs.KeyLineRead.{HasSameKey}
 use Rattle.sse_client.proofs.run.key_line.Given as goal
 

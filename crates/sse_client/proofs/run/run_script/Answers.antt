@@ -1,11 +1,11 @@
 use Rattle.std.proofs.Common.{None, [], refl, ap, subst, ◌∙◌}
 use Rattle.client_registry.specs.Histories.{empty}
 use Rattle.keyed_fn.specs.KeyedFn.{keyed_fn}
-use Rattle.run_texts.specs.Causes.{KeepsSource, LinkCause, SourceCause}
-use Rattle.run_texts.specs.Stops.{peer_cause}
-use Rattle.run_texts.specs.declared.command_stop.CommandStop.TheVariants.{Exchange}
-use Rattle.run_texts.specs.declared.stop_cause.StopCause.TheVariants as stops
-use Rattle.script_meaning.specs.Outcome.{opened}
+use Rattle.script_run_texts.specs.Causes.{KeepsSource, LinkCause, SourceCause}
+use Rattle.script_run_texts.specs.Stops.{peer_cause}
+use Rattle.script_run_texts.specs.declared.command_stop.CommandStop.TheVariants.{Exchange}
+use Rattle.script_run_texts.specs.declared.stop_cause.StopCause.TheVariants as stops
+use Rattle.def_script_meaning.specs.Outcome.{opened}
 use Rattle.sse_script.specs.Shown.{NoMemory}
 use Rattle.sse_script.specs.TextLines.{lines_left}
 use Rattle.sse_client.specs.Calls.{shows}
@@ -16,7 +16,7 @@ use Rattle.sse_client.specs.declared.session.Stage.TheVariants.{Collecting}
 use Rattle.sse_client.proofs.WholeRun.{from_start, opens_memory, opens-away, opens-greeted, opens-stopped}
 use Rattle.sse_client.proofs.PartOfExchange.{TurnsAway-memory}
 use Rattle.sse_client.proofs.TranscriptsJoined.{KeepsLink-then}
-use Rattle.sse_recorder.proofs.Growing.{keeps-same}
+use Rattle.client_recorder.proofs.GrownRecords.{keeps-same}
 use Rattle.sse_client.proofs.run.run_script.Goals as goal
 
 pub returns-in_err-input-clause-ends : goal.returns-in_err-input-clause-ends

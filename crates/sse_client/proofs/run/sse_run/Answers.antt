@@ -1,7 +1,7 @@
 use Rattle.keyed_fn.specs.KeyedFn.{IsKeyedFn, keyed_fn}
 use Rattle.sse_client.specs.Stands.{seen, outside_of, HasRun, HasHonestStatus, HasSimulatedRun, HasRecordedRun, HasHeadline}
 use Rattle.sse_client.proofs.WholeRun.{IfSome-then, run-honest, run-recorded, run-simulated, run-headline}
-use Rattle.sse_recorder.proofs.Growing.{keeps-same}
+use Rattle.client_recorder.proofs.GrownRecords.{keeps-same}
 use Rattle.sse_client.proofs.run.sse_run.Goals as goal
 
 pub returns-in-Some-Run-clause-honest : goal.returns-in-Some-Run-clause-honest

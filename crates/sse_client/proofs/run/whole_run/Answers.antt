@@ -1,7 +1,7 @@
 use Rattle.std.proofs.Common.{refl}
 use Rattle.keyed_fn.specs.KeyedFn.{keyed_fn}
 use Rattle.sse_outside.proofs.Fronts.{took_front}
-use Rattle.script_meaning.specs.Stops.{stop_text}
+use Rattle.def_script_meaning.specs.Stops.{stop_text}
 use Rattle.sse_client.specs.Stands.{seen, outside_of}
 use Rattle.sse_client.specs.Turns.{ending}
 use Rattle.sse_client.proofs.Devices.{devices-told, sink_kept, still_whole}

@@ -1,18 +1,18 @@
 use Rattle.std.proofs.Common.{refl, sym, subst}
 use Rattle.client_registry.specs.Command.{Add}
 use Rattle.keyed_fn.specs.KeyedFn.{keyed_fn}
-use Rattle.script_meaning.specs.Lines as requests
-use Rattle.line_documents.specs.LineDocument.{document}
-use Rattle.script_meaning.specs.Refused.{add_refusal}
+use Rattle.def_script_meaning.specs.Lines as requests
+use Rattle.script_documents.specs.LineDocument.{document}
+use Rattle.def_script_meaning.specs.Refused.{add_refusal}
 use Rattle.sse_script.specs.Lines as lines
 use Rattle.sse_script.specs.Shown as says
 use Rattle.sse_client.specs.Stands.{IsAt, seen, GoesOn, MayStop}
-use Rattle.run_texts.specs.Stops.{command_cause}
+use Rattle.script_run_texts.specs.Stops.{command_cause}
 use Rattle.sse_client.specs.declared.session.Stage.{Stage}
 use Rattle.sse_client.specs.declared.session.Stage.TheVariants.{Collecting, Searching}
 use Rattle.sse_client.proofs.CommandTaken.{behind, is_up, takes-not_set_up}
 use Rattle.sse_client.proofs.UpdateCarriedOut.{of_good, of_fault, of_stop, stops_as}
-use Rattle.sse_recorder.proofs.Growing.{keeps-same}
+use Rattle.client_recorder.proofs.GrownRecords.{keeps-same}
 use Rattle.sse_client.proofs.session.add.Goals as goal
 
 pub returns-in-Collecting-clause-takes : goal.returns-in-Collecting-clause-takes

@@ -2,7 +2,7 @@ use Rattle.std.proofs.Common.{◌≡◌, refl, ap, sym, ◌∙◌, subst}
 use Rattle.std.proofs.Common.{false}
 use Rattle.client_registry.specs.Histories.{is_set_up}
 use Rattle.keyed_fn.specs.KeyedFn.{KeyedFn}
-use Rattle.script_meaning.specs.Outcome.{Place}
+use Rattle.def_script_meaning.specs.Outcome.{Place}
 use Rattle.client_registry.specs.Collected.{Collected}
 use Rattle.sse_client.specs.Stages.{hash_keys_under}
 use Rattle.sse_client.specs.Stands.{IsAt, MayStop}

@@ -1,17 +1,17 @@
 use Rattle.std.proofs.Common.{refl, sym, subst}
 use Rattle.client_registry.specs.Command.{Delete}
 use Rattle.keyed_fn.specs.KeyedFn.{keyed_fn}
-use Rattle.script_meaning.specs.Lines as requests
-use Rattle.script_meaning.specs.Refused.{delete_refusal}
+use Rattle.def_script_meaning.specs.Lines as requests
+use Rattle.def_script_meaning.specs.Refused.{delete_refusal}
 use Rattle.sse_script.specs.Lines as lines
 use Rattle.sse_script.specs.Shown as says
 use Rattle.sse_client.specs.Stands.{IsAt, seen, GoesOn, MayStop}
-use Rattle.run_texts.specs.Stops.{command_cause}
+use Rattle.script_run_texts.specs.Stops.{command_cause}
 use Rattle.sse_client.specs.declared.session.Stage.{Stage}
 use Rattle.sse_client.specs.declared.session.Stage.TheVariants.{Collecting, Searching}
 use Rattle.sse_client.proofs.CommandTaken.{behind, is_up, takes-not_set_up}
 use Rattle.sse_client.proofs.UpdateCarriedOut.{of_good, of_fault, of_stop, stops_as, not_refused}
-use Rattle.sse_recorder.proofs.Growing.{keeps-same}
+use Rattle.client_recorder.proofs.GrownRecords.{keeps-same}
 use Rattle.sse_client.proofs.session.delete.Goals as goal
 
 pub returns-in-Collecting-clause-takes : goal.returns-in-Collecting-clause-takes

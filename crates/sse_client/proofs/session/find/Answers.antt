@@ -3,15 +3,15 @@ use Rattle.client_registry.specs.WordBytes.{word_bytes}
 use Rattle.keyed_fn.specs.KeyFormulas.{token_of}
 use Rattle.keyed_fn.specs.KeyedFn.{keyed_fn}
 use Rattle.sse_frames.specs.Frames.{SearchFrame}
-use Rattle.line_documents.specs.declared.line_fault.LineFault.TheVariants as faults
+use Rattle.script_documents.specs.declared.line_fault.LineFault.TheVariants as faults
 use Rattle.sse_client.specs.Stages.{key_of}
-use Rattle.run_texts.specs.LineResultViews.{line_result_view, refuses}
-use Rattle.run_texts.specs.Stops.{peer_cause}
+use Rattle.script_run_texts.specs.LineResultViews.{line_result_view, refuses}
+use Rattle.script_run_texts.specs.Stops.{peer_cause}
 use Rattle.sse_client.specs.declared.session.Stage.{Stage}
 use Rattle.sse_client.specs.declared.session.Stage.TheVariants.{Collecting, Searching}
 use Rattle.sse_outside.specs.Kept.{Kept}
-use Rattle.script_meaning.specs.Lines as requests
-use Rattle.script_meaning.specs.Outcome.{outcome}
+use Rattle.def_script_meaning.specs.Lines as requests
+use Rattle.def_script_meaning.specs.Outcome.{outcome}
 use Rattle.sse_client.specs.Exchanges.{HasSearched, HasCut}
 use Rattle.sse_client.specs.Stands.{IsAt, seen, GoesOn, MayStop, StopsWithin}
 use Rattle.sse_client.proofs.CommandTaken.{takes-find, stops-find, takes-bad_word, takes-not_set_up, stops-bad_word, is_up, searching_still}

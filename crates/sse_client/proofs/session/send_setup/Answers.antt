@@ -7,7 +7,7 @@ use Rattle.client_registry.specs.Setup.{setup_with}
 use Rattle.sse_model.specs.Epochs.{keys_under}
 use Rattle.std.specs.Prelude.{Some}
 use Rattle.client_core.specs.Payloads.{setup_payload}
-use Rattle.run_texts.specs.declared.command_stop.CommandStop.TheVariants.{Exchange}
+use Rattle.script_run_texts.specs.declared.command_stop.CommandStop.TheVariants.{Exchange}
 use Rattle.sse_client.specs.Stands.{seen}
 use Rattle.sse_client.proofs.TranscriptsJoined.{SendsKept-err}
 use Rattle.sse_client.proofs.RecordedFrames.{owes-taken}

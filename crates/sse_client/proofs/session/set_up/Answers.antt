@@ -1,6 +1,6 @@
 use Rattle.std.proofs.Common.{ℕ, ◌∷◌, [], List, refl, sym, ap, subst, ◌∙◌}
 use Rattle.client_core.specs.Payloads.{setup_payload}
-use Rattle.script_meaning.specs.Carries.{Keeps}
+use Rattle.def_script_meaning.specs.Carries.{Keeps}
 use Rattle.client_core.specs.declared.planned.Planned.{Planned}
 use Rattle.client_registry.specs.Run.{at_first}
 use Rattle.client_registry.specs.Setup.{setup_with}
@@ -9,19 +9,19 @@ use Rattle.index_setup.specs.Entries.{key_table}
 use Rattle.keyed_fn.specs.KeyedFn.{keyed_fn}
 use Rattle.sse_frames.specs.Frames.{FrameText}
 use Rattle.sse_model.specs.Wire.{frames_of_setup}
-use Rattle.run_texts.specs.Stops.{command_cause}
-use Rattle.run_texts.specs.declared.line_result.LineResult.{LineResult}
-use Rattle.run_texts.specs.declared.line_result.LineResult.TheVariants as line_results
+use Rattle.script_run_texts.specs.Stops.{command_cause}
+use Rattle.script_run_texts.specs.declared.line_result.LineResult.{LineResult}
+use Rattle.script_run_texts.specs.declared.line_result.LineResult.TheVariants as line_results
 use Rattle.sse_client.specs.declared.session.Stage.{Stage}
 use Rattle.sse_client.specs.declared.session.Stage.TheVariants.{Collecting, Searching}
 use Rattle.sse_client.proofs.TranscriptsJoined.{IfErr-from, may_stop}
 use Rattle.sse_client.proofs.SetupPlan.{frames_of_setup-are_numbered, stopped_plan}
-use Rattle.script_meaning.specs.Lines as requests
+use Rattle.def_script_meaning.specs.Lines as requests
 use Rattle.sse_client.specs.Stands.{IsAt, seen, IsReady, MayStop, StopsWithin}
 use Rattle.sse_client.proofs.CommandTaken.{IsCollecting, is_up, takes_if_sent, stops_if_sent, takes-refused_setup, stops-plan, takes-set_up_already}
 use Rattle.sse_client.specs.Stages.{key_of}
 use Rattle.sse_script.specs.Lines as lines
-use Rattle.sse_recorder.proofs.Growing.{keeps-same}
+use Rattle.client_recorder.proofs.GrownRecords.{keeps-same}
 use Rattle.sse_client.proofs.session.set_up.Goals as goal
 
 pub returns-in_ok-send_setup-in-Ok-clause-takes : goal.returns-in_ok-send_setup-in-Ok-clause-takes

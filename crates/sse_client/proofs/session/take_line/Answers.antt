@@ -2,17 +2,17 @@ use Rattle.std.proofs.Common.{◌≡◌, Ok, inl, inr, sym, subst, ap, ◌∙◌
 use Rattle.keyed_fn.specs.KeyedFn.{keyed_fn}
 use Rattle.sse_script.specs.Views.{line_view}
 use Rattle.sse_script.specs.declared.line.Line.{Line}
-use Rattle.script_meaning.specs.Lines as requests
-use Rattle.script_meaning.specs.Lines.{line_read}
-use Rattle.run_texts.specs.Causes.{KeepCommandCause}
-use Rattle.run_texts.specs.Stops.{command_cause, plan_cause}
-use Rattle.run_texts.specs.declared.command_stop.CommandStop.TheVariants.{Planning}
+use Rattle.def_script_meaning.specs.Lines as requests
+use Rattle.def_script_meaning.specs.Lines.{line_read}
+use Rattle.script_run_texts.specs.Causes.{KeepCommandCause}
+use Rattle.script_run_texts.specs.Stops.{command_cause, plan_cause}
+use Rattle.script_run_texts.specs.declared.command_stop.CommandStop.TheVariants.{Planning}
 use Rattle.sse_client.proofs.TranscriptsJoined.{IfErr-from, KeepsRecorder-none, may_stop}
 use Rattle.sse_client.proofs.CommandTaken.{takes_own, stops_own, stops_if_memory}
 use Rattle.sse_client.proofs.UpdateCarriedOut.{of_good, of_fault}
 use Rattle.std.specs.Prelude.{OnErr}
 use Rattle.sse_client.specs.Stands.{seen, MayStop, StopsWithin}
-use Rattle.sse_recorder.proofs.Growing.{keeps-same}
+use Rattle.client_recorder.proofs.GrownRecords.{keeps-same}
 use Rattle.sse_client.proofs.session.take_line.Goals as goal
 
 pub returns-in-Empty-clause-takes : goal.returns-in-Empty-clause-takes

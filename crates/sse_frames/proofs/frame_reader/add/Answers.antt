@@ -9,7 +9,7 @@ use Rattle.sse_frames.proofs.Cut.{AreBytes, AreBytes-take, AreBytes-drop}
 use Rattle.sse_frames.proofs.Numbers.{stands16, stands32}
 use Rattle.sse_frames.proofs.Chunks.{first_chunks-take, items_are, length-items_in, length-entries_in, joined-items_in, entry_bytes-entries_in, each_item, each_entry}
 use Rattle.sse_frames.proofs.FrameBodies.{two_counts_body}
-use Rattle.sse_frames.proofs.Rising.{entries_rise, numbers_rise}
+use Rattle.sse_frames.proofs.AscendingFields.{entries_rise, numbers_rise}
 use Rattle.sse_frames.proofs.frame_reader.add.Goals as goal
 
 pub returns-clause-found : goal.returns-clause-found

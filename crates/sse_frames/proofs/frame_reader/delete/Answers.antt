@@ -9,7 +9,7 @@ use Rattle.sse_frames.proofs.Cut.{AreBytes, AreBytes-drop}
 use Rattle.sse_frames.proofs.Numbers.{stands16, stands32}
 use Rattle.sse_frames.proofs.Chunks.{items_are, length-items_in, joined-items_in, each_item}
 use Rattle.sse_frames.proofs.FrameBodies.{one_count_body}
-use Rattle.sse_frames.proofs.Rising.{numbers_rise}
+use Rattle.sse_frames.proofs.AscendingFields.{numbers_rise}
 use Rattle.sse_frames.proofs.frame_reader.delete.Goals as goal
 
 pub returns-clause-found : goal.returns-clause-found

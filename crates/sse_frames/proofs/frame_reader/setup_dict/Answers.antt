@@ -12,7 +12,7 @@ use Rattle.sse_frames.proofs.Cut.{AreBytes, AreBytes-drop}
 use Rattle.sse_frames.proofs.Numbers.{stands16, stands32}
 use Rattle.sse_frames.proofs.Chunks.{items_are, length-entries_in, entry_bytes-entries_in, each_entry}
 use Rattle.sse_frames.proofs.FrameBodies.{is_cell, two_counts_body}
-use Rattle.sse_frames.proofs.Rising.{entries_rise}
+use Rattle.sse_frames.proofs.AscendingFields.{entries_rise}
 use Rattle.sse_frames.proofs.frame_reader.setup_dict.Goals as goal
 
 pub returns-clause-found : goal.returns-clause-found

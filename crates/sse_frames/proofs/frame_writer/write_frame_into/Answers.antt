@@ -1,7 +1,7 @@
 use Rattle.std.proofs.Common.{ℕ, ◌≤◌, List, ◌++◌, length, drop, sym, ap, subst, ◌∙◌, arith}
 use Rattle.sse_frames.specs.FrameViews.{frame_view}
 use Rattle.sse_frames.proofs.Heads.{written, length-frame_bytes}
-use Rattle.sse_frames.proofs.Spelling.{length-body_of}
+use Rattle.sse_frames.proofs.FrameBytesLaws.{length-body_of}
 use Rattle.sse_frames.proofs.frame_writer.write_frame_into.Goals as goal
 
 pub put_all-requires : goal.put_all-requires

@@ -1,5 +1,5 @@
 use Rattle.std.proofs.Common.{◌≡◌, sym, ◌∙◌, arith}
-use Rattle.sse_journal.proofs.Looking.{record_read, bad_read}
+use Rattle.sse_journal.proofs.FirstBytes.{record_read, bad_read}
 use Rattle.sse_journal.proofs.head.look.Goals as goal
 use Rattle.sse_journal.proofs.head.look.Goals.{then-n-eq0-via-then-n-eq0, then-n-eq0-via-else-n-eq0+then-n-gt-MAX_PAYLOAD, then-n-eq0-via-else-n-eq0+else-n-gt-MAX_PAYLOAD+then-left-from}
 

@@ -2,7 +2,7 @@ use Rattle.std.proofs.Common.{◌≡◌, length, drop, subst, arith}
 use Rattle.std.specs.Prelude.{IfSome}
 use Rattle.sse_journal.specs.Heads.{IsHead, IsRecord}
 use Rattle.sse_journal.specs.declared.head.Head.{Head}
-use Rattle.sse_journal.proofs.Reading.{record_told}
+use Rattle.sse_journal.proofs.RecordAt.{record_told}
 use Rattle.sse_journal.proofs.payload.read_record.Goals as goal
 
 pub returns-in_ok-fill-in-Record-clause-payload : goal.returns-in_ok-fill-in-Record-clause-payload

@@ -2,7 +2,7 @@ use Rattle.std.proofs.Common.{◌∙◌, [], refl}
 use Rattle.sse_journal.specs.Files.{Gives}
 use Rattle.sse_journal.proofs.Moments.{goes_on}
 use Rattle.sse_journal.proofs.Append.{only_synced}
-use Rattle.sse_journal.proofs.Repairing.{begun_at, unset_gives, images_cleared, content_cleared}
+use Rattle.sse_journal.proofs.RepairSteps.{begun_at, unset_gives, images_cleared, content_cleared}
 use Rattle.sse_journal.proofs.repair.clear_commit.Goals as goal
 
 pub returns-in_err-write_at-clause-any_moment : goal.returns-in_err-write_at-clause-any_moment

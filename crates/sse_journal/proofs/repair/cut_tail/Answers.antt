@@ -2,7 +2,7 @@ use Rattle.std.proofs.Common.{◌∙◌}
 use Rattle.sse_journal.specs.Files.{Gives}
 use Rattle.sse_journal.proofs.Moments.{goes_on}
 use Rattle.sse_journal.proofs.Append.{only_synced}
-use Rattle.sse_journal.proofs.Repairing.{begun_at, unset_gives, images_cut, content_cut}
+use Rattle.sse_journal.proofs.RepairSteps.{begun_at, unset_gives, images_cut, content_cut}
 use Rattle.sse_journal.proofs.repair.cut_tail.Goals as goal
 
 pub returns-in_err-cut-clause-any_moment : goal.returns-in_err-cut-clause-any_moment

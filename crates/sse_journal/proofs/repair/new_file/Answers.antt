@@ -2,7 +2,7 @@ use Rattle.std.proofs.Common.{◌∙◌, inl, refl, []}
 use Rattle.sse_journal.specs.Files.{Gives}
 use Rattle.sse_journal.proofs.Moments.{goes_on}
 use Rattle.sse_journal.proofs.Append.{only_synced}
-use Rattle.sse_journal.proofs.Repairing.{begun_at, images_magic, content_magic, images_first_commit, content_first_commit}
+use Rattle.sse_journal.proofs.RepairSteps.{begun_at, images_magic, content_magic, images_first_commit, content_first_commit}
 use Rattle.sse_journal.proofs.repair.new_file.Goals as goal
 
 pub returns-in_err-write_at-clause-any_moment : goal.returns-in_err-write_at-clause-any_moment

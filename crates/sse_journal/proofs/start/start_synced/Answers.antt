@@ -3,8 +3,8 @@ use Rattle.std.specs.Prelude.{Err}
 use Rattle.sse_journal.specs.Holds.{IsAllOf}
 use Rattle.sse_journal.specs.Walks.{IsWalked, IsNoRecordAt}
 use Rattle.sse_journal.specs.declared.start_fault.StartFault.TheVariants.{NotAJournal}
-use Rattle.sse_journal.proofs.Walking.{length-front_nil}
-use Rattle.sse_journal.proofs.Starting.{told_of, walked_gives, still, quiet_from, quiet_on, walk_quiet, repaired}
+use Rattle.sse_journal.proofs.WalkSteps.{length-front_nil}
+use Rattle.sse_journal.proofs.StartSteps.{told_of, walked_gives, still, quiet_from, quiet_on, walk_quiet, repaired}
 use Rattle.sse_journal.proofs.start.start_synced.Goals as goal
 
 pub returns-in_err-new_file-clause-any_moment : goal.returns-in_err-new_file-clause-any_moment

@@ -4,7 +4,7 @@ use Rattle.sse_journal.specs.Heads.{IsHead, IsRecord}
 use Rattle.sse_journal.specs.declared.head.Head.{Head}
 use Rattle.sse_journal.specs.declared.head.Head.TheVariants.{Record}
 use Rattle.sse_journal.proofs.Moments.{started, goes_on}
-use Rattle.sse_journal.proofs.Walking.{walk_on_told, walk_begun_told}
+use Rattle.sse_journal.proofs.WalkSteps.{walk_on_told, walk_begun_told}
 use Rattle.sse_journal.proofs.walk.walk.Goals as goal
 
 pub records-init : goal.records-init

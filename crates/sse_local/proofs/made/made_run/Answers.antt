@@ -1,5 +1,5 @@
 use Rattle.std.proofs.Common.{refl}
-use Rattle.history_reading.specs.Endings.{seen_of}
+use Rattle.script_history.specs.Endings.{seen_of}
 use Rattle.keyed_fn.specs.KeyedFn.{keyed_fn}
 use Rattle.sse_local.proofs.Summed.{made-run, made-summary}
 use Rattle.sse_local.proofs.made.made_run.Goals as goal

@@ -1,8 +1,8 @@
 use Rattle.std.proofs.Common.{◌≡◌, inl, inr, ℕ, List, Some, refl, ap, subst}
 use Rattle.std.specs.Prelude.{Err}
 use Rattle.std.specs.Io.KnownBytes.{append_known}
-use Rattle.made_script.specs.Summary.{made_summary}
-use Rattle.run_texts.specs.Stops.{last_line, stop_status}
+use Rattle.script_made_lines.specs.Summary.{made_summary}
+use Rattle.script_run_texts.specs.Stops.{last_line, stop_status}
 use Rattle.sse_outside.specs.Fronts.{TookFront, TookOrRose}
 use Rattle.sse_local.proofs.Summed.{sink-cause, summed-short}
 use Rattle.sse_local.proofs.made.tell.Goals as goal

@@ -1,6 +1,6 @@
 use Rattle.std.proofs.Common.{◌≡◌, true, false, None, Some, map, sym, ◌∙◌}
 use Rattle.std.specs.Prelude.{string_bytes}
-use Rattle.run_texts.specs.Words.{Run}
+use Rattle.script_run_texts.specs.Words.{Run}
 use Rattle.sse_local.proofs.Asked.{is_twin-made, mode_of-made, mode_of-twin}
 use Rattle.sse_local.proofs.program.by_words.Goals as goal
 

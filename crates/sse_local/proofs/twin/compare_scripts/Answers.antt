@@ -1,11 +1,11 @@
 use Rattle.std.specs.Prelude.{Ok}
-use Rattle.history_reading.specs.Endings.{ending, stop_for}
-use Rattle.history_reading.specs.Reads.{Stopped}
-use Rattle.history_reading.specs.Turns.{first_end}
-use Rattle.history_reading.specs.TwoScripts.{behind_twin}
+use Rattle.script_history.specs.Endings.{ending, stop_for}
+use Rattle.script_history.specs.Reads.{Stopped}
+use Rattle.script_history.specs.Turns.{first_end}
+use Rattle.script_history.specs.TwoScripts.{behind_twin}
 use Rattle.keyed_fn.specs.KeyedFn.{keyed_fn}
-use Rattle.run_texts.specs.Stops.{stop_cause}
-use Rattle.run_texts.specs.declared.stop_cause.StopCause.TheVariants as stops
+use Rattle.script_run_texts.specs.Stops.{stop_cause}
+use Rattle.script_run_texts.specs.declared.stop_cause.StopCause.TheVariants as stops
 use Rattle.sse_script.specs.TextLines.{lines_left, lines_of}
 use Rattle.sse_local.proofs.Compared.{are-behind, compared-so, left-first, none-compared, stopped-compared, stopped-first}
 use Rattle.sse_local.proofs.twin.compare_scripts.Goals as goal

@@ -1,5 +1,5 @@
-use Rattle.history_reading.specs.Endings.{ending}
-use Rattle.history_reading.specs.Turns.{reading_end}
+use Rattle.script_history.specs.Endings.{ending}
+use Rattle.script_history.specs.Turns.{reading_end}
 use Rattle.keyed_fn.specs.KeyedFn.{keyed_fn}
 use Rattle.std.specs.Prelude.{Ok}
 use Rattle.sse_script.specs.TextLines.{lines_left}

@@ -1,7 +1,7 @@
 use Rattle.std.proofs.Common.{◌≡◌, ◌⊎◌, inl, inr, refl, ap, ◌∙◌, ℕ, List, Option, None, Some, Result, Ok, Err}
 use Rattle.std.specs.Prelude.{IfOk, IfSome}
-use Rattle.run_texts.specs.Words.{DiskMode, RunOn, More, disk_mode_of}
-use Rattle.run_texts.specs.declared.stop_cause.StopCause.{StopCause}
+use Rattle.script_run_texts.specs.Words.{DiskMode, RunOn, More, disk_mode_of}
+use Rattle.script_run_texts.specs.declared.stop_cause.StopCause.{StopCause}
 use Rattle.sse_net.specs.Asked.{Asked}
 use Rattle.sse_net.specs.Places.{IsNoPlace}
 use Rattle.sse_net.proofs.program.net_main.Goals as goal

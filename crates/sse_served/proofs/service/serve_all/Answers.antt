@@ -2,7 +2,7 @@ use Rattle.std.proofs.Common.{◌≡◌, Err, ap, sym, ◌∙◌}
 use Rattle.std.proofs.lemmas.Bool.{true≢false}
 use Rattle.sse_served.specs.declared.stop.ServiceStop.TheVariants.{NoJournal}
 use Rattle.sse_served.specs.Stops.{stop_of_open}
-use Rattle.sse_served.proofs.Stopping.{cause_is, if_some, if_some_both, never_no_journal, never_served, no_journal_of, of_either}
+use Rattle.sse_served.proofs.StopLaws.{cause_is, if_some, if_some_both, never_no_journal, never_served, no_journal_of, of_either}
 use Rattle.sse_served.proofs.service.serve_all.Goals as goal
 
 pub returns-in_err-store-clause-no_journal : goal.returns-in_err-store-clause-no_journal

@@ -2,7 +2,7 @@ use Rattle.std.proofs.Common.{◌≡◌, ◌+◌, ◌≤◌, ℕ, ◌∙◌, ref
 use Rattle.std.specs.Prelude.{Option, Some, IfSome}
 use Rattle.sse_journal.proofs.Moments.{started, goes_on_to, weakened}
 use Rattle.sse_server.specs.Records.{TakesNext}
-use Rattle.sse_server.proofs.Replaying.{journal_on, replayed_none, replayed_next}
+use Rattle.sse_server.proofs.ReplaySteps.{journal_on, replayed_none, replayed_next}
 use Rattle.sse_server.proofs.replay.replay.Goals as goal
 
 pub records-init : goal.records-init

@@ -2,7 +2,7 @@ use Rattle.std.proofs.Common.{◌≡◌, ◌-◌, ◌≤◌, ℕ, List}
 use Rattle.sse_outside.specs.Images.{NoOther}
 use Rattle.sse_journal.specs.AnyMoment.{LeavesOnly}
 use Rattle.sse_journal.specs.JournalView.{end_of, IsJournalOf}
-use Rattle.sse_server.proofs.Replaying.{IsHere}
+use Rattle.sse_server.proofs.ReplaySteps.{IsHere}
 use Rattle.sse_server.proofs.replay.replay.Given as goal
 
 abbrev pub invariant-records : goal.invariant-records

@@ -2,7 +2,7 @@ use Rattle.std.proofs.Common.{◌≡◌, None, ap, drop, length, map, refl, ◌�
 use Rattle.client_registry.specs.Acceptance.{frames_needed, size_refusal}
 use Rattle.client_registry.specs.Setup.{setup_with}
 use Rattle.sse_frames.specs.Frames.{frame_bytes}
-use Rattle.sse_frames.specs.Sending.{numbered}
+use Rattle.sse_frames.specs.SentParts.{numbered}
 use Rattle.client_core.proofs.OwesLaws.{Owes-setup}
 use Rattle.client_core.specs.PlanView.{setup_in}
 use Rattle.client_core.specs.Setup.{frames_in, index_frames}

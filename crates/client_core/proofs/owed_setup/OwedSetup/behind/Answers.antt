@@ -1,6 +1,6 @@
 use Rattle.std.proofs.Common.{map, drop, ◌∙◌, arith}
 use Rattle.sse_frames.specs.Frames.{frame_bytes}
-use Rattle.sse_frames.specs.Sending.{numbered}
+use Rattle.sse_frames.specs.SentParts.{numbered}
 use Rattle.client_core.proofs.Frames.{some_less}
 use Rattle.client_core.proofs.OwesLaws.{length-setup_left}
 use Rattle.client_core.specs.Setup.{index_frames}

@@ -1,6 +1,6 @@
 use Rattle.std.proofs.Common.{ℕ, ◌≤◌, ◌+◌, map, drop, sym, subst, ◌∙◌, arith}
 use Rattle.sse_frames.specs.Frames.{frame_bytes}
-use Rattle.sse_frames.specs.Sending.{numbered}
+use Rattle.sse_frames.specs.SentParts.{numbered}
 use Rattle.client_core.proofs.Frames.{one_less, none_left}
 use Rattle.client_core.proofs.OwesLaws.{some_left}
 use Rattle.client_core.specs.Setup.{frames_in, index_frames}

@@ -3,7 +3,7 @@ use Rattle.std.specs.Prelude.{is_ok}
 use Rattle.std.proofs.lemmas.Bool.{eqb-false, true≢false}
 use Rattle.std.proofs.lemmas.List.{length-map}
 use Rattle.std.specs.Int.{w64, from_be_bytes}
-use Rattle.sse_frames.specs.Reading.{IsReply}
+use Rattle.sse_frames.specs.ReadOutcomes.{IsReply}
 use Rattle.sse_frames.specs.Replies.{ReplyText, Page}
 use Rattle.sse_frames.specs.FrameViews.{items_in, numbers_in}
 use Rattle.sse_frames.specs.Sizes.{AreIds}

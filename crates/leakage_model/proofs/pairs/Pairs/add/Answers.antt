@@ -5,7 +5,7 @@ use Rattle.std.proofs.lemmas.List.{append-nil}
 use Rattle.std.proofs.lemmas.Option.{slice_get_read, slice_get_within}
 use Rattle.indexmap.proofs.MapLemmas.{OnOk-map}
 use Rattle.client_registry.specs.IdNumber.{id_number}
-use Rattle.simulated_frames.specs.Views.{origin_view}
+use Rattle.leakage_frames.specs.Views.{origin_view}
 use Rattle.sse_simulator.specs.Leaks.{ListedLeak}
 use Rattle.leakage_model.proofs.BesideLaws.{beside-push, listed-behind, lists-at, lists-behind, lists-with, none-above, other_than, sent-at, stands_there}
 use Rattle.leakage_model.specs.Pairs.{pair_with, pairs_beside, pairs_in}

@@ -1,6 +1,6 @@
 use Rattle.std.proofs.Common.{◌≡◌, ◌++◌, ◌∷◌, [], Bool, true, false, not, sym, ap, ◌∙◌}
 use Rattle.std.proofs.lemmas.List.{append-nil}
-use Rattle.simulated_frames.specs.Views.{listed_view}
+use Rattle.leakage_frames.specs.Views.{listed_view}
 use Rattle.sse_simulator.specs.Leaks.{ListedLeak}
 use Rattle.leakage_model.proofs.ListLaws.{passing-more}
 use Rattle.leakage_model.proofs.pairs.Pairs.found.Goals as goal

@@ -1,5 +1,5 @@
 use Rattle.std.proofs.Common.{◌≡◌, map, take}
-use Rattle.simulated_frames.specs.Views.{listed_view}
+use Rattle.leakage_frames.specs.Views.{listed_view}
 use Rattle.leakage_model.proofs.pairs.Pairs.listed.Given as goal
 
 abbrev pub invariant-loop-place : goal.invariant-loop-place

@@ -3,7 +3,7 @@ use Rattle.std.specs.Prelude.{slice_get}
 use Rattle.std.specs.List.{list_any}
 use Rattle.std.proofs.lemmas.Option.{slice_get_read, slice_get_within}
 use Rattle.client_registry.specs.IdNumber.{id_number}
-use Rattle.simulated_frames.specs.Views.{origin_view}
+use Rattle.leakage_frames.specs.Views.{origin_view}
 use Rattle.leakage_model.proofs.BesideLaws.{lists-sent, sent-at, sent-behind, stands_there}
 use Rattle.leakage_model.specs.Pairs.{pairs_beside, pairs_in}
 use Rattle.leakage_model.specs.WordFacts.{lists, sent_among}

@@ -7,8 +7,8 @@ use Rattle.client_registry.specs.Live.{live}
 use Rattle.client_registry.specs.Numbered.{words_by_number}
 use Rattle.client_registry.specs.Registered.{known_words}
 use Rattle.client_registry.specs.Run.{at_first}
-use Rattle.simulated_frames.specs.Views.{word_view}
-use Rattle.sse_leakage.specs.Leaking.{leak_by, word_deleted}
+use Rattle.leakage_frames.specs.Views.{word_view}
+use Rattle.def_leakage.specs.CommandLeaks.{leak_by, word_deleted}
 use Rattle.sse_model.proofs.LiveWords.{words_live-apart}
 use Rattle.sse_simulator.specs.Leaks.{DeleteLeak}
 use Rattle.leakage_model.proofs.trail.Trail.document_deleted.Goals as goal

@@ -3,8 +3,8 @@ use Rattle.std.proofs.lemmas.Result.{IfOk-weaker}
 use Rattle.client_registry.specs.Command.{Search}
 use Rattle.client_registry.specs.Run.{at_first}
 use Rattle.client_registry.specs.WordBytes.{word_bytes}
-use Rattle.simulated_frames.specs.Views.{leak_view, listed_view}
-use Rattle.sse_leakage.specs.Leaking.{leak_by}
+use Rattle.leakage_frames.specs.Views.{leak_view, listed_view}
+use Rattle.def_leakage.specs.CommandLeaks.{leak_by}
 use Rattle.sse_simulator.specs.Leaks.{SearchLeak}
 use Rattle.leakage_model.proofs.LeakLaws.{search-word_facts, told}
 use Rattle.leakage_model.specs.WordFacts.{search_leak}

@@ -1,8 +1,8 @@
 use Rattle.std.proofs.Common.{◌≡◌, ◌∷◌, [], sym, ◌∙◌, arith, true}
 use Rattle.std.proofs.lemmas.List.{length-append}
 use Rattle.client_registry.specs.Sized.{is_accepted}
-use Rattle.command_history.proofs.Refusals.{accepted_by}
-use Rattle.command_history.specs.Commands.{command_of}
+use Rattle.leakage_history.proofs.Refusals.{accepted_by}
+use Rattle.leakage_history.specs.Commands.{command_of}
 use Rattle.leakage_model.proofs.LeakLaws.{apart-push}
 use Rattle.leakage_model.proofs.trail.Trail.take.Goals as goal
 

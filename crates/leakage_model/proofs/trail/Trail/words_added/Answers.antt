@@ -4,8 +4,8 @@ use Rattle.client_registry.proofs.SeenWords.{front_more}
 use Rattle.client_registry.specs.IdNumber.{id_number}
 use Rattle.client_registry.specs.Run.{at_first}
 use Rattle.client_registry.specs.WordBytes.{word_bytes}
-use Rattle.simulated_frames.specs.Views.{word_view}
-use Rattle.sse_leakage.specs.Leaking.{word_added}
+use Rattle.leakage_frames.specs.Views.{word_view}
+use Rattle.def_leakage.specs.CommandLeaks.{word_added}
 use Rattle.leakage_model.proofs.trail.Trail.words_added.Goals as goal
 
 pub loop-word-preserved : goal.loop-word-preserved

@@ -4,9 +4,9 @@ use Rattle.client_registry.specs.IdNumber.{id_number}
 use Rattle.client_registry.specs.Run.{at_first}
 use Rattle.client_registry.specs.Setup.{Setup}
 use Rattle.client_registry.specs.WordBytes.{word_bytes}
-use Rattle.simulated_frames.specs.Views.{word_view}
-use Rattle.sse_leakage.specs.Leaking.{word_added}
-use Rattle.leakage_model.specs.Following.{Follows}
+use Rattle.leakage_frames.specs.Views.{word_view}
+use Rattle.def_leakage.specs.CommandLeaks.{word_added}
+use Rattle.leakage_model.specs.TrailFacts.{Follows}
 use Rattle.leakage_model.proofs.trail.Trail.words_added.Given as goal
 
 abbrev pub invariant-loop-word : goal.invariant-loop-word

@@ -8,8 +8,8 @@ use Rattle.client_registry.specs.Numbered.{words_by_number}
 use Rattle.client_registry.specs.Registered.{known_words}
 use Rattle.client_registry.specs.Run.{at_first}
 use Rattle.client_registry.specs.WordBytes.{word_bytes}
-use Rattle.simulated_frames.specs.Views.{word_view}
-use Rattle.sse_leakage.specs.Leaking.{word_deleted}
+use Rattle.leakage_frames.specs.Views.{word_view}
+use Rattle.def_leakage.specs.CommandLeaks.{word_deleted}
 use Rattle.leakage_model.proofs.trail.Trail.words_deleted.Goals as goal
 
 pub loop-number-preserved : goal.loop-number-preserved

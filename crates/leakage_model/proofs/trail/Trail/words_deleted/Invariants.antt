@@ -5,9 +5,9 @@ use Rattle.client_registry.specs.Numbered.{words_by_number}
 use Rattle.client_registry.specs.Registered.{known_words}
 use Rattle.client_registry.specs.Run.{at_first}
 use Rattle.client_registry.specs.Setup.{Setup}
-use Rattle.simulated_frames.specs.Views.{word_view}
-use Rattle.sse_leakage.specs.Leaking.{word_deleted}
-use Rattle.leakage_model.specs.Following.{Follows}
+use Rattle.leakage_frames.specs.Views.{word_view}
+use Rattle.def_leakage.specs.CommandLeaks.{word_deleted}
+use Rattle.leakage_model.specs.TrailFacts.{Follows}
 use Rattle.leakage_model.proofs.trail.Trail.words_deleted.Given as goal
 
 abbrev pub invariant-loop-number : goal.invariant-loop-number

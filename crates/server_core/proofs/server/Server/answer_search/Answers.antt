@@ -4,7 +4,7 @@ use Rattle.std.proofs.lemmas.List.{take_all}
 use Rattle.sse_frames.specs.Replies.{BadList}
 use Rattle.keyed_fn.specs.KeyedFn.{keyed_fn}
 use Rattle.search_token.specs.TokenKeys.{keys_of_bytes}
-use Rattle.sse_frames.specs.Sending.{pages}
+use Rattle.sse_frames.specs.SentParts.{pages}
 use Rattle.server_core.specs.Search.{search_result}
 use Rattle.server_core.proofs.server.Server.answer_search.Goals as goal
 

@@ -1,9 +1,9 @@
 use Rattle.std.proofs.Common.{ℕ, List, [], ◌∷◌, ◌++◌, Err, take, rules, sym, ap, subst, ◌∙◌}
 use Rattle.std.proofs.lemmas.List.{with_items_is, places}
 use Rattle.std.specs.Option.{option_map}
-use Rattle.link_events.specs.Events.{Received}
-use Rattle.run_texts.specs.Causes.{PeerCause}
-use Rattle.run_texts.specs.Stops.{peer_cause}
+use Rattle.def_link_events.specs.Events.{Received}
+use Rattle.script_run_texts.specs.Causes.{PeerCause}
+use Rattle.script_run_texts.specs.Stops.{peer_cause}
 use Rattle.sse_client.specs.Progress.{IsOutside}
 use Rattle.sse_client.proofs.CountsAtStop.{PeerCause-link}
 use Rattle.sse_client.proofs.TranscriptsJoined.{from_outside}

@@ -2,7 +2,7 @@ use Rattle.std.proofs.Common.{◌∙◌, ◌∷◌, [], length, ap, arith, lengt
 use Rattle.std.proofs.lemmas.List.Elements.{All-push as all_push}
 use Rattle.sse_journal.specs.Files.{front, record_bytes, IsPayload}
 use Rattle.sse_journal.proofs.Torn.{front_push}
-use Rattle.sse_journal.proofs.Walking.{length-record_bytes}
+use Rattle.sse_journal.proofs.WalkSteps.{length-record_bytes}
 use Rattle.sse_journal.proofs.journal.Journal.append.Goals as goal
 
 pub returns-in-Ok-clause-added : goal.returns-in-Ok-clause-added

@@ -2,8 +2,8 @@ use Rattle.std.proofs.Common.{◌≡◌, ◌+◌, ◌-◌, ◌∙◌, ℕ, List,
 use Rattle.std.specs.Prelude.{Err}
 use Rattle.sse_journal.specs.Reads.{Begins}
 use Rattle.sse_journal.specs.declared.read_fault.ReadFault.TheVariants.{NotAJournal}
-use Rattle.sse_journal.proofs.Reading.{before_last, at_last, size_here, begins_here, begins_once, next_is}
-use Rattle.sse_journal.proofs.Starting.{told_of}
+use Rattle.sse_journal.proofs.RecordAt.{before_last, at_last, size_here, begins_here, begins_once, next_is}
+use Rattle.sse_journal.proofs.StartSteps.{told_of}
 use Rattle.sse_journal.specs.Files.{file}
 use Rattle.sse_journal.proofs.journal.Journal.read.Goals as goal
 

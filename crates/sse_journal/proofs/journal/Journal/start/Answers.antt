@@ -2,13 +2,13 @@ use Rattle.std.proofs.Common.{◌≡◌, inl, List, ℕ, ◌∙◌, length}
 use Rattle.sse_journal.specs.Files.{GivesAs, front, file}
 use Rattle.sse_journal.specs.AnyMoment.{LeavesOnly}
 use Rattle.sse_journal.proofs.Moments.{started, goes_on}
-use Rattle.sse_journal.proofs.Starting.{after_sync, ends_within}
+use Rattle.sse_journal.proofs.StartSteps.{after_sync, ends_within}
 use Rattle.std.specs.Prelude.{Err, IsErr, Some}
 use Rattle.std.proofs.Common.{rules}
 use Rattle.sse_journal.specs.Files.{Gives}
 use Rattle.sse_journal.specs.Walks.{IsNoJournalAt}
 use Rattle.sse_journal.specs.declared.start_fault.StartFault.TheVariants.{NotAJournal}
-use Rattle.sse_journal.proofs.Refusing.{no_journal_gives, no_journal_once}
+use Rattle.sse_journal.proofs.RefusedFiles.{no_journal_gives, no_journal_once}
 use Rattle.sse_journal.proofs.journal.Journal.start.Goals as goal
 
 pub returns-in_err-end-clause-any_moment : goal.returns-in_err-end-clause-any_moment

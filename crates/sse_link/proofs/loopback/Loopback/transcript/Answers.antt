@@ -1,6 +1,6 @@
 use Rattle.keyed_fn.specs.KeyedFn.{keyed_fn}
-use Rattle.link_events.specs.Served.{idle}
-use Rattle.sse_link.specs.Told.{served}
+use Rattle.def_link_events.specs.Served.{idle}
+use Rattle.sse_link.specs.LinkStates.{served}
 use Rattle.sse_link.proofs.Kept.{cut_served}
 use Rattle.sse_link.proofs.loopback.Loopback.transcript.Goals as goal
 

@@ -5,11 +5,11 @@ use Rattle.keyed_fn.specs.KeyedFn.{keyed_fn}
 use Rattle.sse_frames.specs.Replies.{reply_bytes}
 use Rattle.server_core.specs.Refusal.{is_nil}
 use Rattle.sse_link.specs.Due.{waiting, IsOpenPage}
-use Rattle.link_events.specs.Events.{Received}
-use Rattle.link_events.specs.declared.mark.Mark.TheVariants.{Stepped, StoreFailed}
+use Rattle.def_link_events.specs.Events.{Received}
+use Rattle.def_link_events.specs.declared.mark.Mark.TheVariants.{Stepped, StoreFailed}
 use Rattle.sse_link.specs.Recorded.{recorded}
 use Rattle.sse_link.specs.Steady.{IsTelling}
-use Rattle.sse_link.specs.Told.{Told, IsReceived}
+use Rattle.sse_link.specs.LinkStates.{LinkState, IsReceived}
 use Rattle.sse_link.proofs.Kept.{steady_received}
 use Rattle.sse_link.proofs.Pages.{CanWrite-waiting, waiting-first, is_more-waiting}
 use Rattle.sse_link.proofs.steady.SteadyLoopbackLink.recv.Goals as goal
@@ -23,7 +23,7 @@ invariant_of-self-2 g c =
     let next = c.behind_first-self-inside in
     let kept : recorded c.received.new.self ≡ recorded inside.passed ++ Received (take c.write_first-n.result c.write_first-n.new.out) ∷ [] =
     c.received.ensures ∙ (λ i. c.make_room.ensures.same i ++ Received (c.in_ok-reply.ensures.copy i) ∷ []) in
-    let some : not (is_nil (map reply_bytes (waiting f state inside.due inside.page))) ≡ true = subst (λ (v : Told). not (is_nil v.due) ≡ true) (sym c.self.view_is) c.requires.due in
+    let some : not (is_nil (map reply_bytes (waiting f state inside.due inside.page))) ≡ true = subst (λ (v : LinkState). not (is_nil v.due) ≡ true) (sym c.self.view_is) c.requires.due in
     let can = CanWrite-waiting f state inside.due inside.page c.self.invariant.telling.writable some in
     record {
       telling = subst (λ events. IsTelling f events inside.began.value.state state next.result next.new.page) (sym kept)
@@ -42,10 +42,10 @@ returns-clause-received g c =
     let due = map reply_bytes (waiting f state next.result next.new.page) in
     let kept : recorded c.received.new.self ≡ recorded inside.passed ++ Received reply ∷ [] =
     c.received.ensures ∙ (λ i. c.make_room.ensures.same i ++ Received (c.in_ok-reply.ensures.copy i) ∷ []) in
-    let some : not (is_nil (map reply_bytes (waiting f state inside.due inside.page))) ≡ true = subst (λ (v : Told). not (is_nil v.due) ≡ true) (sym c.self.view_is) c.requires.due in
+    let some : not (is_nil (map reply_bytes (waiting f state inside.due inside.page))) ≡ true = subst (λ (v : LinkState). not (is_nil v.due) ≡ true) (sym c.self.view_is) c.requires.due in
     let can = CanWrite-waiting f state inside.due inside.page c.self.invariant.telling.writable some in
-    let now : Told = record { events = recorded c.received.new.self; began = inside.began.value.state; began_file = None; state = state; file = None; due = due } in
-    subst (λ (v : Told). IsReceived v now reply) c.self.view_is (record {
+    let now : LinkState = record { events = recorded c.received.new.self; began = inside.began.value.state; began_file = None; state = state; file = None; due = due } in
+    subst (λ (v : LinkState). IsReceived v now reply) c.self.view_is (record {
       first = waiting-first f state inside.due next.result inside.page next.new.page reply (search) c.self.invariant.telling.writable can c.write_first-n.ensures.reply next.ensures.waits;
       others = λ i. record { events = kept i; began = inside.began.value.state; began_file = None; state = state; file = None; due = due };
     })

@@ -1,7 +1,7 @@
 use Rattle.std.proofs.lemmas.Grind.{common_steps}
 use Rattle.std.proofs.Common.{◌≡◌, [], ◌∷◌, ◌++◌, subst, sym, ◌∙◌, arith}
 use Rattle.keyed_fn.specs.KeyedFn.{keyed_fn}
-use Rattle.link_events.specs.Events.{Sent}
+use Rattle.def_link_events.specs.Events.{Sent}
 use Rattle.sse_link.specs.Marks.{mark_of}
 use Rattle.sse_link.specs.Recorded.{recorded}
 use Rattle.sse_link.specs.Steady.{IsTelling}

@@ -7,7 +7,7 @@ use Rattle.server_core.specs.Refusal.{refusal}
 use Rattle.server_core.specs.declared.answer.Answer.TheVariants.{Took}
 use Rattle.sse_server.specs.Taken.{IsTaken}
 use Rattle.sse_journal.specs.JournalView.{broken_by}
-use Rattle.sse_server.proofs.Answering.{no_took, not_taken, for_some, by_cause}
+use Rattle.sse_server.proofs.AnswerLaws.{no_took, not_taken, for_some, by_cause}
 use Rattle.sse_server.proofs.store.Store.handle.Goals as goal
 
 -- a frame that isn't taken was refused, as it is an update frame

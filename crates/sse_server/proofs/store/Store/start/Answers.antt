@@ -5,8 +5,8 @@ use Rattle.sse_journal.specs.JournalView.{IsJournalFrom}
 use Rattle.sse_journal.specs.declared.start_fault.StartFault.TheVariants.{NotAJournal}
 use Rattle.sse_server.specs.Faults.{of_start}
 use Rattle.sse_server.specs.declared.open_fault.OpenFault.TheVariants as opens
-use Rattle.sse_server.proofs.Starting.{so_far, only_first, no_error, place_told, no_record_told, synced_on, store_from, bad_from}
-use Rattle.sse_server.proofs.Answering.{for_some}
+use Rattle.sse_server.proofs.StartedStore.{so_far, only_first, no_error, place_told, no_record_told, synced_on, store_from, bad_from}
+use Rattle.sse_server.proofs.AnswerLaws.{for_some}
 use Rattle.sse_server.proofs.Once.{no_bad_record_of, bad_record_once_of}
 use Rattle.sse_server.proofs.store.Store.start.Goals as goal
 

@@ -6,7 +6,7 @@ use Rattle.server_core.specs.State.{ServerState}
 use Rattle.server_core.specs.Step.{taken}
 use Rattle.sse_server.specs.Taken.{IsTaken}
 use Rattle.sse_server.specs.StoreView.{StoreView, IsStoreOf}
-use Rattle.sse_server.proofs.Answering.{store_push}
+use Rattle.sse_server.proofs.AnswerLaws.{store_push}
 use Rattle.sse_server.proofs.store.Store.take.Goals as goal
 
 pub returns-in-Ok-clause-added : goal.returns-in-Ok-clause-added

@@ -1,0 +1,174 @@
+ghost use Rattle.std.specs.Prelude.{◌≡◌, ◌+◌, ◌<◌, ◌≤◌, ◌^◌, [], IsSome, None, Some, true, IfOk};
+ghost use Rattle.std.specs.List.{AllByRecursion};
+ghost use Rattle.client_registry.specs.Command.{Add as adds, Delete as deletes};
+ghost use Rattle.client_registry.specs.Facts.{has_counters};
+ghost use Rattle.client_registry.specs.Histories.{IsKept};
+ghost use Rattle.client_registry.specs.IdNumber.{id_number};
+ghost use Rattle.client_registry.specs.Registered.{Represents, facts, known_words};
+ghost use Rattle.client_registry.specs.Run.{Run, at_first};
+ghost use Rattle.client_registry.specs.Sized.{update_frames};
+ghost use Rattle.client_rebuild.specs.Recalls.{frames_of_last, hash_keys_of, setup_in};
+ghost use Rattle.client_rebuild.specs.Updates.{command_of};
+ghost use Rattle.keyed_fn.specs.KeyedFn.{keyed_fn};
+ghost use Rattle.client_core.specs.Keys.{Keeps};
+ghost use Rattle.client_core.specs.Restores.{Remembers};
+ghost use Rattle.client_core.specs.Resumes.{Replans, first_recorded};
+ghost use Rattle.client_core.specs.TakenViews.{to_send};
+ghost use Rattle.client_core.specs.StandsFor.{StandsFor, with_command};
+ghost use Rattle.sse_frames.specs.Frames.{IsFrame};
+
+use crate::behind::Behind;
+use crate::client::Client;
+use crate::planned_update::PlannedUpdate;
+use crate::ready::Ready;
+use crate::resume_fault::{ResumeFault, of_setup, of_update};
+use crate::update::Update;
+use client_rebuild::{Last, RecordedSetup, RecordedUpdate, Update as Recorded};
+use client_registry::{Doc, DocId};
+use keyed_fn::Keyed;
+use std::alloc::Global;
+use word_keys::MasterKey;
+
+/// The number of the first frame of the last record's command.
+pub(crate) fn first_frame(last: &Last) -> u32
+    ensures { result ≡ first_recorded last.now }
+{
+    match last {
+        Last::Setup(_) => 0,
+        Last::Update(update) => update.frames,
+    }
+}
+
+/// Plans the last record's command again, whose frames from this number on are owed to the server.
+pub(crate) fn replan<K: Keyed>(
+    alloc: Global,
+    keyed: &K,
+    key: MasterKey,
+    last: Last,
+    next: u32,
+) -> Result<Client<Behind>, ResumeFault>
+    requires low { first_recorded last ≤ next }
+    requires high { next < frames_of_last last }
+    ensures replans { (run : Run) → Remembers run last → Replans (keyed_fn K.prf K.pad) key run next result }
+    ensures grammar { IfOk result (λ client. AllByRecursion IsFrame (to_send client.state)) }
+    ensures hash_keys { IfOk result (λ client. client.state.ready.registry.keys ≡ hash_keys_of last) }
+{
+    match last {
+        Last::Setup(setup) => replan_setup(alloc, keyed, key, setup, next),
+        Last::Update(update) => replan_update(alloc, keyed, key, update),
+    }
+}
+
+/// The same of a setup.
+fn replan_setup<K: Keyed>(
+    alloc: Global,
+    keyed: &K,
+    key: MasterKey,
+    setup: RecordedSetup,
+    next: u32,
+) -> Result<Client<Behind>, ResumeFault>
+    requires { next < setup.frames }
+    ensures replans { Replans (keyed_fn K.prf K.pad) key (record { setup = setup_in setup; later = [] }) next result }
+    ensures grammar { IfOk result (λ client. AllByRecursion IsFrame (to_send client.state)) }
+    ensures hash_keys { IfOk result (λ client. client.state.ready.registry.keys ≡ setup.docs.keys) }
+{
+    let RecordedSetup {
+        docs,
+        b,
+        big,
+        pad,
+        ..
+    } = setup;
+    let client = Client::fresh(key);
+    match client.plan_setup(alloc, keyed, &docs, b as u64, big as u64, pad as u64) {
+        Ok(planned) => Ok(client.commit(alloc, planned, docs).skip(next)),
+        Err(fault) => Err(of_setup(fault)),
+    }
+}
+
+/// The same of an update, which has one frame.
+fn replan_update<K: Keyed>(
+    alloc: Global,
+    keyed: &K,
+    key: MasterKey,
+    recorded: RecordedUpdate,
+) -> Result<Client<Behind>, ResumeFault>
+    ensures replans { (before : Run) → IsKept (Some (with_command before (command_of recorded.update))) → Represents recorded.registry before.setup before.later → recorded.frames ≡ update_frames before → Replans (keyed_fn K.prf K.pad) key (with_command before (command_of recorded.update)) recorded.frames result }
+    ensures grammar { IfOk result (λ client. AllByRecursion IsFrame (to_send client.state)) }
+    ensures hash_keys { IfOk result (λ client. client.state.ready.registry.keys ≡ recorded.registry.keys) }
+{
+    let RecordedUpdate {
+        registry,
+        frames,
+        update,
+        ..
+    } = recorded;
+    let ready = Ready::of_registry(alloc, registry, frames);
+    match update {
+        Recorded::Add(doc) => replan_addition(alloc, keyed, key, ready, doc),
+        Recorded::Delete(id) => replan_deletion(alloc, keyed, key, ready, id),
+    }
+}
+
+/// Plans an accepted addition again.
+fn replan_addition<K: Keyed>(
+    alloc: Global,
+    keyed: &K,
+    key: MasterKey,
+    mut ready: Ready,
+    doc: Doc,
+) -> Result<Client<Behind>, ResumeFault>
+    requires dead { (facts ready.registry).live doc.id ≡ None }
+    requires counters { has_counters (facts ready.registry) doc ≡ true }
+    requires number { ready.frames + 1 < 2 ^ 32 }
+    requires keeps { Keeps (keyed_fn K.prf K.pad) key (known_words ready.registry) ready.keys }
+    ensures replans { (before : Run) → StandsFor (keyed_fn K.prf K.pad) (λ epoch. key) at_first before ready → Replans (keyed_fn K.prf K.pad) key (with_command before (adds doc)) ready.frames result }
+    ensures grammar { IfOk result (λ client. AllByRecursion IsFrame (to_send client.state)) }
+    ensures hash_keys { IfOk result (λ client. client.state.ready.registry.keys ≡ ready.registry.keys) }
+{
+    let master = key.prepare(keyed);
+    match ready.addition(alloc, keyed, &master, &doc) {
+        Ok((frame, words)) => {
+            let number = ready.number();
+            let client = Client { key, state: ready };
+            Ok(client.commit(PlannedUpdate {
+                update: Update::Add(doc),
+                words,
+                frame,
+                number,
+            }))
+        }
+        Err(fault) => Err(of_update(fault)),
+    }
+}
+
+/// Plans an accepted deletion again.
+fn replan_deletion<K: Keyed>(
+    alloc: Global,
+    keyed: &K,
+    key: MasterKey,
+    mut ready: Ready,
+    id: DocId,
+) -> Result<Client<Behind>, ResumeFault>
+    requires live { IsSome ((facts ready.registry).live (id_number id)) }
+    requires number { ready.frames + 1 < 2 ^ 32 }
+    requires keeps { Keeps (keyed_fn K.prf K.pad) key (known_words ready.registry) ready.keys }
+    ensures replans { (before : Run) → StandsFor (keyed_fn K.prf K.pad) (λ epoch. key) at_first before ready → Replans (keyed_fn K.prf K.pad) key (with_command before (deletes (id_number id))) ready.frames result }
+    ensures grammar { IfOk result (λ client. AllByRecursion IsFrame (to_send client.state)) }
+    ensures hash_keys { IfOk result (λ client. client.state.ready.registry.keys ≡ ready.registry.keys) }
+{
+    let master = key.prepare(keyed);
+    match ready.deletion(alloc, keyed, &master, id) {
+        Ok(frame) => {
+            let number = ready.number();
+            let client = Client { key, state: ready };
+            Ok(client.commit(PlannedUpdate {
+                update: Update::Delete(id),
+                words: Vec::new(alloc),
+                frame,
+                number,
+            }))
+        }
+        Err(fault) => Err(of_update(fault)),
+    }
+}

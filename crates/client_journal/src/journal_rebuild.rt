@@ -1,0 +1,145 @@
+ghost use Rattle.std.specs.Prelude.{◌≡◌, ◌≢◌, ◌<◌, ◌≤◌, ℕ, List, [], Err, IfOk, IfSome, take};
+ghost use Rattle.client_journal.specs.Recordings.{IsBadUnder, IsRebuiltFrom, TakesAll, TakesNext};
+ghost use Rattle.client_journal.specs.Faults.{EndsFor, GoesOn};
+ghost use Rattle.client_rebuild.specs.Rebuilds.{Rebuilds};
+ghost use Rattle.client_records.specs.Openings.{Opens, OpensElsewhere};
+ghost use Rattle.client_registry.specs.HashNumbers.{hash_numbers};
+ghost use Rattle.client_registry.specs.Run.{Run};
+ghost use Rattle.keyed_fn.specs.KeyFormulas.{mark_of, plain_key};
+ghost use Rattle.keyed_fn.specs.KeyedFn.{keyed_fn};
+ghost use Rattle.sse_journal.specs.AnyMoment.{LeavesOnly};
+ghost use Rattle.sse_journal.specs.JournalView.{IsJournalOf, end_of};
+ghost use Rattle.sse_outside.specs.Causes.{Rose};
+ghost use Rattle.sse_outside.specs.Images.{NoOther};
+ghost use Rattle.word_keys.specs.HashNumbers.{numbers_of_key};
+
+use crate::faults::RecordsFault;
+use client_rebuild::Rebuild;
+use keyed_fn::Keyed;
+use sse_journal::Journal;
+use sse_outside::Disk;
+use std::alloc::Global;
+use word_keys::MasterKey;
+
+/// Reads the record at a place and takes it; gives the next place, and `None` where there is no record more.
+fn take_next<D: Disk>(
+    alloc: Global,
+    journal: &Journal,
+    disk: &mut D,
+    at: u64,
+    buffer: &mut Vec<u8>,
+    rebuilt: &mut Rebuild,
+) -> Result<Option<u64>, RecordsFault>
+    ensures takes { (payloads : List (List ℕ)) → Rebuilds payloads rebuilt.old →
+        TakesNext (λ all. IsJournalOf all journal.now (D.content disk.old) (D.images disk.old)) rebuilt.old.mark payloads at result rebuilt.new }
+    ensures on { IfOk result (λ next. IfSome next (λ place. (at < place) × (at < end_of journal.now))) }
+
+    // The key stays, and the disk.
+    ensures key { rebuilt.new.key ≡ rebuilt.old.key }
+    ensures mark { rebuilt.new.mark ≡ rebuilt.old.mark }
+    ensures hash_keys { rebuilt.new.hash_keys ≡ rebuilt.old.hash_keys }
+    ensures kept { D.content disk.new ≡ D.content disk.old }
+    ensures images_kept { NoOther (D.images disk.old) (D.images disk.new) }
+    ensures quiet { LeavesOnly D.moment D.left_since disk.old disk.new (D.images disk.old) }
+
+    // The count of faults.
+    ensures later { D.faults disk.old ≤ D.faults disk.new }
+    ensures failed { result ≡ Err RecordsFault.Disk → Rose (D.faults disk.old) (D.faults disk.new) }
+    ensures steady { result ≢ Err RecordsFault.Disk → D.faults disk.new ≡ D.faults disk.old }
+{
+    match journal.read(disk, at, buffer) {
+        Ok(None) => Ok(None),
+        Ok(Some(next)) => match rebuilt.take(alloc, buffer) {
+            Ok(()) => Ok(Some(next)),
+            Err(fault) => Err(RecordsFault::from(fault)),
+        },
+        Err(fault) => Err(RecordsFault::from(fault)),
+    }
+}
+
+/// Reads all records, from the first on, and takes each.
+fn take_all<D: Disk>(
+    alloc: Global,
+    journal: &Journal,
+    disk: &mut D,
+    rebuilt: &mut Rebuild,
+) -> Result<(), RecordsFault>
+    requires none { Rebuilds [] rebuilt.old }
+    ensures takes { TakesAll (λ all. IsJournalOf all journal.now (D.content disk.old) (D.images disk.old)) rebuilt.old.mark result rebuilt.new }
+
+    // The key stays, and the disk.
+    ensures key { rebuilt.new.key ≡ rebuilt.old.key }
+    ensures mark { rebuilt.new.mark ≡ rebuilt.old.mark }
+    ensures hash_keys { rebuilt.new.hash_keys ≡ rebuilt.old.hash_keys }
+    ensures kept { D.content disk.new ≡ D.content disk.old }
+    ensures images_kept { NoOther (D.images disk.old) (D.images disk.new) }
+    ensures quiet { LeavesOnly D.moment D.left_since disk.old disk.new (D.images disk.old) }
+
+    // The count of faults.
+    ensures later { D.faults disk.old ≤ D.faults disk.new }
+    ensures failed { result ≡ Err RecordsFault.Disk → Rose (D.faults disk.old) (D.faults disk.new) }
+    ensures steady { result ≢ Err RecordsFault.Disk → D.faults disk.new ≡ D.faults disk.old }
+{
+    let mut buffer = Vec::new(alloc);
+    let mut at = journal.first();
+    'records: loop {
+        match take_next(alloc, journal, disk, at, &mut buffer, rebuilt) {
+            Ok(Some(next)) => at = next,
+            Ok(None) => return Ok(()),
+            Err(fault) => return Err(fault),
+        }
+    }
+}
+
+// Promise P122 (caller): A rebuild takes all records of a journal under its key, or names the first bad one or the wrong key.
+//   clauses: rebuilt, key, mark, hash_keys, wrong, wrong_refused, bad, bad_refused, accepted, no_journal, holds, kept, images_kept, quiet, later, failed, steady; assumes: observable
+//     devices, earlier calls; not: Over a disk that isn't observable: that the records are all of its file, and which error is right.
+/// Reads all records of a journal, in their order, and takes each as that of the client of this key. The disk is only read, one
+/// record after the other into one buffer.
+///
+/// Errors: `WrongKey` exactly where the first record is that of a setup under another key; else `BadRecord(number)` exactly where
+/// the record of this number, from 0, is the first that isn't one or isn't accepted after those before it; each unless one of the
+/// others comes first: `Disk` where the disk failed, with its count of faults risen, and `Memory`, for a record of at most 2^27 bytes or
+/// for what it says. `NoJournal` comes only of a disk that doesn't tell its content, where what was read is no record.
+pub fn rebuild<K: Keyed, D: Disk>(
+    alloc: Global,
+    keyed: &K,
+    key: MasterKey,
+    journal: &Journal,
+    disk: &mut D,
+) -> Result<Rebuild, RecordsFault>
+    ensures rebuilt { IfOk result (λ rebuilt. IsRebuiltFrom (λ payloads. IsJournalOf payloads journal.now (D.content disk.old) (D.images disk.old)) rebuilt) }
+    ensures key { IfOk result (λ rebuilt. rebuilt.key ≡ key) }
+    ensures mark { IfOk result (λ rebuilt. rebuilt.mark ≡ mark_of (keyed_fn K.prf K.pad) key) }
+    ensures hash_keys { IfOk result (λ rebuilt. hash_numbers rebuilt.hash_keys ≡ numbers_of_key (plain_key (keyed_fn K.prf K.pad) key 13)) }
+
+    // Why it isn't, over a disk that tells its content.
+    ensures wrong { result ≡ Err RecordsFault.WrongKey → (payloads : List (List ℕ)) → IsJournalOf payloads journal.now (D.content disk.old) (D.images disk.old) →
+        OpensElsewhere (mark_of (keyed_fn K.prf K.pad) key) (take 1 payloads) }
+    ensures wrong_refused { (payloads : List (List ℕ)) → IsJournalOf payloads journal.now (D.content disk.old) (D.images disk.old) →
+        OpensElsewhere (mark_of (keyed_fn K.prf K.pad) key) (take 1 payloads) → EndsFor RecordsFault.Disk RecordsFault.Memory RecordsFault.WrongKey result }
+    ensures bad { (number : ℕ) → result ≡ Err (RecordsFault.BadRecord number) → (payloads : List (List ℕ)) → IsJournalOf payloads journal.now (D.content disk.old) (D.images disk.old) →
+        IsBadUnder (mark_of (keyed_fn K.prf K.pad) key) payloads number }
+    ensures bad_refused { (payloads : List (List ℕ)) (number : ℕ) → IsJournalOf payloads journal.now (D.content disk.old) (D.images disk.old) →
+        IsBadUnder (mark_of (keyed_fn K.prf K.pad) key) payloads number → EndsFor RecordsFault.Disk RecordsFault.Memory (RecordsFault.BadRecord number) result }
+    ensures accepted { (payloads : List (List ℕ)) (run : Run) → IsJournalOf payloads journal.now (D.content disk.old) (D.images disk.old) →
+        Opens (mark_of (keyed_fn K.prf K.pad) key) payloads run → GoesOn RecordsFault.Disk RecordsFault.Memory result }
+    ensures no_journal { (payloads : List (List ℕ)) → IsJournalOf payloads journal.now (D.content disk.old) (D.images disk.old) → result ≢ Err RecordsFault.NoJournal }
+
+    // The disk stays.
+    ensures holds { (payloads : List (List ℕ)) → IsJournalOf payloads journal.now (D.content disk.old) (D.images disk.old) → IsJournalOf payloads journal.now (D.content disk.new) (D.images disk.new) }
+    ensures kept { D.content disk.new ≡ D.content disk.old }
+    ensures images_kept { NoOther (D.images disk.old) (D.images disk.new) }
+    ensures quiet { LeavesOnly D.moment D.left_since disk.old disk.new (D.images disk.old) }
+
+    // The count of faults.
+    ensures later { D.faults disk.old ≤ D.faults disk.new }
+    ensures failed { result ≡ Err RecordsFault.Disk → Rose (D.faults disk.old) (D.faults disk.new) }
+    ensures steady { result ≢ Err RecordsFault.Disk → D.faults disk.new ≡ D.faults disk.old }
+{
+    let mut rebuilt = Rebuild::new(keyed, key);
+    match take_all(alloc, journal, disk, &mut rebuilt) {
+        Ok(()) => Ok(rebuilt),
+        Err(fault) => Err(fault),
+    }
+}

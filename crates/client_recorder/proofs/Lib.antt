@@ -1,0 +1,2 @@
+pub mod GrownRecords
+mod KeptRecords

@@ -1,0 +1,22 @@
+pub mod Found
+pub mod Once
+pub mod Dictionary
+pub mod Numbers
+pub mod Ranks
+pub mod Counted
+pub mod Pairs
+pub mod HeldRevocations
+pub mod HeldAdditions
+pub mod TakenFrames
+pub mod SetupTaken
+pub mod SetupShown
+pub mod SearchAnswered
+pub mod SearchAnswers
+pub mod SetupHeld
+pub mod Tags
+pub mod Commands
+pub mod Taken
+pub mod Agreement
+mod Rows
+pub mod NoCollision
+pub mod Histories

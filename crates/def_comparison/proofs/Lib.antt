@@ -1,0 +1,3 @@
+pub mod UsedNames
+pub mod FirstDifferences
+pub mod SameLeaks

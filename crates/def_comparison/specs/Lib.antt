@@ -1,0 +1,3 @@
+pub mod UsedNames
+pub mod FirstDifference
+pub mod Sums

@@ -1,0 +1,75 @@
+-- The leakage and the draws of the first part of a history are the first of the whole's, and so is all that passes.
+use Rattle.std.proofs.Common.{◌≡◌, ℕ, List, [], ◌∷◌, ◌++◌, map, None, Some, refl, sym, ap, ◌∙◌}
+use Rattle.std.specs.Prelude.{flat_map}
+use Rattle.std.proofs.lemmas.List.{append-nil, map-append}
+use Rattle.std.proofs.lemmas.List.Concat.{flat_map-append}
+use Rattle.client_registry.proofs.HistoryLaws.{IsKept-first, whole_run}
+use Rattle.client_registry.proofs.OverLaws.{over-append}
+use Rattle.client_registry.specs.Command.{Command}
+use Rattle.client_registry.specs.Histories.{IsKept, IsFirstOf}
+use Rattle.client_registry.specs.Over.{over}
+use Rattle.client_registry.specs.Run.{Run, Offsets, History, at_first}
+use Rattle.keyed_fn.specs.KeyedFn.{KeyedFn}
+use Rattle.sse_frames.specs.Exchange.{Passed, greeting}
+use Rattle.def_leakage.proofs.Draws.{ranks_in}
+use Rattle.def_leakage.proofs.Sessions.{session_is_simulated}
+use Rattle.def_leakage.specs.DrawnValues.{draw, drawings_of_setup, drawings_by, drawings, draws}
+use Rattle.def_leakage.specs.Histories.{leak_in, draws_in}
+use Rattle.def_leakage.specs.CommandLeaks.{leak_of_setup, leak_by, leak}
+use Rattle.sse_model.proofs.Prefixes.{run_of, exchanged_by, transcript-append}
+use Rattle.sse_model.specs.Histories.{table_of}
+use Rattle.sse_model.specs.Names.{Table}
+use Rattle.sse_model.specs.Transcript.{transcript, session}
+use Rattle.sse_simulator.specs.Leaks.{Leak, Draw}
+use Rattle.sse_simulator.specs.Simulator.{simulated}
+
+-- of commands, and others after them
+pub leak-append : (o : Offsets) (run : Run) (cs : List Command) → leak o (run_of run.setup (run.later ++ cs)) ≡ leak o run ++ over (leak_by o run.setup) run.later cs
+leak-append o run cs = ap (λ rest. leak_of_setup o.epoch run.setup ∷ rest) (over-append (leak_by o run.setup) [] run.later cs)
+
+pub draws-append : (t : Table) (o : Offsets) (run : Run) (cs : List Command)
+    → draws t o (run_of run.setup (run.later ++ cs)) ≡ draws t o run ++ map (map (draw t (ranks_in t o.epoch run.setup))) (over (drawings_by o.epoch run.setup) run.later cs)
+draws-append t o run cs =
+    let drawn = map (draw t (ranks_in t o.epoch run.setup)) in
+    ap (λ rest. map drawn (drawings_of_setup o.epoch run.setup ∷ rest)) (over-append (drawings_by o.epoch run.setup) [] run.later cs)
+    ∙ map-append drawn (drawings o run) (over (drawings_by o.epoch run.setup) run.later cs)
+
+-- Promise P146 (inside): A history's leakage, draws and simulated traffic up to a command don't depend on later commands.
+--   assumes: kept limits
+pub leak_in-first : (part whole : History) → IsFirstOf part whole → (more : List Leak) × (leak_in whole ≡ leak_in part ++ more)
+leak_in-first None whole p = (leak_in whole, refl)
+leak_in-first (Some run) None p = absurd p
+leak_in-first (Some run) (Some whole) p =
+    (over (leak_by at_first run.setup) run.later p.1.0, ap (λ r. leak at_first r) (whole_run run whole p) ∙ leak-append at_first run p.1.0)
+
+module _ (f : KeyedFn) (keys : ℕ → List ℕ) where
+  -- Promise P146, also here
+  pub draws_in-first : (part whole : History) → IsFirstOf part whole → (more : List (List Draw)) × (draws_in f keys whole ≡ draws_in f keys part ++ more)
+  draws_in-first None whole p = (draws_in f keys whole, refl)
+  draws_in-first (Some run) None p = absurd p
+  draws_in-first (Some run) (Some whole) p = (
+    map (map (draw (table_of f keys run) (ranks_in (table_of f keys run) at_first.epoch run.setup))) (over (drawings_by at_first.epoch run.setup) run.later p.1.0),
+    ap (λ r. draws_in f keys (Some r)) (whole_run run whole p) ∙ draws-append (table_of f keys run) at_first run p.1.0,
+  )
+
+  -- Promise P146, also here
+  pub session-first : (part whole : History) → IsFirstOf part whole → (more : List Passed) × (session f keys whole ≡ session f keys part ++ more)
+  session-first None None p = ([], sym (append-nil (greeting 0)))
+  session-first None (Some run) p = (flat_map (λ passed. passed) (transcript (table_of f keys run) at_first run), refl)
+  session-first (Some run) None p = absurd p
+  session-first (Some run) (Some whole) p =
+      let t = table_of f keys run in
+      let more = over (exchanged_by t at_first run.setup) run.later p.1.0 in (
+        flat_map (λ passed. passed) more,
+        ap (λ r. session f keys (Some r)) (whole_run run whole p)
+            ∙ ap (λ all. greeting 0 ++ flat_map (λ passed. passed) all) (transcript-append t at_first run.setup run.later p.1.0)
+            ∙ ap (λ rest. greeting 0 ++ rest) (flat_map-append (λ passed. passed) (transcript t at_first run) more),
+      )
+
+  -- Promise P146, also here
+  -- what the simulator makes of the first part is the first of what it makes of the whole
+  pub simulated-first : (part whole : History) → IsFirstOf part whole → IsKept whole
+      → (front : List Passed) × (more : List Passed) × (simulated (leak_in part) (draws_in f keys part) ≡ Some front) × (simulated (leak_in whole) (draws_in f keys whole) ≡ Some (front ++ more))
+  simulated-first part whole p kept =
+      let later = session-first part whole p in
+      (session f keys part, later.0, session_is_simulated f keys part (IsKept-first part whole p kept), session_is_simulated f keys whole kept ∙ ap Some later.1)

@@ -1,0 +1,3 @@
+mod DocumentsLaws
+mod SetupLaws
+pub mod MadeOutcome

@@ -1,0 +1,37 @@
+pub mod Pairs
+pub mod Beside
+pub mod Shifts
+pub mod OwnValues
+pub mod SameDrawings
+pub mod SameDraws
+pub mod FirstPlaces
+pub mod SamePlaces
+pub mod Orderly
+pub mod FirstSearches
+pub mod Alongside
+pub mod Partners
+pub mod PartnerWords
+pub mod HomePositions
+pub mod RenamedSetup
+pub mod Renamed
+pub mod KeptValues
+pub mod CollisionFree
+pub mod InAnyOrder
+pub mod SortedInAnyOrder
+pub mod ReorderedDocuments
+pub mod ReorderedSetup
+pub mod ReorderedRuns
+pub mod NamesBeside
+pub mod SumsBeside
+pub mod OpenedAlike
+pub mod SizedValues
+pub mod OneToOne
+pub mod FromDraws
+pub mod Twins
+pub mod AlikeBefore
+pub mod Comparisons
+pub mod Histories
+pub mod ReorderedSessions
+pub mod ByTexts
+mod Rows
+mod TwinRows

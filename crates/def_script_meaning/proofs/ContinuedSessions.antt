@@ -1,0 +1,246 @@
+-- A session that goes on after a run: over an honest link from a server that holds what the run leaves, however it came to
+-- that, no collision and no reply stops it where the history up to its stop has no collision; and where nothing stopped it from
+-- outside either, it did what its lines mean.
+use Rattle.std.proofs.Common.{◌≡◌, ℕ, Bool, ◌^◌, ◌<◌, ◌≤◌, inl, inr, List, [], ◌∷◌, ◌++◌, length, map, take, Some, None, refl, sym, ap, ◌∙◌, subst, arith, length-append}
+use Rattle.std.specs.Prelude.{filter, flat_map, Option}
+use Rattle.std.specs.Io.KnownBytes.{append_known}
+use Rattle.std.specs.List.{AllByRecursion}
+use Rattle.std.proofs.lemmas.List.{append_cancel_left, map-append}
+use Rattle.std.proofs.lemmas.List.Concat.{flat_map-append}
+use Rattle.client_registry.proofs.HistoryLaws.{IsKept-first, whole_run}
+use Rattle.client_registry.proofs.OverLaws.{over-append}
+use Rattle.client_records.specs.Records.{update_record}
+use Rattle.client_registry.specs.Command.{Command, is_update}
+use Rattle.client_registry.specs.Document.{Document}
+use Rattle.client_registry.specs.Histories.{IsKept, IsFirstOf, longer, shown_by, shown_in_turn, found_in_turn}
+use Rattle.client_registry.specs.Live.{in_order}
+use Rattle.client_registry.specs.Over.{over}
+use Rattle.client_registry.specs.Run.{Run, History, at_first}
+use Rattle.keyed_fn.specs.KeyedFn.{KeyedFn, IsKeyedFn}
+use Rattle.def_link_events.specs.Events.{Event}
+use Rattle.def_link_events.specs.Served.{IsServed, idle}
+use Rattle.server_core.specs.State.{ServerState}
+use Rattle.def_agreement.proofs.Histories.{IsAnswer, replies_behind, shown_are_answers, in_order-shown_in_turn}
+use Rattle.def_agreement.specs.Agreement.{shown_behind}
+use Rattle.def_agreement.specs.Held.{Holds}
+use Rattle.sse_frames.specs.Exchange.{searches}
+use Rattle.sse_frames.specs.Frames.{InGrammar}
+use Rattle.sse_model.proofs.ExchangeLaws.{searches-append, searches-sent}
+use Rattle.sse_model.proofs.HistoryLaws.{frames_sent-longer, frames_sent-in_grammar}
+use Rattle.sse_model.specs.Epochs.{keys_under}
+use Rattle.sse_model.specs.Histories.{table_of, frames_sent, frames_of_next, HasNoCollision}
+use Rattle.sse_outside.proofs.Known.{append_known-twice}
+use Rattle.sse_script.specs.Texts.{text_of}
+use Rattle.sse_outside.specs.Kept.{with_records}
+use Rattle.def_script_meaning.specs.Carries.{Keeps, Outside, text_with, with_answers}
+use Rattle.def_script_meaning.specs.Continues.{at_run, GoesOn, frames_since, Continued}
+use Rattle.def_script_meaning.specs.Exchange.{Adds}
+use Rattle.def_script_meaning.specs.Goes.{Passes, HasPassed, Goes}
+use Rattle.def_script_meaning.specs.Headline.{IsOverHonest, IsUndisturbed}
+use Rattle.def_script_meaning.specs.Lines.{Line}
+use Rattle.def_script_meaning.specs.Meaning.{Meaning, follow}
+use Rattle.def_script_meaning.specs.Recorded.{records_in}
+use Rattle.def_script_meaning.specs.Runs.{Ended, Ends}
+use Rattle.def_script_meaning.specs.Session.{IsFree}
+use Rattle.def_script_meaning.specs.Stops.{status_of, stop_text}
+use Rattle.def_script_meaning.proofs.FollowedPlaces.{finds, finds-follow, first-follow, follow-key}
+use Rattle.def_script_meaning.proofs.GoneAsMeant.{Adds-joined, Prints-none}
+use Rattle.def_script_meaning.proofs.Headline.{AreAnswered, session_outside, session_whole, same_events, with_answers-finds, few, IsFree-first}
+use Rattle.def_script_meaning.proofs.Kept.{IsWithinItem, IsKeptAt, kept_follow}
+use Rattle.def_script_meaning.proofs.Recorded.{KeepsFirst-all, records-longer, kept_since}
+use Rattle.def_script_meaning.proofs.RunGoes.{turned_status, went}
+
+-- what holds of each of two lists holds of each of the second
+second_half : {X : Type 0} (P : X → Type 0) (xs ys : List X) → AllByRecursion P (xs ++ ys) → AllByRecursion P ys
+second_half P [] ys all = all
+second_half P (x ∷ xs) ys all = second_half P xs ys all.1
+
+-- a history that begins with a run is that run with commands after it
+pub since : (run : Run) (h : History) → IsFirstOf (Some run) h → (more : List Command) × (h ≡ longer more (Some run))
+since run None first = absurd first
+since run (Some whole) first = (first.1.0, ap (λ r. Some r) (whole_run run whole first))
+
+-- none, where it is that run
+pub no_commands : (run : Run) (h : History) (first : IsFirstOf (Some run) h) → h ≡ Some run → (since run h first).0 ≡ []
+no_commands run h first same = append_cancel_left run.later (since run h first).0 [] (later_of (record run { later = run.later ++ (since run h first).0 }) run (sym (since run h first).1 ∙ same) ∙ append-none run.later)
+  where
+    later_of : (a b : Run) → Some a ≡ Some b → a.later ≡ b.later
+    later_of a b e = ap (λ (r : Run). r.later) (let same : a ≡ b = cc in same)
+
+    append-none : {A : Type 0} (xs : List A) → xs ≡ xs ++ []
+    append-none [] = refl
+    append-none (x ∷ xs) = ap (λ more. x ∷ more) (append-none xs)
+
+-- what the searches of all show is what those of the run show, and then those after it
+pub shown_in_turn-longer : (run : Run) (more : List Command) → shown_in_turn (longer more (Some run)) ≡ shown_in_turn (Some run) ++ shown_behind run more
+shown_in_turn-longer run more =
+    ap (flat_map (λ r. r)) (over-append (shown_by run.setup) [] run.later more)
+    ∙ flat_map-append (λ r. r) (over (shown_by run.setup) [] run.later) (over (shown_by run.setup) run.later more)
+
+module _ (f : KeyedFn) (laws : IsKeyedFn f) (key : List ℕ) (run : Run) (before : ServerState)
+    (held : Holds (table_of f (keys_under key (Some run)) run) at_first run.setup run.later before) where
+  abbrev keys : ℕ → List ℕ
+  keys = keys_under key (Some run)
+
+  -- a server that holds what a run leaves so answers the frames of commands after it
+  pub since_is_answered : (more : List Command) → IsKept (longer more (Some run)) → HasNoCollision f keys (longer more (Some run)) → AreAnswered f before (frames_since f key run more) (shown_behind run more)
+  since_is_answered more kept free =
+      let all : frames_sent f keys (longer more (Some run)) ≡ frames_sent f keys (Some run) ++ frames_of_next f keys (Some run) more = frames_sent-longer f keys (Some run) more in
+      record {
+        grammar = second_half InGrammar (frames_sent f keys (Some run)) (frames_of_next f keys (Some run) more) (subst (AllByRecursion InGrammar) all (frames_sent-in_grammar f keys (longer more (Some run)) laws kept free));
+        given = second_half IsAnswer (shown_in_turn (Some run)) (shown_behind run more) (subst (AllByRecursion IsAnswer) (shown_in_turn-longer run more) (shown_are_answers (longer more (Some run)) kept));
+        count = omega (
+          arith,
+          searches-sent f keys (longer more (Some run)),
+          searches-sent f keys (Some run),
+          ap searches all,
+          searches-append (frames_sent f keys (Some run)) (frames_of_next f keys (Some run) more),
+          ap length (shown_in_turn-longer run more),
+          length-append (shown_in_turn (Some run)) (shown_behind run more),
+        );
+        replies = replies_behind f keys run more before laws kept free held;
+      }
+
+  module _ (docs : List Document) (n number : ℕ) (lines : List (Option Line)) (refused : Bool) (within : AllByRecursion IsWithinItem lines) (kept_at : IsKeptAt n (at_run key docs run))
+      (low high : ℕ) (fits : high < 2 ^ 32) (least : low ≤ before.next) (most : before.next ≤ high)
+      (now : Outside) (end : Ended) (goes_on : GoesOn f low high (at_run key docs run) number lines refused now end) where
+    abbrev m : Meaning
+    m = follow (at_run key docs run) number lines refused
+
+    kept : IsKept m.history
+    kept = (kept_follow n (at_run key docs run) number lines refused within kept_at).0
+
+    -- the commands of a history that begins with the run
+    abbrev commands_in : (h : History) → IsFirstOf (Some run) h → List Command
+    commands_in h first = (since run h first).0
+
+    -- it goes as its lines mean, and sends the frames after the run
+    pub record GoesSince : Type 0 where
+      pub first : IsFirstOf (Some run) end.history
+      pub same_key : end.key ≡ Some key
+      pub goes : Goes f m low high (λ next. frames_since f key run (commands_in end.history first)) now end
+
+    pub goes_since : GoesSince
+    goes_since = elim goes_on [
+      | inl away ↦
+          let first : IsFirstOf (Some run) end.history = subst (IsFirstOf (Some run)) (sym away.history) (refl, ([], sym (append-none run.later))) in record {
+            first = first;
+            same_key = away.same_key;
+            goes = record {
+              key = inr (away.same_key ∙ sym (follow-key (at_run key docs run) number lines refused));
+              history = subst (λ h. IsFirstOf h m.history) (sym away.history) (first-follow (at_run key docs run) number lines refused);
+              answers = [];
+              passes = inr (inl (record { key = key; same_key = away.same_key; cause = away.cause; stops = away.stops; away = away.away; none = refl; most = λ next least most. omega (arith, ap (λ cs. length (frames_since f key run cs)) (no_commands run end.history first away.history)) }));
+              prints = Prints-none m [] now.written end.outside.written away.unprinted;
+              ended = λ low_status. absurd (omega (arith, low_status, ap status_of away.stops, turned_status low high away.away.events away.cause away.away.turned));
+            };
+          }
+      | inr opened ↦
+          let greeted = opened.1 in
+          let w = went f n (at_run key docs run) number lines refused opened.0 end within kept_at opened.2 in
+          let behind = since run end.history w.since in
+          let frames : w.more ≡ frames_since f key run behind.0 =
+          append_cancel_left (frames_sent f keys (Some run)) w.more (frames_since f key run behind.0)
+          (sym w.frames ∙ ap (frames_sent f keys) behind.1 ∙ frames_sent-longer f keys (Some run) behind.0) in
+          record {
+            first = w.since;
+            same_key = w.same_key;
+            goes = record {
+              key = inr (w.same_key ∙ sym (follow-key (at_run key docs run) number lines refused));
+              history = w.history;
+              answers = w.answers;
+              passes = inr (inr (record { key = key; same_key = w.same_key; greeted = opened.0.told; greets = greeted.greets; passes = subst (λ fs. Passes f fs w.answers opened.0.told end) frames w.passes }));
+              prints = record { p = w.prints.p; written = w.prints.written ∙ ap (λ o. append_known o (take w.prints.p (text_with w.answers m.shown))) greeted.unprinted };
+              ended = λ few.
+                  let well = w.ended_well few in
+                  (well.0, w.same_key ∙ sym (follow-key (at_run key docs run) number lines refused), well.1, well.2 ∙ ap (λ o. append_known o (text_with w.answers m.shown)) greeted.unprinted);
+            };
+          }
+    ]
+      where
+        append-none : {A : Type 0} (xs : List A) → xs ++ [] ≡ xs
+        append-none [] = refl
+        append-none (x ∷ xs) = ap (λ more. x ∷ more) (append-none xs)
+
+    -- at its end the records after the run were kept
+    kept_on : status_of end.stop ≤ 2 → (more : List Command) → end.history ≡ longer more (Some run) → Keeps now.kept end.outside.kept (map update_record (filter is_update more))
+    kept_on low_status more history = elim goes_on [
+      | inl away ↦ absurd (omega (arith, low_status, ap status_of away.stops, turned_status low high away.away.events away.cause away.away.turned))
+      | inr opened ↦
+          let w = kept_since f (at_run key docs run) number lines refused opened.0 end opened.2 in
+          let held : w.held ≡ longer more (Some run) = w.whole (λ e. absurd (omega (arith, low_status, e))) (λ e. absurd (omega (arith, low_status, e))) (λ e. absurd (omega (arith, low_status, e))) ∙ history in
+          let same : w.records ≡ map update_record (filter is_update more) =
+          append_cancel_left (records_in f key (Some run)) w.records (map update_record (filter is_update more))
+          (sym w.are ∙ ap (records_in f key) held ∙ records-longer f key (Some run) more refl) in
+          KeepsFirst-all w.all w.records (status_of end.stop) opened.0.kept end.outside.kept (λ e. absurd (omega (arith, low_status, e))) (λ e. absurd (omega (arith, low_status, e))) w.kept
+          ∙ (λ i. with_records (same i) (opened.1.unkept i))
+    ]
+
+    module _ (state : ServerState) (honest : IsOverHonest f before now.told end.outside.told state) where
+      served : (events : List Event) → Adds now.told end.outside.told events → IsServed f (idle before) events (idle state)
+      served events adds = subst (λ es. IsServed f (idle before) es (idle state)) (same_events honest.past honest.events events now.told end.outside.told honest.told honest.adds adds) honest.honest
+
+      abbrev g : GoesSince
+      g = goes_since
+
+      abbrev commands : List Command
+      commands = commands_in end.history g.first
+
+      answered : IsFree f end.key end.history → AreAnswered f before (frames_since f key run commands) (shown_behind run commands)
+      answered free =
+          let behind = since run end.history g.first in
+          since_is_answered commands (subst IsKept behind.1 (IsKept-first end.history m.history g.goes.history kept))
+          (subst (HasNoCollision f keys) behind.1 (subst (λ k. IsFree f k end.history) g.same_key free))
+
+      -- Promise P165 (inside): A session that continues after a run has the traffic, the printed lines and the server state of its lines' meaning.
+      --   assumes: keyed function, kept limits, honest link, no collision, no device fault, enough memory; not: A server that doesn't hold all that the run left (P166).
+      -- no collision and no reply stops it
+      pub continued_status : IsFree f end.key end.history → status_of end.stop ≤ 7
+      continued_status free =
+          session_outside f low high (λ next. frames_since f key run commands) g.goes.answers now.told end fits before state least most free served (shown_behind run commands) (answered free) g.goes.passes
+
+      -- Promise P165, also here
+      -- and where nothing else did, it did what its lines mean
+      pub continued : (last : Outside) → Ends end last → HasNoCollision f (keys_under key m.history) m.history → IsUndisturbed (status_of end.stop) → Continued f before key run m now last (status_of end.stop) state
+      continued last ends free calm =
+          let whole_key : m.key ≡ Some key = follow-key (at_run key docs run) number lines refused in
+          let free_end : IsFree f end.key end.history = IsFree-first f end.key m.key end.history m.history g.goes.key g.goes.history (subst (λ k. IsFree f k m.history) (sym whole_key) free) in
+          let low_status : status_of end.stop ≤ 2 = few (status_of end.stop) (continued_status free_end) calm in
+          by free_end low_status g.goes.passes
+        where
+          by : IsFree f end.key end.history → status_of end.stop ≤ 2 → HasPassed f low high (λ next. frames_since f key run commands) g.goes.answers now.told end → Continued f before key run m now last (status_of end.stop) state
+          by free_end low_status (inl u) = absurd (let no : Some key ≡ None = sym g.same_key ∙ u.key in cc)
+          by free_end low_status (inr (inl u)) = absurd (omega (arith, low_status, ap status_of u.stops, turned_status low high u.away.events u.cause u.away.turned))
+          by free_end low_status (inr (inr o)) =
+              let well = g.goes.ended low_status in
+              let behind = since run end.history g.first in
+              let all = session_whole f low high (λ next. frames_since f key run commands) g.goes.answers now.told end fits before state least most free_end served (shown_behind run commands) (answered free_end) o low_status in
+              let kept_end : IsKept (longer commands (Some run)) = subst IsKept behind.1 (IsKept-first end.history m.history g.goes.history kept) in
+              let history : m.history ≡ longer commands (Some run) = sym well.2 ∙ behind.1 in
+              -- the answers, each in order, are those of the lines
+              let answers : map in_order (shown_behind run commands) ≡ finds m.shown =
+              append_cancel_left (found_in_turn (Some run)) (map in_order (shown_behind run commands)) (finds m.shown)
+              (ap (λ found. found ++ map in_order (shown_behind run commands)) (sym (in_order-shown_in_turn (Some run) (IsKept-first (Some run) (longer commands (Some run)) (refl, (commands, refl)) kept_end)))
+              ∙ sym (map-append in_order (shown_in_turn (Some run)) (shown_behind run commands))
+              ∙ ap (map in_order) (sym (shown_in_turn-longer run commands))
+              ∙ in_order-shown_in_turn (longer commands (Some run)) kept_end
+              ∙ ap found_in_turn (sym history)
+              ∙ finds-follow (at_run key docs run) number lines refused) in
+              let own_text : text_with g.goes.answers m.shown ≡ flat_map text_of m.shown =
+              ap (λ found. flat_map text_of (with_answers found m.shown)) (ap (map in_order) all.0 ∙ answers) ∙ ap (flat_map text_of) (with_answers-finds m.shown) in
+              record {
+                status_is = ap status_of well.0;
+                q = ends.q;
+                printed =
+                    ends.printed
+                    ∙ (λ i. append_known (well.3 i) (take ends.q (stop_text (well.0 i))))
+                    ∙ append_known-twice now.written (text_with g.goes.answers m.shown) (take ends.q (stop_text m.end))
+                    ∙ ap (λ text. append_known now.written (text ++ take ends.q (stop_text m.end))) own_text;
+                more = commands;
+                history = history;
+                events = o.greets.events ++ o.passes.events;
+                adds = subst (λ told. Adds now.told told (o.greets.events ++ o.passes.events)) (sym ends.told) (Adds-joined now.told o.greeted end.outside.told o.greets.events o.passes.events o.greets.adds o.passes.adds);
+                kept = ends.kept ∙ kept_on low_status commands behind.1;
+                passed = all.2;
+                stored = all.1;
+              }

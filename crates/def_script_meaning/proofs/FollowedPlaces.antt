@@ -1,0 +1,186 @@
+-- What follows a place of a script: its history begins with that of the place, a line finds no collision that the history
+-- after it hasn't, the answers in its printed lines are what its searches find, and its frames stand after those that were sent.
+use Rattle.std.proofs.Common.{◌≡◌, ◌≤◌, ℕ, ◌+◌, Bool, false, ◌||◌, List, [], ◌∷◌, ◌++◌, length, Some, None, refl, sym, ap, ◌∙◌, subst, arith, append_assoc}
+use Rattle.std.specs.Prelude.{Option, option_map}
+use Rattle.std.proofs.lemmas.List.{append-nil}
+use Rattle.client_registry.proofs.HistoryLaws.{IsFirstOf-same, IsFirstOf-trans, IsFirstOf-before, IsFirstOf-longer, found_in_turn-before, found_in_turn-update, found_in_turn-search}
+use Rattle.client_registry.specs.Command.{Command, Add, Delete, Search}
+use Rattle.client_registry.specs.Histories.{begun_by, IsKept, IsFirstOf, found_in_turn, longer}
+use Rattle.client_registry.specs.Run.{History, at_first}
+use Rattle.client_registry.specs.Setup.{Setup, setup_with}
+use Rattle.keyed_fn.specs.KeyedFn.{KeyedFn}
+use Rattle.sse_frames.specs.Exchange.{searches}
+use Rattle.def_agreement.proofs.NoCollision.{collision_of_first-none, collision_of_next-none}
+use Rattle.sse_model.proofs.ExchangeLaws.{searches-setup, searches_behind-update}
+use Rattle.sse_model.proofs.HistoryLaws.{frames_sent-before, frames_sent-begun, frames_sent-longer, frames_of_next-search, collision_of_next-search}
+use Rattle.sse_model.proofs.Counts.{length-frames_of_setup}
+use Rattle.sse_model.specs.Histories.{frames_sent, frames_of_first, frames_of_next, table_of, HasNoCollision}
+use Rattle.sse_model.specs.Names.{Table, table}
+use Rattle.sse_model.specs.Wire.{frames_of, next_number}
+use Rattle.sse_script.specs.Shown.{Shown, SetUp, Added, Deleted, Found, Resumed, Refused, Stopped}
+use Rattle.script_documents.specs.LineDocument.{document}
+use Rattle.def_script_meaning.specs.Carries.{keys_at, frames_by, collision_cause, clash_in_hand}
+use Rattle.def_script_meaning.specs.Goes.{frames_in_hand, frames_of_last}
+use Rattle.def_script_meaning.specs.Lines as script
+use Rattle.def_script_meaning.specs.Lines.{Line, Empty, Key, Request}
+use Rattle.def_script_meaning.specs.Meaning.{follow, meant_from}
+use Rattle.def_script_meaning.specs.Outcome.{Place, Outcome, Collects, Refuses, SetsUp, Does, opened, outcome, after, shown_by, is_refusal}
+use Rattle.def_script_meaning.proofs.Outcomes.{by_cases}
+
+-- the answers in printed lines
+abbrev pub finds : List Shown → List (List ℕ)
+finds [] = []
+finds (Found ids ∷ shown) = ids ∷ finds shown
+finds (line ∷ shown) = finds shown
+
+pub finds-append : (xs ys : List Shown) → finds (xs ++ ys) ≡ finds xs ++ finds ys
+finds-append [] ys = refl
+finds-append (SetUp words blocks ∷ xs) ys = finds-append xs ys
+finds-append (Added id ∷ xs) ys = finds-append xs ys
+finds-append (Deleted id ∷ xs) ys = finds-append xs ys
+finds-append (Found ids ∷ xs) ys = ap (λ rest. ids ∷ rest) (finds-append xs ys)
+finds-append (Resumed frames ∷ xs) ys = finds-append xs ys
+finds-append (Refused refusal ∷ xs) ys = finds-append xs ys
+finds-append (Stopped cause ∷ xs) ys = finds-append xs ys
+
+-- one command after a history sends at most one frame, and is its last
+one_command : (f : KeyedFn) (keys : ℕ → List ℕ) (h : History) (c : Command) → (commands : List Command) → commands ≡ c ∷ [] → length (frames_of_next f keys h commands) ≤ frames_in_hand (longer commands h)
+one_command f keys h c commands e = subst (λ cs. length (frames_of_next f keys h cs) ≤ frames_in_hand (longer cs h)) (sym e) (by h)
+  where
+    last : (s : Setup) (later : List Command) → 1 ≤ frames_of_last s (later ++ c ∷ [])
+    last s [] = omega arith
+    last s (first ∷ later) = omega arith
+
+    one : (t : Table) (s : Setup) (past : List Command) (c : Command) → length (frames_of t at_first.epoch s (next_number at_first s past) past c ++ []) ≤ 1
+    one t s past (Add d) = omega arith
+    one t s past (Delete id) = omega arith
+    one t s past (Search word) = omega arith
+
+    by : (h : History) → length (frames_of_next f keys h (c ∷ [])) ≤ frames_in_hand (longer (c ∷ []) h)
+    by None = omega arith
+    by (Some run) = omega (arith, one (table_of f keys run) run.setup run.later c, last run.setup run.later)
+
+module _ (place : Place) (line : Request) where
+  abbrev result : Outcome
+  result = outcome place line
+
+  -- One line.
+
+  -- the history after a line begins with the one before it
+  pub first-next : IsFirstOf place.history (after result place).history
+  first-next = by_cases place line (λ r. IsFirstOf place.history (after r place).history) (record {
+    refuses = λ refusal. IsFirstOf-same place.history;
+    collects = λ id words is none e. IsFirstOf-same place.history;
+    sets_up = λ b big pad none e. IsFirstOf-before place.history (begun_by (setup_with place.documents b big pad)) none;
+    adds = λ id words is up e. IsFirstOf-longer place.history _;
+    deletes = λ id is up e. IsFirstOf-longer place.history _;
+    finds = λ word up e. IsFirstOf-longer place.history _;
+  })
+
+  -- what the searches before a line find, and then its own answers, is what those after it find
+  pub finds-next : found_in_turn (after result place).history ≡ found_in_turn place.history ++ finds (shown_by result)
+  finds-next = by_cases place line (λ r. found_in_turn (after r place).history ≡ found_in_turn place.history ++ finds (shown_by r)) (record {
+    refuses = λ refusal. sym (append-nil (found_in_turn place.history));
+    collects = λ id words is none e. sym (append-nil (found_in_turn place.history));
+    sets_up = λ b big pad none e. sym (append-nil (found_in_turn place.history) ∙ found_in_turn-before place.history none);
+    adds = λ id words is up e. found_in_turn-update place.history _ refl ∙ sym (append-nil (found_in_turn place.history));
+    deletes = λ id is up e. found_in_turn-update place.history _ refl ∙ sym (append-nil (found_in_turn place.history));
+    finds = λ word up e. found_in_turn-search place.history word up;
+  })
+
+  -- the frames after a line are those before it, and then its own
+  pub frames-next : (f : KeyedFn) → frames_sent f (keys_at place) (after result place).history ≡ frames_sent f (keys_at place) place.history ++ frames_by f place result
+  frames-next f = by_cases place line (λ r. frames_sent f (keys_at place) (after r place).history ≡ frames_sent f (keys_at place) place.history ++ frames_by f place r) (record {
+    refuses = λ refusal. sym (append-nil (frames_sent f (keys_at place) place.history));
+    collects = λ id words is none e. sym (append-nil (frames_sent f (keys_at place) place.history));
+    sets_up = λ b big pad none e.
+        frames_sent-begun f (keys_at place) (setup_with place.documents b big pad)
+        ∙ ap (λ frames. frames ++ frames_of_first f (keys_at place) (setup_with place.documents b big pad)) (sym (frames_sent-before f (keys_at place) place.history none));
+    adds = λ id words is up e. frames_sent-longer f (keys_at place) place.history _;
+    deletes = λ id is up e. frames_sent-longer f (keys_at place) place.history _;
+    finds = λ word up e. frames_sent-longer f (keys_at place) place.history _;
+  })
+
+  -- and are at most those of the history's last command
+  pub few-next : (f : KeyedFn) → length (frames_by f place result) ≤ frames_in_hand (after result place).history
+  few-next f = by_cases place line (λ r. length (frames_by f place r) ≤ frames_in_hand (after r place).history) (record {
+    refuses = λ refusal. omega arith;
+    collects = λ id words is none e. omega arith;
+    sets_up = λ b big pad none e. omega (arith, length-frames_of_setup (table f (setup_with place.documents b big pad).shape (keys_at place)) at_first (setup_with place.documents b big pad));
+    adds = λ id words is up e. one_command f (keys_at place) place.history _ _ refl;
+    deletes = λ id is up e. one_command f (keys_at place) place.history _ _ refl;
+    finds = λ word up e. one_command f (keys_at place) place.history _ _ refl;
+  })
+
+  -- a line sends as many searches as it prints answers
+  pub searches-next : (f : KeyedFn) → searches (frames_by f place result) ≡ length (finds (shown_by result))
+  searches-next f = by_cases place line (λ r. searches (frames_by f place r) ≡ length (finds (shown_by r))) (record {
+    refuses = λ refusal. refl;
+    collects = λ id words is none e. refl;
+    sets_up = λ b big pad none e. searches-setup _ at_first (setup_with place.documents b big pad);
+    adds = λ id words is up e. searches_behind-update f (keys_at place) place.history _ refl;
+    deletes = λ id is up e. searches_behind-update f (keys_at place) place.history _ refl;
+    finds = λ word up e. ap searches (frames_of_next-search f (keys_at place) place.history word up);
+  })
+
+-- where the history after a line keeps the limits and has no collision, there is none in hand
+pub no_clash-next : (f : KeyedFn) (place : Place) (line : Request) → IsKept (after (outcome place line) place).history → HasNoCollision f (keys_at place) (after (outcome place line) place).history
+    → clash_in_hand f place (outcome place line) ≡ None
+no_clash-next f place line = by_cases place line (λ r. IsKept (after r place).history → HasNoCollision f (keys_at place) (after r place).history → clash_in_hand f place r ≡ None) (record {
+  refuses = λ refusal kept free. refl;
+  collects = λ id words is none e kept free. refl;
+  sets_up = λ b big pad none e kept free.
+      ap (option_map collision_cause) (collision_of_first-none f (keys_at place) (setup_with place.documents b big pad) free);
+  adds = λ id words is up e kept free. ap (option_map collision_cause) (collision_of_next-none f (keys_at place) place.history (Add (document id words)) kept free);
+  deletes = λ id is up e kept free. ap (option_map collision_cause) (collision_of_next-none f (keys_at place) place.history (Delete id) kept free);
+  finds = λ word up e kept free. ap (option_map collision_cause) (collision_of_next-search f (keys_at place) place.history word);
+})
+
+-- no line changes the key
+pub after-key : (result : Outcome) (place : Place) → (after result place).key ≡ place.key
+after-key (Collects d) place = refl
+after-key (Refuses refusal) place = refl
+after-key (SetsUp s) place = refl
+after-key (Does commands shown) place = refl
+
+-- All lines.
+
+pub follow-key : (place : Place) (number : ℕ) (lines : List (Option Line)) (refused : Bool) → (follow place number lines refused).key ≡ Some place.key
+follow-key place number [] refused = refl
+follow-key place number (None ∷ lines) refused = refl
+follow-key place number (Some Empty ∷ lines) refused = follow-key place (number + 1) lines refused
+follow-key place number (Some (Key key) ∷ lines) refused = refl
+follow-key place number (Some (script.Command line) ∷ lines) refused =
+    let r = outcome place line in
+    follow-key (after r place) (number + 1) lines (refused || is_refusal r) ∙ ap (λ k. Some k) (after-key r place)
+
+pub first-follow : (place : Place) (number : ℕ) (lines : List (Option Line)) (refused : Bool) → IsFirstOf place.history (follow place number lines refused).history
+first-follow place number [] refused = IsFirstOf-same place.history
+first-follow place number (None ∷ lines) refused = IsFirstOf-same place.history
+first-follow place number (Some Empty ∷ lines) refused = first-follow place (number + 1) lines refused
+first-follow place number (Some (Key key) ∷ lines) refused = IsFirstOf-same place.history
+first-follow place number (Some (script.Command line) ∷ lines) refused =
+    let next = after (outcome place line) place in
+    IsFirstOf-trans place.history next.history _ (first-next place line) (first-follow next (number + 1) lines (refused || is_refusal (outcome place line)))
+
+pub finds-follow : (place : Place) (number : ℕ) (lines : List (Option Line)) (refused : Bool)
+    → found_in_turn (follow place number lines refused).history ≡ found_in_turn place.history ++ finds (follow place number lines refused).shown
+finds-follow place number [] refused = sym (append-nil (found_in_turn place.history))
+finds-follow place number (None ∷ lines) refused = sym (append-nil (found_in_turn place.history))
+finds-follow place number (Some Empty ∷ lines) refused = finds-follow place (number + 1) lines refused
+finds-follow place number (Some (Key key) ∷ lines) refused = sym (append-nil (found_in_turn place.history))
+finds-follow place number (Some (script.Command line) ∷ lines) refused =
+    let r = outcome place line in
+    let rest = follow (after r place) (number + 1) lines (refused || is_refusal r) in
+    finds-follow (after r place) (number + 1) lines (refused || is_refusal r)
+    ∙ ap (λ found. found ++ finds rest.shown) (finds-next place line)
+    ∙ append_assoc (found_in_turn place.history) (finds (shown_by r)) (finds rest.shown)
+    ∙ ap (λ found. found_in_turn place.history ++ found) (sym (finds-append (shown_by r) rest.shown))
+
+-- the answers in the printed lines of a script are what the searches of its history find
+pub finds-meant : (number : ℕ) (lines : List (Option Line)) → found_in_turn (meant_from number lines).history ≡ finds (meant_from number lines).shown
+finds-meant number [] = refl
+finds-meant number (None ∷ lines) = refl
+finds-meant number (Some Empty ∷ lines) = finds-meant (number + 1) lines
+finds-meant number (Some (Key key) ∷ lines) = finds-follow (opened key) (number + 1) lines false
+finds-meant number (Some (script.Command line) ∷ lines) = refl

@@ -1,0 +1,212 @@
+-- Two sessions of one history. What a whole run leaves, where nothing disturbed it, is what a run supposes that goes on: its records open
+-- to its history without the searches, and its server took all frames of that. And the second session is the history's after the first.
+use Rattle.std.proofs.Common.{◌≡◌, ℕ, List, [], ◌∷◌, ◌++◌, length, map, take, drop, filter, Option, Some, None, refl, sym, ap, ◌∙◌, arith}
+use Rattle.std.specs.Prelude.{flat_map}
+use Rattle.std.specs.Option.{option_map_or}
+use Rattle.std.proofs.Math.Seq.{drop-append_seam, take-length}
+use Rattle.std.proofs.lemmas.List.{drop-map, length-take, map-append}
+use Rattle.std.proofs.lemmas.List.Elements.{filter-append}
+use Rattle.client_records.proofs.RecordedLaws.{opens-records}
+use Rattle.client_records.specs.Openings.{Opens}
+use Rattle.client_registry.proofs.LiveLaws.{shown-updates}
+use Rattle.client_registry.specs.Command.{Command, Add, Delete, Search, is_update}
+use Rattle.client_registry.specs.Histories.{IsKept, longer, shown_by, shown_in_turn}
+use Rattle.client_registry.specs.Live.{shown}
+use Rattle.client_registry.specs.Over.{over}
+use Rattle.client_registry.specs.Run.{History, Run, at_first}
+use Rattle.client_registry.specs.Sized.{update_frames}
+use Rattle.keyed_fn.specs.KeyFormulas.{mark_of}
+use Rattle.keyed_fn.specs.KeyedFn.{KeyedFn, IsKeyedFn}
+use Rattle.server_core.proofs.Laws.{steps-append}
+use Rattle.server_core.specs.Refusal.{refusal}
+use Rattle.server_core.specs.State.{ServerState}
+use Rattle.server_core.specs.Step.{answers, step, steps}
+use Rattle.def_agreement.proofs.Histories.{history_held}
+use Rattle.def_agreement.specs.Agreement.{shown_behind}
+use Rattle.def_agreement.specs.TakenFrames.{Expects}
+use Rattle.sse_frames.specs.Exchange.{exchange, greeting}
+use Rattle.sse_frames.specs.Frames.{FrameText, Hello, SetupBegin, SetupDict, SetupArray, SetupEnd, AddFrame, DeleteFrame, SearchFrame}
+use Rattle.sse_frames.specs.Replies.{ReplyText}
+use Rattle.sse_model.proofs.ExchangeLaws.{exchange-append, searches-sent, session-exchange}
+use Rattle.sse_model.proofs.HistoryLaws.{frames_sent-longer}
+use Rattle.sse_model.proofs.Prefixes.{frames_by}
+use Rattle.sse_model.proofs.Updates.{frames-updates, frames_of-updates, is_no_search, next_number-updates}
+use Rattle.sse_model.specs.Epochs.{keys_under}
+use Rattle.sse_model.specs.Histories.{HasNoCollision, table_of}
+use Rattle.sse_model.specs.Wire.{frames_of, next_number}
+use Rattle.def_script_meaning.specs.Carries.{Outside}
+use Rattle.def_script_meaning.specs.Continues.{frames_since}
+use Rattle.def_script_meaning.specs.Exchange.{as_event, bare}
+use Rattle.def_script_meaning.specs.Headline.{Headline}
+use Rattle.def_script_meaning.specs.Joined.{updates_of, IsOneSession}
+use Rattle.def_script_meaning.specs.Meaning.{Meaning}
+use Rattle.def_script_meaning.specs.Recorded.{records_in}
+use Rattle.def_script_meaning.specs.Rejoins.{frames_under, HasTaken, Rejoined}
+use Rattle.def_script_meaning.specs.Session.{session_with}
+use Rattle.def_script_meaning.proofs.ContinuedSessions.{shown_in_turn-longer}
+use Rattle.def_script_meaning.proofs.RejoinedSessions.{length-frames_under}
+use Rattle.def_script_meaning.proofs.Simulated.{session_with-simulated}
+
+-- The server.
+
+-- a search leaves it as it was
+unchanged : (s : ServerState) (o : Option ReplyText) (replies : List ReplyText) → (option_map_or {U = ServerState × List ReplyText} (λ reply. (s, reply ∷ [])) o (s, replies)).0 ≡ s
+unchanged s None replies = refl
+unchanged s (Some reply) replies = refl
+
+-- so it comes to the same without the searches among its frames
+pub steps-updates : (f : KeyedFn) (s : ServerState) (frames : List FrameText) → (steps f s (filter is_no_search frames)).0 ≡ (steps f s frames).0
+steps-updates f s [] = refl
+steps-updates f s (Hello ∷ frames) = steps-updates f (step f s Hello).0 frames
+steps-updates f s (SetupBegin q b big m a ∷ frames) = steps-updates f (step f s (SetupBegin q b big m a)).0 frames
+steps-updates f s (SetupDict q width entries ∷ frames) = steps-updates f (step f s (SetupDict q width entries)).0 frames
+steps-updates f s (SetupArray q width blocks ∷ frames) = steps-updates f (step f s (SetupArray q width blocks)).0 frames
+steps-updates f s (SetupEnd q ∷ frames) = steps-updates f (step f s (SetupEnd q)).0 frames
+steps-updates f s (AddFrame q entries numbers ∷ frames) = steps-updates f (step f s (AddFrame q entries numbers)).0 frames
+steps-updates f s (DeleteFrame q numbers ∷ frames) = steps-updates f (step f s (DeleteFrame q numbers)).0 frames
+steps-updates f s (SearchFrame token ∷ frames) =
+    steps-updates f s frames ∙ ap (λ state. (steps f state frames).0) (sym (unchanged s (refusal s (SearchFrame token)) (answers f s (SearchFrame token))))
+
+pub updates_again : (cs : List Command) → filter is_update (filter is_update cs) ≡ filter is_update cs
+updates_again [] = refl
+updates_again (Add d ∷ cs) = ap (λ (rest : List Command). Add d ∷ rest) (updates_again cs)
+updates_again (Delete id ∷ cs) = ap (λ (rest : List Command). Delete id ∷ rest) (updates_again cs)
+updates_again (Search word ∷ cs) = updates_again cs
+
+module _ (f : KeyedFn) (key : List ℕ) (run : Run) where
+  abbrev keys : ℕ → List ℕ
+  keys = keys_under key (Some run)
+
+  -- the frames of a run's updates are those of the run that are no search's
+  pub frames_alone : frames_under f key (Some (updates_of run)) ≡ filter is_no_search (frames_under f key (Some run))
+  frames_alone = frames-updates (table_of f keys run) at_first run.setup run.later
+
+  pub count_alone : update_frames (updates_of run) ≡ update_frames run
+  count_alone = omega (arith, ap length (updates_again run.later))
+
+  -- Promise P147, also here
+  -- a server that was sent all frames of a history took all those of its updates
+  pub took_all : IsKeyedFn f → (start behind : ServerState) → IsKept (Some run) → HasNoCollision f keys (Some run) → Expects 0 start → behind ≡ (steps f start (frames_under f key (Some run))).0
+      → HasTaken f key (updates_of run) (update_frames run) behind
+  took_all laws start behind kept free expects stored =
+      let alone = frames_under f key (Some (updates_of run)) in
+      let count : length alone ≡ update_frames run = length-frames_under f key (updates_of run) (updates_again run.later) ∙ count_alone in
+      record {
+        start = start;
+        expects = expects;
+        within = omega (arith, count_alone);
+        sent =
+            stored
+            ∙ sym (steps-updates f start (frames_under f key (Some run)))
+            ∙ ap (λ fs. (steps f start fs).0) (sym frames_alone ∙ sym (take-length alone) ∙ ap (λ n. take n alone) count);
+        number = omega (arith, ap (λ (s : ServerState). s.next) stored, (history_held f keys run start laws kept free expects).next);
+      }
+
+-- Frames and answers behind a run.
+
+module _ (f : KeyedFn) (key : List ℕ) (run : Run) where
+  one_more : (past alone : List Command) (c : Command) → filter is_update past ≡ filter is_update alone → filter is_update (past ++ c ∷ []) ≡ filter is_update (alone ++ c ∷ [])
+  one_more past alone c same = filter-append is_update past (c ∷ []) ∙ ap (λ cs. cs ++ filter is_update (c ∷ [])) same ∙ sym (filter-append is_update alone (c ∷ []))
+
+  later_frames : (past alone more : List Command) → filter is_update past ≡ filter is_update alone
+      → flat_map (λ fs. fs) (over (frames_by (table_of f (keys_under key (Some run)) run) at_first run.setup) past more)
+      ≡ flat_map (λ fs. fs) (over (frames_by (table_of f (keys_under key (Some run)) run) at_first run.setup) alone more)
+  later_frames past alone [] same = refl
+  later_frames past alone (c ∷ more) same =
+      let t = table_of f (keys_under key (Some run)) run in
+      let by : (cs : List Command) → frames_by t at_first run.setup (filter is_update cs) c ≡ frames_by t at_first run.setup cs c =
+      λ cs. ap (λ q. frames_of t at_first.epoch run.setup q (filter is_update cs) c) (next_number-updates at_first run.setup cs) ∙ frames_of-updates t at_first.epoch run.setup (next_number at_first run.setup cs) cs c in
+      λ i. (sym (by past) ∙ ap (λ cs. frames_by t at_first run.setup cs c) same ∙ by alone) i ++ later_frames (past ++ c ∷ []) (alone ++ c ∷ []) more (one_more past alone c same) i
+
+  later_shown : (past alone more : List Command) → filter is_update past ≡ filter is_update alone
+      → flat_map (λ r. r) (over (shown_by run.setup) past more) ≡ flat_map (λ r. r) (over (shown_by run.setup) alone more)
+  later_shown past alone [] same = refl
+  later_shown past alone (Add d ∷ more) same = later_shown (past ++ Add d ∷ []) (alone ++ Add d ∷ []) more (one_more past alone (Add d) same)
+  later_shown past alone (Delete id ∷ more) same = later_shown (past ++ Delete id ∷ []) (alone ++ Delete id ∷ []) more (one_more past alone (Delete id) same)
+  later_shown past alone (Search word ∷ more) same = λ i.
+      (sym (shown-updates run.setup past word) ∙ ap (λ cs. shown run.setup cs word) same ∙ shown-updates run.setup alone word) i
+      ∷ later_shown (past ++ Search word ∷ []) (alone ++ Search word ∷ []) more (one_more past alone (Search word) same) i
+
+  pub frames_since-updates : (more : List Command) → frames_since f key (updates_of run) more ≡ frames_since f key run more
+  frames_since-updates more = later_frames (filter is_update run.later) run.later more (updates_again run.later)
+
+  pub shown_behind-updates : (more : List Command) → shown_behind (updates_of run) more ≡ shown_behind run more
+  shown_behind-updates more = later_shown (filter is_update run.later) run.later more (updates_again run.later)
+
+-- Both sessions.
+
+module _ (f : KeyedFn) (key : List ℕ) (run : Run) (start : ServerState) (m n : Meaning) (now last now' last' : Outside) (status status' : ℕ) (between behind : ServerState)
+    (key_is : m.key ≡ Some key) (run_is : m.history ≡ Some run) (first : Headline f start m now last status between)
+    (second : Rejoined f start key (updates_of run) (update_frames run) n now' last' status' behind) where
+  abbrev more : List Command
+  more = second.more
+
+  abbrev whole : History
+  whole = longer more (Some run)
+
+  abbrev alone : List FrameText
+  alone = frames_under f key (Some (updates_of run))
+
+  -- the frames of the second session are those behind all of the first
+  frames_behind : drop (update_frames run) (frames_under f key n.history) ≡ frames_since f key run more
+  frames_behind =
+      let keys = keys_under key (Some run) in
+      let count : length alone ≡ update_frames run = length-frames_under f key (updates_of run) (updates_again run.later) ∙ count_alone f key run in
+      ap (λ h. drop (update_frames run) (frames_under f key h)) second.history
+      ∙ ap (drop (update_frames run)) (frames_sent-longer f keys (Some (updates_of run)) more)
+      ∙ ap (λ n. drop n (alone ++ frames_since f key (updates_of run) more)) (sym count)
+      ∙ drop-append_seam alone (frames_since f key (updates_of run) more)
+      ∙ frames_since-updates f key run more
+
+  passed_second : map bare (drop 2 second.events) ≡ map as_event (exchange (shown_behind run more) (frames_since f key run more))
+  passed_second =
+      sym (drop-map bare 2 second.events)
+      ∙ ap (drop 2) second.passed
+      ∙ (λ i. map as_event (exchange (shown_behind-updates f key run more i) (frames_behind i)))
+
+  passed_first : map bare first.events ≡ map as_event (greeting 0 ++ exchange (shown_in_turn (Some run)) (frames_under f key (Some run)))
+  passed_first =
+      first.session
+      ∙ (λ i. map as_event (session_with f (key_is i) (run_is i)))
+      ∙ ap (map as_event) (session-exchange f (keys_under key (Some run)) (Some run))
+
+  one : map bare (first.events ++ drop 2 second.events) ≡ map as_event (session_with f (Some key) whole)
+  one =
+      let keys = keys_under key (Some run) in
+      let xs = frames_under f key (Some run) in
+      let ys = frames_since f key run more in
+      let a = shown_in_turn (Some run) in
+      let b = shown_behind run more in
+      map-append bare first.events (drop 2 second.events)
+      ∙ (λ i. passed_first i ++ passed_second i)
+      ∙ sym (map-append as_event (greeting 0 ++ exchange a xs) (exchange b ys))
+      ∙ ap (λ passed. map as_event (greeting 0 ++ passed)) (sym (exchange-append xs ys a b (sym (searches-sent f keys (Some run)))))
+      ∙ (λ i. map as_event (greeting 0 ++ exchange (sym (shown_in_turn-longer run more) i) (sym (frames_sent-longer f keys (Some run) more) i)))
+      ∙ ap (map as_event) (sym (session-exchange f keys whole))
+
+  -- Promise P147, also here
+  -- are one session of the history with the searches of the first
+  pub one_session : IsKept whole → IsOneSession f start key run more first.events second.events behind
+  one_session kept = record {
+    session = one;
+    passed = session_with f (Some key) whole;
+    made = session_with-simulated f (Some key) whole kept;
+    same = one;
+    stored =
+        second.stored
+        ∙ ap (λ h. (steps f start (frames_under f key h)).0) second.history
+        ∙ ap (λ fs. (steps f start fs).0) (frames_sent-longer f (keys_under key (Some run)) (Some (updates_of run)) more)
+        ∙ ap (λ r. r.0) (steps-append f start alone (frames_since f key (updates_of run) more))
+        ∙ (λ i. (steps f (took_same i) (frames_since-updates f key run more i)).0)
+        ∙ sym (ap (λ r. r.0) (steps-append f start (frames_under f key (Some run)) (frames_since f key run more)))
+        ∙ ap (λ fs. (steps f start fs).0) (sym (frames_sent-longer f (keys_under key (Some run)) (Some run) more));
+  }
+    where
+      took_same : (steps f start alone).0 ≡ (steps f start (frames_under f key (Some run))).0
+      took_same = ap (λ fs. (steps f start fs).0) (frames_alone f key run) ∙ steps-updates f start (frames_under f key (Some run))
+
+-- What the records of the first session open to.
+
+-- Promise P147, also here
+pub opened_by : (f : KeyedFn) (key : List ℕ) (run : Run) → IsKeyedFn f → IsKept (Some run) → Opens (mark_of f key) (records_in f key (Some run)) (updates_of run)
+opened_by f key run laws kept = opens-records (mark_of f key) (Some run) (omega (arith, length-take 16 (f.prf key (7 ∷ [])), laws.prf_length key (7 ∷ []))) kept

@@ -1,0 +1,24 @@
+mod Rows
+pub mod Steps
+pub mod Outcomes
+pub mod Kept
+pub mod Within
+pub mod FollowedPlaces
+pub mod GoneAsMeant
+pub mod RunGoes
+pub mod Honest
+pub mod PartsLeft
+pub mod Sent
+pub mod Simulated
+pub mod Recorded
+pub mod Headline
+pub mod ContinuedSessions
+pub mod RejoinedSessions
+pub mod Stepped
+pub mod JoinedSessions
+pub mod LeftServers
+mod RunRows
+mod UpdateRows
+mod ContinuedRows
+mod ClashRows
+pub mod RecordedBehind

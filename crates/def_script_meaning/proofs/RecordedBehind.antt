@@ -1,0 +1,135 @@
+-- The records that are kept of a run that goes on after a history and the frames that it sends are of one history after it.
+use Rattle.std.proofs.Common.{◌≡◌, ℕ, suc, ◌+◌, ◌≤◌, inl, inr, false, List, [], ◌∷◌, ◌++◌, length, map, take, drop, Some, refl, sym, ap, ◌∙◌, subst, arith, length-append}
+use Rattle.std.specs.Prelude.{Option}
+use Rattle.std.proofs.Math.Seq.{take-append-add, take-length}
+use Rattle.std.proofs.lemmas.List.{append-nil, drop-append-le, map-append}
+use Rattle.client_registry.proofs.HistoryLaws.{IsFirstOf-same}
+use Rattle.client_registry.specs.Histories.{IsFirstOf}
+use Rattle.client_registry.specs.Run.{Run}
+use Rattle.keyed_fn.specs.KeyedFn.{KeyedFn}
+use Rattle.def_link_events.specs.Events.{Event}
+use Rattle.sse_frames.specs.Frames.{FrameText, Hello, frame_bytes}
+use Rattle.def_script_meaning.specs.Carries.{Outside}
+use Rattle.def_script_meaning.specs.Continues.{at_run}
+use Rattle.def_script_meaning.specs.Exchange.{Told, Adds, sent_in}
+use Rattle.def_script_meaning.specs.Lines.{Line}
+use Rattle.def_script_meaning.specs.Recorded.{KeepsFirst, records_in}
+use Rattle.def_script_meaning.specs.Rejoins.{HasCaughtUp, HasSent, IsRecordedBehind, Rejoins, StopsShort, StopsUntold, frames_under, lacking}
+use Rattle.def_script_meaning.specs.Runs.{Ended, IsGreeted, IsTurnedAway, Runs}
+use Rattle.def_script_meaning.specs.Stops.{status_of}
+use Rattle.def_script_meaning.proofs.GoneAsMeant.{Adds-joined, Adds-nothing, Keeps-nothing, front_more}
+use Rattle.def_script_meaning.proofs.Recorded.{KeptSince, kept_since, sent_in-cut_short, sent_in-exchanged}
+use Rattle.def_script_meaning.proofs.Sent.{sent_in-append, sent_in-bare, sent_in-turned}
+
+module _ (f : KeyedFn) (key : List ℕ) (run : Run) (low high number : ℕ) (lines : List (Option Line)) (now : Outside) (end : Ended) where
+  abbrev own : List FrameText
+  own = frames_under f key (Some run)
+
+  -- a run that took no record and sent the first of these
+  none_taken : end.key ≡ Some key → end.history ≡ Some run → end.outside.kept ≡ now.kept → (next : ℕ) (events : List Event) → Adds now.told end.outside.told events
+      → (count : ℕ) → sent_in events ≡ map frame_bytes (take count (Hello ∷ drop next own)) → IsRecordedBehind f key run now end
+  none_taken same_key history unkept next events adds count sent = record {
+    same_key = same_key;
+    held = Some run;
+    since = IsFirstOf-same (Some run);
+    first = subst (λ h. IsFirstOf (Some run) h) (sym history) (IsFirstOf-same (Some run));
+    taken = [];
+    taken_are = sym (append-nil (records_in f key (Some run)));
+    all = [];
+    all_are = ap (records_in f key) history ∙ sym (append-nil (records_in f key (Some run)));
+    kept = inl (unkept ∙ Keeps-nothing now.kept);
+    most = omega arith;
+    next = next;
+    events = events;
+    adds = adds;
+    count = count;
+    sent = sent;
+    whole = λ disk memory clash. sym history;
+  }
+
+  away : IsTurnedAway low high key (Some run) now end → IsRecordedBehind f key run now end
+  away a =
+      let turned = sent_in-turned low high a.away.events a.cause a.away.turned in
+      let more = front_more turned.0 (Hello ∷ []) (drop 0 own) in
+      none_taken a.same_key a.history a.unkept 0 a.away.events a.away.adds more.0 (turned.1 ∙ ap (map frame_bytes) (sym more.1))
+
+  -- Behind the greeting.
+
+  module _ (greeted : Outside) (g : IsGreeted low high now greeted) where
+    abbrev next : ℕ
+    next = g.greets.next
+
+    abbrev left : List FrameText
+    left = lacking f key run next
+
+    -- Hello, and then what was sent behind it
+    behind : (events : List Event) (frames : List FrameText) → sent_in events ≡ map frame_bytes frames → sent_in (g.greets.events ++ events) ≡ map frame_bytes (Hello ∷ frames)
+    behind events frames sent =
+        sent_in-append g.greets.events events
+        ∙ (λ i. (sym (sent_in-bare g.greets.events) ∙ ap sent_in g.greets.each) i ++ sent i)
+
+    joined : (events : List Event) → Adds greeted.told end.outside.told events → Adds now.told end.outside.told (g.greets.events ++ events)
+    joined events adds = Adds-joined now.told greeted.told end.outside.told g.greets.events events g.greets.adds adds
+
+    -- so many of the frames that the server lacks
+    lacking_sent : end.key ≡ Some key → end.history ≡ Some run → end.outside.kept ≡ now.kept → (events : List Event) → Adds greeted.told end.outside.told events
+        → (count : ℕ) → sent_in events ≡ map frame_bytes (take count left) → IsRecordedBehind f key run now end
+    lacking_sent same_key history unkept events adds count sent = none_taken same_key history unkept next (g.greets.events ++ events) (joined events adds) (suc count) (behind events (take count left) sent)
+
+    short : StopsShort f left key run greeted end → IsRecordedBehind f key run now end
+    short s = elim s.short [
+      | inl (events, adds, cut) ↦
+          let sent = sent_in-cut_short left events s.cause cut in
+          lacking_sent s.same_key s.history (s.unkept ∙ g.unkept) events adds sent.0 sent.1
+      | inr (same, why, free) ↦ lacking_sent s.same_key s.history (s.unkept ∙ g.unkept) [] (same ∙ Adds-nothing greeted.told) 0 refl
+    ]
+
+    -- all of them
+    whole_sent : (old new : Told) (h : HasSent left old new) → sent_in h.events ≡ map frame_bytes left
+    whole_sent old new h = sent_in-exchanged [] left h.events h.exchanged
+
+    untold : StopsUntold left key run greeted end → IsRecordedBehind f key run now end
+    untold u =
+        lacking_sent u.same_key u.history (u.unkept ∙ g.unkept) u.sent.events u.sent.adds (length left)
+        (whole_sent greeted.told end.outside.told u.sent ∙ ap (map frame_bytes) (sym (take-length left)))
+
+    -- and the lines behind
+    module _ (few : high ≤ length own) (later : Outside) (caught : HasCaughtUp left greeted later) (runs : Runs f (at_run key [] run) number lines false later end) where
+      abbrev w : KeptSince f key (Some run) later end
+      w = kept_since f (at_run key [] run) number lines false later end runs
+
+      frames_is : drop next (frames_under f key w.held) ≡ left ++ w.more
+      frames_is = ap (drop next) w.frames ∙ drop-append-le next own w.more (omega (arith, few, g.greets.most))
+
+      went_on : IsRecordedBehind f key run now end
+      went_on = record {
+        same_key = w.same_key;
+        held = w.held;
+        since = w.since;
+        first = w.first;
+        taken = w.records;
+        taken_are = w.are;
+        all = w.all;
+        all_are = w.all_are;
+        kept = subst (λ kept. KeepsFirst w.all w.records (status_of end.stop) kept end.outside.kept) (caught.unkept ∙ g.unkept) w.kept;
+        most = omega (arith, w.most, ap length w.are, ap length w.all_are, length-append (records_in f key (Some run)) w.records, length-append (records_in f key (Some run)) w.all);
+        next = next;
+        events = g.greets.events ++ (caught.sent.events ++ w.events);
+        adds = joined (caught.sent.events ++ w.events) (Adds-joined greeted.told later.told end.outside.told caught.sent.events w.events caught.sent.adds w.adds);
+        count = suc (length left + w.count);
+        sent =
+            behind (caught.sent.events ++ w.events) (take (length left + w.count) (left ++ w.more))
+            (sent_in-append caught.sent.events w.events
+            ∙ (λ i. whole_sent greeted.told later.told caught.sent i ++ w.sent i)
+            ∙ sym (map-append frame_bytes left (take w.count w.more))
+            ∙ ap (map frame_bytes) (sym (take-append-add left w.more w.count)))
+            ∙ ap (λ frames. map frame_bytes (Hello ∷ take (length left + w.count) frames)) (sym frames_is);
+        whole = w.whole;
+      }
+
+  -- of a server that expects no number behind the history's frames
+  pub recorded_behind : high ≤ length own → Rejoins f low high key run number lines now end → IsRecordedBehind f key run now end
+  recorded_behind few (inl a) = away a
+  recorded_behind few (inr (greeted, g, inl s)) = short greeted g s
+  recorded_behind few (inr (greeted, g, inr (inl u))) = untold greeted g u
+  recorded_behind few (inr (greeted, g, inr (inr (later, caught, runs)))) = went_on greeted g few later caught runs

@@ -1,0 +1,424 @@
+-- A session that goes on after a run with a server that took the first of its frames: over an honest link no collision and no reply
+-- stops it where the history up to its stop has no collision; and where nothing stopped it from outside either, it sent what the
+-- server lacked and did what its lines mean.
+use Rattle.std.proofs.Common.{◌≡◌, ◌⊎◌, ℕ, zero, suc, ◌+◌, false, ◌^◌, ◌<◌, ◌≤◌, inl, inr, List, [], ◌∷◌, ◌++◌, length, map, take, drop, Some, refl, sym, ap, ◌∙◌, subst, arith, append_assoc, length-append}
+use Rattle.std.specs.Prelude.{filter, flat_map, Option}
+use Rattle.std.specs.Io.KnownBytes.{append_known}
+use Rattle.std.specs.List.{AllByRecursion}
+use Rattle.std.proofs.Math.Seq.{take-add}
+use Rattle.std.proofs.lemmas.List.{append-nil, append_cancel_left, drop-append-le, length-drop, take-append-drop, take-append-le}
+use Rattle.client_records.specs.Recorded.{recorded}
+use Rattle.client_registry.proofs.HistoryLaws.{IsFirstOf-same, IsKept-first}
+use Rattle.client_registry.specs.Command.{Command, Add, Delete, Search, is_update}
+use Rattle.client_registry.specs.Histories.{IsKept, IsFirstOf, longer, shown_by, shown_in_turn, found_in_turn}
+use Rattle.client_registry.specs.Live.{in_order}
+use Rattle.client_registry.specs.Over.{over}
+use Rattle.client_registry.specs.Run.{Run, History, at_first}
+use Rattle.client_registry.specs.Setup.{Setup}
+use Rattle.client_registry.specs.Sized.{update_frames}
+use Rattle.keyed_fn.specs.KeyedFn.{KeyedFn, IsKeyedFn}
+use Rattle.def_link_events.specs.Events.{Event}
+use Rattle.def_link_events.specs.Served.{IsServed, idle}
+use Rattle.server_core.proofs.Laws.{steps-append}
+use Rattle.server_core.specs.State.{ServerState}
+use Rattle.server_core.specs.Step.{step, steps}
+use Rattle.def_agreement.proofs.Histories.{in_order-shown_in_turn}
+use Rattle.def_agreement.specs.Agreement.{shown_behind}
+use Rattle.sse_frames.specs.Exchange.{Asked, ForNext, ForTook, ForAnswer, answers_behind, answers_to, asked, exchange, greeting, replied, searches}
+use Rattle.sse_frames.specs.Frames.{FrameText}
+use Rattle.sse_model.proofs.Counts.{length-frames_of_setup}
+use Rattle.sse_model.proofs.ExchangeLaws.{searches-append, searches-sent}
+use Rattle.sse_model.proofs.HistoryLaws.{frames_sent-longer}
+use Rattle.sse_model.proofs.Prefixes.{frames_by}
+use Rattle.sse_model.specs.Epochs.{keys_under}
+use Rattle.sse_model.specs.Histories.{frames_sent, HasNoCollision, table_of}
+use Rattle.sse_model.specs.Wire.{frames_of_setup}
+use Rattle.sse_outside.proofs.Known.{append_known-twice}
+use Rattle.sse_script.specs.Shown.{NoMemory, Resumed}
+use Rattle.sse_script.specs.Stops.{cause_status}
+use Rattle.sse_script.specs.Texts.{text_of}
+use Rattle.sse_outside.specs.Kept.{with_records}
+use Rattle.def_script_meaning.specs.Carries.{Keeps, Outside, text_with, with_answers}
+use Rattle.def_script_meaning.specs.Continues.{at_run, frames_since}
+use Rattle.def_script_meaning.specs.Exchange.{Adds, as_event}
+use Rattle.def_script_meaning.specs.Goes.{frames_in_hand, Passes, IsOpened, HasPassed}
+use Rattle.def_script_meaning.specs.Headline.{IsOverHonest, IsUndisturbed}
+use Rattle.def_script_meaning.specs.Lines.{Line}
+use Rattle.def_script_meaning.specs.Meaning.{Meaning, follow}
+use Rattle.def_script_meaning.specs.Recorded.{records_in}
+use Rattle.def_script_meaning.specs.Rejoins.{frames_under, HasTaken, lacking, StopsShort, StopsUntold, HasCaughtUp, Rejoins, Rejoined}
+use Rattle.def_script_meaning.specs.Runs.{Ended, Ends, IsGreeted, Runs}
+use Rattle.def_script_meaning.specs.Session.{IsFree}
+use Rattle.def_script_meaning.specs.Stops.{SinkFault, At, status_of, stop_text}
+use Rattle.def_script_meaning.proofs.ContinuedSessions.{no_commands, since, shown_in_turn-longer}
+use Rattle.def_script_meaning.proofs.FollowedPlaces.{finds, finds-follow, first-follow, follow-key}
+use Rattle.def_script_meaning.proofs.GoneAsMeant.{Adds-joined, Adds-nothing, AreExchanged-none, Passes-behind, Passes-none}
+use Rattle.def_script_meaning.proofs.Headline.{AreAnswered, history_is_answered, session_left, session_outside, session_whole, opened_over, same_events, with_answers-finds, few, IsFree-first}
+use Rattle.def_script_meaning.proofs.Kept.{IsWithinItem, IsKeptAt, kept_follow}
+use Rattle.def_script_meaning.proofs.Recorded.{KeepsFirst-all, records-longer, kept_since}
+use Rattle.def_script_meaning.proofs.RunGoes.{Passes-cut, clash_status, cut_status, turned_status, Went, went}
+
+-- After some frames of which none is a search.
+
+no_answer : (asks : Asked) (answers : List (List ℕ)) → answers_to asks ≡ 0 → answers_behind asks answers ≡ answers
+no_answer ForNext answers none = refl
+no_answer (ForTook q) answers none = refl
+no_answer ForAnswer answers none = absurd (omega (arith, none))
+
+-- a server that was sent them answers the others as it answers all
+answered_behind : (f : KeyedFn) (s : ServerState) (n : ℕ) (frames : List FrameText) (answers : List (List ℕ)) → searches (take n frames) ≡ 0 → AreAnswered f s frames answers
+    → AreAnswered f (steps f s (take n frames)).0 (drop n frames) answers
+answered_behind f s zero frames answers none are = are
+answered_behind f s (suc n) [] answers none are = are
+answered_behind f s (suc n) (frame ∷ frames) answers none are =
+    answered_behind f (step f s frame).0 n frames answers (omega (arith, none)) (record {
+      grammar = are.grammar.1;
+      given = are.given;
+      count = omega (arith, are.count, none);
+      replies = tail_same are.replies ∙ ap (λ left. replied left frames) (no_answer (asked frame) answers (omega (arith, none)));
+    })
+  where
+    tail_same : {A : Type 0} {x y : A} {xs ys : List A} → x ∷ xs ≡ y ∷ ys → xs ≡ ys
+    tail_same e = cc
+
+-- Frames of a run without searches.
+
+no_searches : (run : Run) → filter is_update run.later ≡ run.later → shown_in_turn (Some run) ≡ []
+no_searches run updates = ap (λ later. shown_in_turn (Some (record run { later = later }))) (sym updates) ∙ by run.setup [] run.later
+  where
+    by : (s : Setup) (past later : List Command) → flat_map (λ r. r) (over (shown_by s) past (filter is_update later)) ≡ []
+    by s past [] = refl
+    by s past (Add d ∷ later) = by s (past ++ Add d ∷ []) later
+    by s past (Delete id ∷ later) = by s (past ++ Delete id ∷ []) later
+    by s past (Search word ∷ later) = by s past later
+
+each_one : (f : KeyedFn) (keys : ℕ → List ℕ) (run : Run) (past later : List Command)
+    → length (flat_map (λ frames. frames) (over (frames_by (table_of f keys run) at_first run.setup) past later)) ≡ length later
+each_one f keys run past [] = refl
+each_one f keys run past (Add d ∷ later) = omega (arith, each_one f keys run (past ++ Add d ∷ []) later)
+each_one f keys run past (Delete id ∷ later) = omega (arith, each_one f keys run (past ++ Delete id ∷ []) later)
+each_one f keys run past (Search word ∷ later) = omega (arith, each_one f keys run (past ++ Search word ∷ []) later)
+
+-- they are as many as its update frames
+pub length-frames_under : (f : KeyedFn) (key : List ℕ) (run : Run) → filter is_update run.later ≡ run.later → length (frames_under f key (Some run)) ≡ update_frames run
+length-frames_under f key run updates =
+    let t = table_of f (keys_under key (Some run)) run in
+    let later = flat_map (λ frames. frames) (over (frames_by t at_first run.setup) [] run.later) in
+    omega (
+      arith,
+      length-append (frames_of_setup t at_first run.setup) later,
+      length-frames_of_setup t at_first run.setup,
+      each_one f (keys_under key (Some run)) run [] run.later,
+      ap length updates,
+    )
+
+module _ (f : KeyedFn) (laws : IsKeyedFn f) (key : List ℕ) (run : Run) (updates : filter is_update run.later ≡ run.later) (next : ℕ) (before : ServerState) (had : HasTaken f key run next before) where
+  abbrev keys : ℕ → List ℕ
+  keys = keys_under key (Some run)
+
+  abbrev all : List FrameText
+  all = frames_under f key (Some run)
+
+  -- those from a number on of the run and of commands after it
+  pub frames_behind : (n : ℕ) (more : List Command) → n ≤ update_frames run → drop n (frames_under f key (longer more (Some run))) ≡ lacking f key run n ++ frames_since f key run more
+  frames_behind n more few =
+      ap (drop n) (frames_sent-longer f keys (Some run) more)
+      ∙ drop-append-le n all (frames_since f key run more) (omega (arith, few, length-frames_under f key run updates))
+
+  -- the server so answers those that it lacks, and the frames of commands after them
+  pub rest_is_answered : (more : List Command) → IsKept (longer more (Some run)) → HasNoCollision f keys (longer more (Some run)) → AreAnswered f before (lacking f key run next ++ frames_since f key run more) (shown_behind run more)
+  rest_is_answered more kept free =
+      let whole = frames_under f key (longer more (Some run)) in
+      let first : take next whole ≡ take next all =
+      ap (take next) (frames_sent-longer f keys (Some run) more)
+      ∙ take-append-le next all (frames_since f key run more) (omega (arith, had.within, length-frames_under f key run updates)) in
+      let none : searches (take next all) ≡ 0 =
+      omega (
+        arith,
+        searches-append (take next all) (drop next all),
+        ap searches (take-append-drop next all),
+        searches-sent f keys (Some run),
+        ap length (no_searches run updates),
+      ) in
+      let shown : shown_in_turn (longer more (Some run)) ≡ shown_behind run more = shown_in_turn-longer run more ∙ ap (λ answers. answers ++ shown_behind run more) (no_searches run updates) in
+      let behind : AreAnswered f (steps f had.start (take next whole)).0 (drop next whole) (shown_in_turn (longer more (Some run))) =
+      answered_behind f had.start next whole (shown_in_turn (longer more (Some run))) (ap searches first ∙ none)
+      (history_is_answered f laws (Some key) (longer more (Some run)) had.start kept free had.expects) in
+      subst (λ (p : ServerState × List FrameText × List (List ℕ)). AreAnswered f p.0 p.1 p.2)
+      (λ i. ((ap (λ fs. (steps f had.start fs).0) first ∙ sym had.sent) i, frames_behind next more had.within i, shown i)) behind
+
+  module _ (n number : ℕ) (lines : List (Option Line)) (within : AllByRecursion IsWithinItem lines) (kept_at : IsKeptAt n (at_run key [] run))
+      (low high : ℕ) (fits : high < 2 ^ 32) (least : low ≤ next) (most : next ≤ high) (near : update_frames run ≤ low + frames_in_hand (Some run))
+      (now : Outside) (end : Ended) (goes : Rejoins f low high key run number lines now end) where
+    abbrev m : Meaning
+    m = follow (at_run key [] run) number lines false
+
+    kept : IsKept m.history
+    kept = (kept_follow n (at_run key [] run) number lines false within kept_at).0
+
+    -- the commands of a history that begins with the run
+    abbrev commands_in : (h : History) → IsFirstOf (Some run) h → List Command
+    commands_in h first = (since run h first).0
+
+    -- with a server that says this number it sends these
+    abbrev to_send : List Command → ℕ → List FrameText
+    to_send commands q = lacking f key run q ++ frames_since f key run commands
+
+    -- it sends the frames that are lacking and then those after the run
+    pub record GoesRejoining : Type 0 where
+      pub first : IsFirstOf (Some run) end.history
+      pub same_key : end.key ≡ Some key
+      pub history : IsFirstOf end.history m.history
+      pub answers : List (List ℕ)
+      pub passes : HasPassed f low high (to_send (commands_in end.history first)) answers now.told end
+
+    -- at a stop before the lines the history is the run, which has no commands after it
+    stopped : (answers : List (List ℕ)) → end.key ≡ Some key → end.history ≡ Some run → ((commands : List Command) → commands ≡ [] → HasPassed f low high (to_send commands) answers now.told end) → GoesRejoining
+    stopped answers same_key history passes =
+        let first : IsFirstOf (Some run) end.history = subst (IsFirstOf (Some run)) (sym history) (IsFirstOf-same (Some run)) in
+        record {
+          first = first;
+          same_key = same_key;
+          history = subst (λ h. IsFirstOf h m.history) (sym history) (first-follow (at_run key [] run) number lines false);
+          answers = answers;
+          passes = passes (commands_in end.history first) (no_commands run end.history first history);
+        }
+
+    -- of the run's frames from a possible number on there are at most those of its last command
+    few_lacking : (q : ℕ) → low ≤ q → end.history ≡ Some run → length (lacking f key run q) ≤ frames_in_hand end.history
+    few_lacking q at_least history =
+        subst (λ h. length (lacking f key run q) ≤ frames_in_hand h) (sym history)
+        (omega (arith, near, at_least, length-drop q all, length-frames_under f key run updates))
+
+    module _ (greeted : Outside) (g : IsGreeted low high now greeted) where
+      abbrev lacked : List FrameText
+      lacked = lacking f key run g.greets.next
+
+      abbrev opened : (commands : List Command) (answers : List (List ℕ)) → end.key ≡ Some key → Passes f (to_send commands g.greets.next) answers greeted.told end → IsOpened f low high (to_send commands) answers now.told end
+      opened commands answers same_key passes = record { key = key; same_key = same_key; greeted = greeted.told; greets = g.greets; passes = passes }
+
+      -- it stops in those frames, or behind them
+      stopped_open : (answers : List (List ℕ)) → end.key ≡ Some key → end.history ≡ Some run → Passes f lacked answers greeted.told end → GoesRejoining
+      stopped_open answers same_key history passes =
+          stopped answers same_key history (λ commands none.
+          inr (inr (opened commands answers same_key (subst (λ fs. Passes f fs answers greeted.told end) (sym (append-nil lacked) ∙ ap (λ cs. to_send cs g.greets.next) (sym none)) passes))))
+
+      short : StopsShort f lacked key run greeted end → GoesRejoining
+      short s = elim s.short [
+        | inl cut ↦ stopped_open cut.2.answers s.same_key s.history (Passes-cut f lacked greeted.told end cut.0 s.cause s.stops cut.1 (few_lacking g.greets.next g.greets.least s.history) cut.2)
+        | inr clash ↦
+            let status : status_of end.stop ≡ 8 = ap status_of s.stops ∙ clash_status (Some clash.1.0) s.cause (ap (λ c. Some c) (sym clash.1.1)) in
+            stopped_open [] s.same_key s.history (record {
+              events = [];
+              adds = clash.0 ∙ Adds-nothing greeted.told;
+              n = 0;
+              before = [];
+              cut = [];
+              parts = refl;
+              exchanged = AreExchanged-none;
+              most = let few = few_lacking g.greets.next g.greets.least s.history in omega (arith, few);
+              left = inr (inr (inr (refl, λ free. clash.2 (subst (λ h. IsFree f (Some key) h) s.history (subst (λ k. IsFree f k end.history) s.same_key free)))));
+              whole = λ low_status. absurd (omega (arith, low_status, status));
+            })
+      ]
+
+      untold : StopsUntold lacked key run greeted end → GoesRejoining
+      untold u =
+          stopped_open [] u.same_key u.history
+          (subst (λ fs. Passes f fs [] greeted.told end) (append-nil lacked)
+          (Passes-behind f lacked [] [] [] greeted.told end.outside.told end u.sent.events u.sent.adds u.sent.exchanged (Passes-none f end.outside.told end refl (status u.stops))))
+        where
+          status : (end.stop ≡ SinkFault) ⊎ (end.stop ≡ At NoMemory) → status_of end.stop ≤ 7
+          status (inl sink) = omega (arith, ap status_of sink)
+          status (inr memory) = omega (arith, ap status_of memory)
+
+      -- it went over the lines
+      module _ (later : Outside) (caught : HasCaughtUp lacked greeted later) (runs : Runs f (at_run key [] run) number lines false later end) where
+        w : Went f key (Some run) m later end
+        w = went f n (at_run key [] run) number lines false later end within kept_at runs
+
+        abbrev commands : List Command
+        commands = commands_in end.history w.since
+
+        frames_after : w.more ≡ frames_since f key run commands
+        frames_after =
+            append_cancel_left all w.more (frames_since f key run commands)
+            (sym w.frames ∙ ap (frames_sent f keys) (since run end.history w.since).1 ∙ frames_sent-longer f keys (Some run) commands)
+
+        abbrev went_opened : IsOpened f low high (to_send commands) w.answers now.told end
+        went_opened =
+            opened commands w.answers w.same_key
+            (subst (λ fs. Passes f (lacked ++ fs) w.answers greeted.told end) frames_after
+            (Passes-behind f lacked w.more [] w.answers greeted.told later.told end caught.sent.events caught.sent.adds caught.sent.exchanged w.passes))
+
+        went_on : GoesRejoining
+        went_on = record { first = w.since; same_key = w.same_key; history = w.history; answers = w.answers; passes = inr (inr went_opened) }
+
+        -- the records after the run were kept
+        kept_on : status_of end.stop ≤ 2 → Keeps now.kept end.outside.kept (recorded commands)
+        kept_on low_status =
+            let k = kept_since f (at_run key [] run) number lines false later end runs in
+            let held : k.held ≡ longer commands (Some run) =
+            k.whole (λ e. absurd (omega (arith, low_status, e))) (λ e. absurd (omega (arith, low_status, e))) (λ e. absurd (omega (arith, low_status, e))) ∙ (since run end.history w.since).1 in
+            let same : k.records ≡ recorded commands =
+            append_cancel_left (records_in f key (Some run)) k.records (recorded commands)
+            (sym k.are ∙ ap (records_in f key) held ∙ records-longer f key (Some run) commands refl) in
+            KeepsFirst-all k.all k.records (status_of end.stop) later.kept end.outside.kept (λ e. absurd (omega (arith, low_status, e))) (λ e. absurd (omega (arith, low_status, e))) k.kept
+            ∙ (λ i. with_records (same i) ((caught.unkept ∙ g.unkept) i))
+
+    pub goes_rejoining : GoesRejoining
+    goes_rejoining = elim goes [
+      | inl away ↦ stopped [] away.same_key away.history (λ commands none. inr (inl (record {
+        key = key;
+        same_key = away.same_key;
+        cause = away.cause;
+        stops = away.stops;
+        away = away.away;
+        none = refl;
+        most = λ q least most.
+            let here = few_lacking q least away.history in
+            omega (arith, here, length-append (lacking f key run q) (frames_since f key run commands), ap (λ cs. length (frames_since f key run cs)) none);
+      })))
+      | inr (greeted, g, inl s) ↦ short greeted g s
+      | inr (greeted, g, inr (inl u)) ↦ untold greeted g u
+      | inr (greeted, g, inr (inr (later, caught, runs))) ↦ went_on greeted g later caught runs
+    ]
+
+    module _ (state : ServerState) (honest : IsOverHonest f before now.told end.outside.told state) where
+      served : (events : List Event) → Adds now.told end.outside.told events → IsServed f (idle before) events (idle state)
+      served events adds = subst (λ es. IsServed f (idle before) es (idle state)) (same_events honest.past honest.events events now.told end.outside.told honest.told honest.adds adds) honest.honest
+
+      abbrev at_least : low ≤ before.next
+      at_least = omega (arith, least, had.number)
+
+      abbrev at_most : before.next ≤ high
+      at_most = omega (arith, most, had.number)
+
+      -- what the frames after the greeting are answered, where the history up to the stop has no collision
+      answered : (h : History) (first : IsFirstOf (Some run) h) → IsFirstOf h m.history → HasNoCollision f keys h → AreAnswered f before (to_send (commands_in h first) before.next) (shown_behind run (commands_in h first))
+      answered h first part free =
+          let commands = commands_in h first in
+          let whole = (since run h first).1 in
+          subst (λ q. AreAnswered f before (to_send commands q) (shown_behind run commands)) (sym had.number)
+          (rest_is_answered commands (subst IsKept whole (IsKept-first h m.history part kept)) (subst (HasNoCollision f keys) whole free))
+
+      -- Promise P166 (inside): A session with a server that is missing frames sends those first and then carries out its lines as they are meant.
+      --   assumes: keyed function, kept limits, honest link, no collision, no device fault, enough memory, resumable state
+      -- no collision and no reply stops it
+      pub rejoined_status : IsFree f end.key end.history → status_of end.stop ≤ 7
+      rejoined_status free =
+          let g = goes_rejoining in
+          session_outside f low high (to_send (commands_in end.history g.first)) g.answers now.told end fits before state at_least at_most free served (shown_behind run (commands_in end.history g.first))
+          (answered end.history g.first g.history (subst (λ k. IsFree f k end.history) g.same_key free)) g.passes
+
+      -- wherever it stopped, the server is one that was sent the first frames of the history up to there, all but some of the last command's
+      pub frames_left_after : IsFree f end.key end.history
+          → (n : ℕ) × (length (frames_under f key end.history) ≤ n + frames_in_hand end.history) × (state ≡ (steps f had.start (take n (frames_under f key end.history))).0)
+      frames_left_after free =
+          let g = goes_rejoining in
+          let cs = commands_in end.history g.first in
+          let whole = frames_under f key end.history in
+          let history : end.history ≡ longer cs (Some run) = (since run end.history g.first).1 in
+          let left = session_left f low high (to_send cs) g.answers now.told end fits before state at_least at_most free served key g.same_key (shown_behind run cs)
+          (answered end.history g.first g.history (subst (λ k. IsFree f k end.history) g.same_key free)) g.passes in
+          let sends : to_send cs before.next ≡ drop next whole = ap (to_send cs) had.number ∙ sym (frames_behind next cs had.within) ∙ ap (λ h. drop next (frames_under f key h)) (sym history) in
+          let first : take next whole ≡ take next all =
+          ap (λ h. take next (frames_under f key h)) history
+          ∙ ap (take next) (frames_sent-longer f keys (Some run) cs)
+          ∙ take-append-le next all (frames_since f key run cs) (omega (arith, had.within, length-frames_under f key run updates)) in (
+            next + left.0,
+            omega (arith, left.1, ap length sends, length-drop next whole),
+            left.2
+                ∙ ap (λ fs. (steps f before (take left.0 fs)).0) sends
+                ∙ ap (λ s. (steps f s (take left.0 (drop next whole))).0) (had.sent ∙ ap (λ fs. (steps f had.start fs).0) (sym first))
+                ∙ sym (ap (λ r. r.0) (steps-append f had.start (take next whole) (take left.0 (drop next whole))))
+                ∙ ap (λ fs. (steps f had.start fs).0) (sym (take-add next left.0 whole)),
+          )
+
+      -- Promise P166, also here
+      -- and where nothing else did, it sent what the server lacked and did what its lines mean
+      pub rejoined : (last : Outside) → Ends end last → HasNoCollision f (keys_under key m.history) m.history → IsUndisturbed (status_of end.stop)
+          → Rejoined f had.start key run next m now last (status_of end.stop) state
+      rejoined last ends free calm =
+          let whole_key : m.key ≡ Some key = follow-key (at_run key [] run) number lines false in
+          let g = goes_rejoining in
+          let free_end : IsFree f end.key end.history =
+          IsFree-first f end.key m.key end.history m.history (inr (g.same_key ∙ sym whole_key)) g.history (subst (λ k. IsFree f k m.history) (sym whole_key) free) in
+          let low_status : status_of end.stop ≤ 2 = few (status_of end.stop) (rejoined_status free_end) calm in
+          elim goes [
+            | inl away ↦ absurd (omega (arith, low_status, ap status_of away.stops, turned_status low high away.away.events away.cause away.away.turned))
+            | inr (greeted, g, inl s) ↦ absurd (omega (arith, low_status, ap status_of s.stops, short_status (lacked greeted g) greeted s))
+            | inr (greeted, g, inr (inl u)) ↦ absurd (omega (arith, low_status, untold_status (lacked greeted g) greeted u))
+            | inr (greeted, g, inr (inr (later, caught, runs))) ↦ by greeted g later caught runs free_end low_status
+          ]
+        where
+          short_status : (frames : List FrameText) (greeted : Outside) (s : StopsShort f frames key run greeted end) → 5 ≤ cause_status s.cause
+          short_status frames greeted s = elim s.short [
+            | inl cut ↦ cut_status (drop cut.2.n frames) cut.2.cut s.cause cut.2.one_more
+            | inr clash ↦ omega (arith, clash_status (Some clash.1.0) s.cause (ap (λ c. Some c) (sym clash.1.1)))
+          ]
+
+          untold_status : (frames : List FrameText) (greeted : Outside) → StopsUntold frames key run greeted end → 4 ≤ status_of end.stop
+          untold_status frames greeted u = elim u.stops [ inl sink ↦ omega (arith, ap status_of sink) | inr memory ↦ omega (arith, ap status_of memory) ]
+
+          by : (greeted : Outside) (g : IsGreeted low high now greeted) (later : Outside) (caught : HasCaughtUp (lacked greeted g) greeted later) → Runs f (at_run key [] run) number lines false later end
+              → IsFree f end.key end.history → status_of end.stop ≤ 2 → Rejoined f had.start key run next m now last (status_of end.stop) state
+          by greeted g later caught runs free_end low_status =
+              let v = w greeted g later caught runs in
+              let cs = commands greeted g later caught runs in
+              let o = went_opened greeted g later caught runs in
+              let whole = (since run end.history v.since).1 in
+              let well = v.ended_well low_status in
+              let history : m.history ≡ longer cs (Some run) = sym well.1 ∙ whole in
+              let free_here : HasNoCollision f keys end.history = subst (λ k. IsFree f k end.history) v.same_key free_end in
+              let passed = session_whole f low high (to_send cs) v.answers now.told end fits before state at_least at_most free_end served (shown_behind run cs) (answered end.history v.since v.history free_here) o low_status in
+              let told : o.greets.next ≡ before.next = (opened_over f low high (to_send cs) v.answers now.told end fits before state at_least at_most free_end served o).2 in
+              let number : g.greets.next ≡ next = told ∙ had.number in
+              let behind : to_send cs before.next ≡ drop next (frames_under f key m.history) =
+              ap (to_send cs) had.number ∙ sym (frames_behind next cs had.within) ∙ ap (λ h. drop next (frames_under f key h)) (sym history) in
+              -- the answers, each in order, are those of the lines
+              let answers : map in_order (shown_behind run cs) ≡ finds m.shown = answers_found cs history in
+              let own_text : text_with v.answers m.shown ≡ flat_map text_of m.shown =
+              ap (λ found. flat_map text_of (with_answers found m.shown)) (ap (map in_order) passed.0 ∙ answers) ∙ ap (flat_map text_of) (with_answers-finds m.shown) in
+              let line = text_of (Resumed (length (lacking f key run next))) in
+              record {
+                status_is = ap status_of well.0;
+                q = ends.q;
+                printed =
+                    ends.printed
+                    ∙ (λ i. append_known (well.2 i) (take ends.q (stop_text (well.0 i))))
+                    ∙ append_known-twice later.written (text_with v.answers m.shown) (take ends.q (stop_text m.end))
+                    ∙ ap (λ text. append_known later.written (text ++ take ends.q (stop_text m.end))) own_text
+                    ∙ ap (λ written. append_known written (flat_map text_of m.shown ++ take ends.q (stop_text m.end)))
+                    (caught.printed ∙ (λ i. append_known (g.unprinted i) (text_of (Resumed (length (lacking f key run (number i)))))))
+                    ∙ append_known-twice now.written line (flat_map text_of m.shown ++ take ends.q (stop_text m.end))
+                    ∙ ap (append_known now.written) (sym (append_assoc line (flat_map text_of m.shown) (take ends.q (stop_text m.end))));
+                more = cs;
+                history = history;
+                events = o.greets.events ++ o.passes.events;
+                adds = subst (λ told. Adds now.told told (o.greets.events ++ o.passes.events)) (sym ends.told) (Adds-joined now.told o.greeted end.outside.told o.greets.events o.passes.events o.greets.adds o.passes.adds);
+                passed = passed.2 ∙ (λ i. map as_event (greeting (had.number i) ++ exchange (shown_behind run cs) (behind i)));
+                kept = ends.kept ∙ kept_on greeted g later caught runs low_status;
+                stored = passed.1 ∙ ap (λ fs. (steps f before fs).0) behind ∙ stored_whole cs history;
+              }
+            where
+              answers_found : (cs : List Command) → m.history ≡ longer cs (Some run) → map in_order (shown_behind run cs) ≡ finds m.shown
+              answers_found cs history =
+                  let shown : shown_in_turn (longer cs (Some run)) ≡ shown_behind run cs = shown_in_turn-longer run cs ∙ ap (λ answers. answers ++ shown_behind run cs) (no_searches run updates) in
+                  let none : found_in_turn (Some run) ≡ [] = sym (in_order-shown_in_turn (Some run) kept_at.history) ∙ ap (map in_order) (no_searches run updates) in
+                  ap (map in_order) (sym shown)
+                  ∙ in_order-shown_in_turn (longer cs (Some run)) (subst IsKept history kept)
+                  ∙ ap found_in_turn (sym history)
+                  ∙ finds-follow (at_run key [] run) number lines false
+                  ∙ ap (λ found. found ++ finds m.shown) none
+
+              stored_whole : (cs : List Command) → m.history ≡ longer cs (Some run) → (steps f before (drop next (frames_under f key m.history))).0 ≡ (steps f had.start (frames_under f key m.history)).0
+              stored_whole cs history =
+                  let whole = frames_under f key m.history in
+                  let first : take next whole ≡ take next all =
+                  ap (λ h. take next (frames_under f key h)) history
+                  ∙ ap (take next) (frames_sent-longer f keys (Some run) cs)
+                  ∙ take-append-le next all (frames_since f key run cs) (omega (arith, had.within, length-frames_under f key run updates)) in
+                  ap (λ s. (steps f s (drop next whole)).0) (had.sent ∙ ap (λ fs. (steps f had.start fs).0) (sym first))
+                  ∙ sym (ap (λ r. r.0) (steps-append f had.start (take next whole) (drop next whole)))
+                  ∙ ap (λ fs. (steps f had.start fs).0) (take-append-drop next whole)

@@ -1,0 +1,16 @@
+pub mod Lines
+pub mod Refused
+pub mod Outcome
+pub mod Stops
+pub mod Meaning
+pub mod Exchange
+pub mod HelloExchange
+pub mod Carries
+pub mod Runs
+pub mod Session
+pub mod Goes
+pub mod Recorded
+pub mod Headline
+pub mod Continues
+pub mod Rejoins
+pub mod Joined

@@ -1,0 +1,79 @@
+-- The outcome of a line of the script.
+use Rattle.std.specs.Prelude.{ℕ, Bool, true, false, List, [], ◌∷◌, ◌++◌, length, Option, None, Some, if◌then◌else◌}
+use Rattle.client_registry.specs.Document.{Document}
+use Rattle.client_registry.specs.Acceptance.{blocks_of}
+use Rattle.client_registry.specs.Setup.{Setup, setup_with, setup_words}
+use Rattle.client_registry.specs.Command.{Command, Add, Delete, Search}
+use Rattle.client_registry.specs.Run.{History}
+use Rattle.client_registry.specs.Histories.{empty, is_set_up, begun_by, longer}
+use Rattle.client_registry.specs.Live.{matching_in}
+use Rattle.sse_script.specs.declared.refusal.Refusal.{Refusal}
+use Rattle.sse_script.specs.declared.refusal.Refusal.TheVariants.{NotSetUp, SetUpAlready}
+use Rattle.sse_script.specs.Shown.{Shown, SetUp, Added, Deleted, Found, Refused}
+use Rattle.script_documents.specs.LineDocument.{document}
+use Rattle.script_documents.specs.Refused.{bad_word, collect_refusal}
+use Rattle.def_script_meaning.specs.Lines.{Request, Doc, SetupLine, AddLine, Del, Find}
+use Rattle.def_script_meaning.specs.Refused.{index_refusal, add_refusal, delete_refusal}
+
+-- where a script stands after its key line: its key, the documents that were collected, and the history
+pub record Place : Type 0 where
+  pub key : List ℕ
+  pub documents : List Document
+  pub history : History
+
+-- after the line of this key
+abbrev pub opened : List ℕ → Place
+opened key = record { key = key; documents = []; history = empty }
+
+pub data Outcome : Type 0 where
+  -- one document more for the setup
+  Collects : Document → Outcome
+  Refuses : Refusal → Outcome
+  SetsUp : Setup → Outcome
+  -- commands after the setup, and the line that says they are done
+  Does : List Command → Shown → Outcome
+
+-- refused where there is a cause, else this
+abbrev pub unless : Option Refusal → Outcome → Outcome
+unless None outcome = outcome
+unless (Some refusal) outcome = Refuses refusal
+
+-- a line of a script that isn't set up
+abbrev pub before_setup : List Document → Request → Outcome
+before_setup docs (Doc id words) = unless (collect_refusal docs (document id words)) (Collects (document id words))
+before_setup docs (SetupLine b big pad) = unless (index_refusal docs b big pad) (SetsUp (setup_with docs b big pad))
+before_setup docs (AddLine id words) = Refuses NotSetUp
+before_setup docs (Del id) = Refuses NotSetUp
+before_setup docs (Find word) = Refuses NotSetUp
+
+-- a line of a script that is set up
+abbrev pub after_setup : History → Request → Outcome
+after_setup h (Doc id words) = Refuses SetUpAlready
+after_setup h (SetupLine b big pad) = Refuses SetUpAlready
+after_setup h (AddLine id words) = unless (add_refusal h (document id words)) (Does (Add (document id words) ∷ []) (Added id))
+after_setup h (Del id) = unless (delete_refusal h id) (Does (Delete id ∷ []) (Deleted id))
+after_setup h (Find word) = unless (bad_word 0 (word ∷ [])) (Does (Search word ∷ []) (Found (matching_in h word)))
+
+-- what a line comes to at a place of the script
+abbrev pub outcome : Place → Request → Outcome
+outcome place line = if is_set_up place.history then after_setup place.history line else before_setup place.documents line
+
+-- the place after a line that came to this
+abbrev pub after : Outcome → Place → Place
+after (Collects d) place = record place { documents = place.documents ++ d ∷ [] }
+after (Refuses refusal) place = place
+after (SetsUp s) place = record place { history = begun_by s }
+after (Does commands shown) place = record place { history = longer commands place.history }
+
+-- the lines that it prints
+abbrev pub shown_by : Outcome → List Shown
+shown_by (Collects d) = []
+shown_by (Refuses refusal) = Refused refusal ∷ []
+shown_by (SetsUp s) = SetUp (length (setup_words s)) (blocks_of s) ∷ []
+shown_by (Does commands shown) = shown ∷ []
+
+abbrev pub is_refusal : Outcome → Bool
+is_refusal (Collects d) = false
+is_refusal (Refuses refusal) = true
+is_refusal (SetsUp s) = false
+is_refusal (Does commands shown) = false

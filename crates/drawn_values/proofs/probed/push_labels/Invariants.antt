@@ -1,8 +1,0 @@
-use Rattle.std.proofs.Common.{◌≡◌, ◌++◌, map}
-use Rattle.std.specs.List.{range_with_len}
-use Rattle.drawn_values.specs.SetupDrawings.{code_name}
-use Rattle.named_values.specs.declared.name.NameKind.TheVariants as kinds
-use Rattle.drawn_values.proofs.probed.push_labels.Given as goal
-
-abbrev pub invariant-loop-counter : goal.invariant-loop-counter
-invariant-loop-counter l = l.names ≡ l.initial.names ++ map (code_name l.word kinds.PlusLabel) (range_with_len 0 l.counter)

@@ -1,8 +1,0 @@
-use Rattle.std.proofs.Common.{◌≡◌, ◌++◌, map, take}
-use Rattle.client_registry.specs.IdNumber.{id_number}
-use Rattle.drawn_values.specs.SetupDrawings.{code_name}
-use Rattle.named_values.specs.declared.name.NameKind.TheVariants as kinds
-use Rattle.drawn_values.proofs.probed.push_revocations.Given as goal
-
-abbrev pub invariant-loop-id : goal.invariant-loop-id
-invariant-loop-id l = l.names ≡ l.initial.names ++ map (code_name l.word kinds.Revocation) (map id_number (take l.id-index l.ids))

@@ -1,4 +1,0 @@
-use Rattle.drawn_values.proofs.replay.is_searched.Goals as goal
-
-pub returns : goal.returns
-returns c = c.contains.ensures

@@ -1,7 +1,0 @@
-use Rattle.std.proofs.Common.{◌∙◌}
-use Rattle.drawn_values.proofs.More.{more-range}
-use Rattle.drawn_values.specs.SetupDrawings.{block_by_number}
-use Rattle.drawn_values.proofs.setup.push_blocks_of.Goals as goal
-
-pub loop-i-preserved : goal.loop-i-preserved
-loop-i-preserved c = c.in_ok-push.ensures.ok ∙ more-range (block_by_number c.args.word) c.args.drawings.now c.loop-i.drawings c.loop-i.i c.block.result c.loop-i.invariant c.block.ensures

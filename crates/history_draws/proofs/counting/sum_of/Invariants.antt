@@ -1,7 +1,0 @@
-use Rattle.std.proofs.Common.{◌≡◌, ◌%◌, ◌^◌, take}
-use Rattle.std.specs.Prelude.{flat_map, sum}
-use Rattle.history_draws.specs.Given.{given}
-use Rattle.history_draws.proofs.counting.sum_of.Given as goal
-
-abbrev pub invariant-loop-name : goal.invariant-loop-name
-invariant-loop-name l = l.total ≡ sum (flat_map (given l.sheet) (take l.name-index l.names)) % 2 ^ 64

@@ -1,8 +1,0 @@
-use Rattle.std.proofs.Common.{◌≡◌, take, map}
-use Rattle.std.specs.Prelude.{flat_map}
-use Rattle.simulated_frames.specs.Views.{draw_view}
-use Rattle.sse_relabelling.specs.ByTexts.{texts_in}
-use Rattle.history_draws.proofs.texts.drawn_texts.Given as goal
-
-abbrev pub invariant-loop-own : goal.invariant-loop-own
-invariant-loop-own l = l.texts ≡ flat_map (λ ds. flat_map texts_in (map draw_view ds)) (take l.own-index l.draws)

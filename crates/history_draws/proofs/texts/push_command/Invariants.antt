@@ -1,8 +1,0 @@
-use Rattle.std.proofs.Common.{◌≡◌, ◌++◌, take}
-use Rattle.std.specs.Prelude.{flat_map}
-use Rattle.simulated_frames.specs.Views.{draw_view}
-use Rattle.sse_relabelling.specs.ByTexts.{texts_in}
-use Rattle.history_draws.proofs.texts.push_command.Given as goal
-
-abbrev pub invariant-loop-draw : goal.invariant-loop-draw
-invariant-loop-draw l = l.texts ≡ l.initial.texts ++ flat_map (λ d. texts_in (draw_view d)) (take l.draw-index l.draws)

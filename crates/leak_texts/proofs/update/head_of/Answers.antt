@@ -1,5 +1,0 @@
-use Rattle.std.proofs.Common.{sym}
-use Rattle.leak_texts.proofs.update.head_of.Goals as goal
-
-pub returns : goal.returns
-returns c = rw (sym c.plural-words_are.ensures) c.format.ensures.ok

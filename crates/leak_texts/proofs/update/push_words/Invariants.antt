@@ -1,7 +1,0 @@
-use Rattle.std.proofs.Common.{◌≡◌, ◌++◌, map, take, string_bytes}
-use Rattle.simulated_frames.specs.Views.{word_view}
-use Rattle.leak_texts.specs.LeakTexts.{words_text}
-use Rattle.leak_texts.proofs.update.push_words.Given as goal
-
-abbrev pub invariant-loop-place : goal.invariant-loop-place
-invariant-loop-place l = string_bytes l.line ≡ string_bytes l.initial.line ++ words_text (take l.place (map word_view l.words))

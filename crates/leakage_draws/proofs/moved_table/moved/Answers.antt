@@ -1,0 +1,63 @@
+use Rattle.std.proofs.Common.{ap, ◌∙◌}
+use Rattle.client_registry.specs.Run.{Run, at_first}
+use Rattle.client_registry.specs.Sized.{IsHistory, run_words}
+use Rattle.def_comparison.specs.UsedNames.{all_names}
+use Rattle.def_relabelling.specs.ByTexts.{drawn_names, texts_of}
+use Rattle.leakage_draws.proofs.PlacedLaws.{even_drawn, even_numbered, even_used, has_values, moved_names, moved_values, unshifted_draws}
+use Rattle.leakage_draws.proofs.moved_table.moved.Goals as goal
+
+pub placed-requires : goal.placed-requires
+placed-requires c =
+    let run : Run = c.args.history.now in
+    let other : Run = c.args.other.now in
+    let valid = c.commands-first.ensures.valid in
+    let valid2 = c.commands-second.ensures.valid in
+    let history : IsHistory run = record { collected = valid.collected; setup = c.requires.accepted; each = valid.each; accepted = valid.accepted } in
+    let history2 : IsHistory other = record { collected = valid2.collected; setup = c.requires.accepted_too; each = valid2.each; accepted = valid2.accepted } in
+    even_numbered (run_words run) (run_words other) (drawn_names at_first run) (drawn_names at_first other) c.as_slice.result.now c.as_slice-2.result.now
+    (even_drawn c.args.sheet.now run other history history2 c.requires.same) (c.as_slice.ensures ∙ c.in_ok-from.ensures) (c.as_slice-2.ensures ∙ c.in_ok-to.ensures)
+
+pub placed-requires-2 : goal.placed-requires-2
+placed-requires-2 c =
+    let run : Run = c.args.history.now in
+    let other : Run = c.args.other.now in
+    let valid = c.commands-first.ensures.valid in
+    let valid2 = c.commands-second.ensures.valid in
+    let history : IsHistory run = record { collected = valid.collected; setup = c.requires.accepted; each = valid.each; accepted = valid.accepted } in
+    let history2 : IsHistory other = record { collected = valid2.collected; setup = c.requires.accepted_too; each = valid2.each; accepted = valid2.accepted } in
+    even_numbered (run_words run) (run_words other) (all_names at_first run) (all_names at_first other) c.as_slice-3.result.now c.as_slice-4.result.now
+    (even_used c.args.sheet.now run other history history2 c.requires.same) (c.as_slice-3.ensures ∙ c.in_ok-from-2.ensures) (c.as_slice-4.ensures ∙ c.in_ok-to-2.ensures)
+
+pub returns-clause-values : goal.returns-clause-values
+returns-clause-values c =
+    let run : Run = c.args.history.now in
+    let other : Run = c.args.other.now in
+    let valid = c.commands-first.ensures.valid in
+    let valid2 = c.commands-second.ensures.valid in
+    let history : IsHistory run = record { collected = valid.collected; setup = c.requires.accepted; each = valid.each; accepted = valid.accepted } in
+    let history2 : IsHistory other = record { collected = valid2.collected; setup = c.requires.accepted_too; each = valid2.each; accepted = valid2.accepted } in
+    let others = c.as_slice-6.ensures ∙ c.in_ok-others.ensures
+    ∙ ap texts_of (unshifted_draws c.args.sheet.now run other history history2 c.requires.same c.in_ok-unshifted.unshifted c.as_slice.result.now c.as_slice-2.result.now
+    (c.as_slice.ensures ∙ c.in_ok-from.ensures) (c.as_slice-2.ensures ∙ c.in_ok-to.ensures) c.in_ok-unshifted.ensures.held) in
+    λ t is.
+    moved_values c.args.sheet.now run other history history2 c.requires.same c.in_ok-moved.moved c.as_slice-3.result.now c.as_slice-4.result.now c.as_slice-5.result.now c.as_slice-6.result.now
+    (c.as_slice-3.ensures ∙ c.in_ok-from-2.ensures) (c.as_slice-4.ensures ∙ c.in_ok-to-2.ensures) (c.as_slice-5.ensures ∙ c.in_ok-ones.ensures) others c.in_ok-moved.ensures.held t is
+
+pub returns-clause-names : goal.returns-clause-names
+returns-clause-names c =
+    let run : Run = c.args.history.now in
+    let other : Run = c.args.other.now in
+    let valid = c.commands-first.ensures.valid in
+    let valid2 = c.commands-second.ensures.valid in
+    let history : IsHistory run = record { collected = valid.collected; setup = c.requires.accepted; each = valid.each; accepted = valid.accepted } in
+    let history2 : IsHistory other = record { collected = valid2.collected; setup = c.requires.accepted_too; each = valid2.each; accepted = valid2.accepted } in
+    let others = c.as_slice-6.ensures ∙ c.in_ok-others.ensures
+    ∙ ap texts_of (unshifted_draws c.args.sheet.now run other history history2 c.requires.same c.in_ok-unshifted.unshifted c.as_slice.result.now c.as_slice-2.result.now
+    (c.as_slice.ensures ∙ c.in_ok-from.ensures) (c.as_slice-2.ensures ∙ c.in_ok-to.ensures) c.in_ok-unshifted.ensures.held) in
+    moved_names c.args.sheet.now run other history history2 c.requires.same c.in_ok-moved.moved c.as_slice-3.result.now c.as_slice-4.result.now c.as_slice-5.result.now c.as_slice-6.result.now
+    (c.as_slice-3.ensures ∙ c.in_ok-from-2.ensures) (c.as_slice-4.ensures ∙ c.in_ok-to-2.ensures) (c.as_slice-5.ensures ∙ c.in_ok-ones.ensures) others c.in_ok-moved.ensures.held
+
+pub returns-clause-whole : goal.returns-clause-whole
+returns-clause-whole c =
+    let run : Run = c.args.history.now in
+    has_values c.args.sheet.now (run_words run) run c.as_slice-3.result.now (c.as_slice-3.ensures ∙ c.in_ok-from-2.ensures) c.in_ok-moved.ensures.valued

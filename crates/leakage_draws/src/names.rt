@@ -1,0 +1,59 @@
+ghost use Rattle.std.specs.Prelude.{◌≡◌, ◌++◌, IfOk, None, OnOk, flat_map, map};
+ghost use Rattle.client_registry.specs.Acceptance.{size_refusal};
+ghost use Rattle.client_registry.specs.Run.{at_first};
+ghost use Rattle.client_registry.specs.Sized.{run_words};
+ghost use Rattle.leakage_values.specs.Numbered.{numbered};
+ghost use Rattle.def_comparison.specs.UsedNames as used;
+ghost use Rattle.def_relabelling.specs.ByTexts as texts;
+
+use leakage_history::History;
+use leakage_names::Name;
+use leakage_values::{drawn_names, probed_names};
+use sse_frames::Items;
+use std::alloc::{AllocError, Global};
+
+/// Appends names.
+fn push_names(names: &mut Items<Name>, more: &[Name]) -> Result<(), AllocError>
+    ensures { OnOk result (names.new ≡ names.old ++ more.now) }
+{
+    for name in more {
+        names.push(*name)?;
+    }
+    Ok(())
+}
+
+/// Appends the names of each command.
+fn push_lists(names: &mut Items<Name>, lists: &[Items<Name>]) -> Result<(), AllocError>
+    ensures { OnOk result (names.new ≡ names.old ++ flat_map (λ ns. ns) lists.now) }
+{
+    for list in lists {
+        push_names(names, list.as_slice())?;
+    }
+    Ok(())
+}
+
+/// All names that a history draws, command by command.
+pub(crate) fn names_drawn(alloc: Global, history: &History) -> Result<Items<Name>, AllocError>
+    requires { size_refusal history.now.setup ≡ None }
+    ensures { IfOk result (λ names. names ≡ map (numbered (run_words history.now)) (texts.drawn_names at_first history.now)) }
+{
+    let lists = drawn_names(alloc, history)?;
+    let mut names = Items::new(alloc);
+    push_lists(&mut names, lists.as_slice())?;
+    Ok(names)
+}
+
+/// Those and behind them all that a server looks up for it, repeats included.
+pub(crate) fn names_used(
+    alloc: Global,
+    history: &History,
+    drawn: Items<Name>,
+) -> Result<Items<Name>, AllocError>
+    requires { drawn ≡ map (numbered (run_words history.now)) (texts.drawn_names at_first history.now) }
+    ensures { IfOk result (λ names. names ≡ map (numbered (run_words history.now)) (used.all_names at_first history.now)) }
+{
+    let lists = probed_names(alloc, history)?;
+    let mut names = drawn;
+    push_lists(&mut names, lists.as_slice())?;
+    Ok(names)
+}

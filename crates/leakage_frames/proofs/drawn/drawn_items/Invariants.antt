@@ -1,0 +1,9 @@
+use Rattle.std.proofs.Common.{◌≡◌, ◌-◌, map, drop}
+use Rattle.sse_simulator.specs.Simulator.{first_of}
+use Rattle.leakage_frames.specs.MadeFrames.{ahead, kind_of}
+use Rattle.leakage_frames.specs.Views.{draw_view}
+use Rattle.leakage_frames.proofs.drawn.drawn_items.Given as goal
+
+abbrev pub invariant-loop-i : goal.invariant-loop-i
+invariant-loop-i l =
+    ahead l.entries.items (first_of (kind_of l.section) (l.count - l.i) (drop l.i (map draw_view l.draws))) ≡ first_of (kind_of l.section) l.count (map draw_view l.draws)

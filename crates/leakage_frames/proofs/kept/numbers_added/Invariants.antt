@@ -1,0 +1,10 @@
+use Rattle.std.proofs.Common.{◌≡◌, map, drop}
+use Rattle.sse_simulator.specs.Simulator as sim
+use Rattle.leakage_frames.specs.MadeFrames.{ahead, kept_view}
+use Rattle.leakage_frames.specs.Views.{word_view}
+use Rattle.leakage_frames.proofs.kept.numbers_added.Given as goal
+
+abbrev pub invariant-loop-word : goal.invariant-loop-word
+invariant-loop-word l =
+    ahead l.numbers.items (sim.numbers_added (map kept_view l.kept) (map word_view (drop l.word-index l.words)))
+    ≡ sim.numbers_added (map kept_view l.kept) (map word_view l.words)

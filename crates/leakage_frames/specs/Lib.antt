@@ -1,0 +1,4 @@
+pub mod MadeFrames
+pub mod Steps
+pub mod Texts
+pub mod Views

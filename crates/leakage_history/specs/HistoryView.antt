@@ -1,0 +1,22 @@
+-- The meaning of the fields of a history.
+use Rattle.std.specs.Prelude.{◌≡◌, [], map, Option, None, Some}
+use Rattle.client_registry.specs.Registered.{Registered, Represents}
+use Rattle.client_registry.specs.Run.{Run}
+use Rattle.client_registry.specs.Setup.{setup_with}
+use Rattle.leakage_history.specs.Commands.{command_of}
+use Rattle.leakage_history.specs.Refusal.{AreAccepted}
+use Rattle.leakage_history.specs.declared.history.History.TheInside.{Inside}
+
+-- what contracts see of a history
+abbrev pub run_of : Inside → Run
+run_of h = record { setup = setup_with h.docs.documents h.b h.big h.pad; later = map command_of h.commands.items }
+
+-- a registry tells what is live, listed and counted after the commands, or there is none before the first
+abbrev pub TellsAfter : Option Registered → Run → Type 0
+TellsAfter None run = run.later ≡ []
+TellsAfter (Some registry) run = Represents registry run.setup run.later
+
+-- the commands are accepted, and what is live, listed and counted after them is told
+pub record IsRegistered (h : Inside) : Type 0 where
+  pub accepted : AreAccepted (run_of h)
+  pub registry : TellsAfter h.registry (run_of h)

@@ -1,3 +1,0 @@
-mod DocumentsLaws
-mod SetupLaws
-pub mod MadeMeaning

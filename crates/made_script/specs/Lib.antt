@@ -1,9 +1,0 @@
-pub mod Words
-pub mod Lines
-pub mod Script
-pub mod Reading
-pub mod Asked
-pub mod Summary
-pub mod SummaryViews
-pub mod Buffer
-pub mod Source

@@ -1,0 +1,163 @@
+-- A reading that no device disturbed, with memory for all of it, did what its script means.
+use Rattle.std.proofs.Common.{◌≡◌, inl, inr, ℕ, ◌+◌, ◌-◌, ◌^◌, Bool, false, ◌||◌, List, [], ◌∷◌, ◌++◌, length, nat_lt, Option, None, Some, refl, sym, ap, subst, ◌∙◌, append_assoc, arith}
+use Rattle.std.specs.Prelude.{filter, flat_map, IfSome, if◌then◌else◌}
+use Rattle.std.specs.Io.KnownBytes.{append_known}
+use Rattle.std.proofs.lemmas.Bool.{le-ltb}
+use Rattle.std.proofs.lemmas.List.{append-nil}
+use Rattle.client_registry.proofs.HistoryLaws.{whole_run}
+use Rattle.client_registry.proofs.SizedLaws.{IsSized-front}
+use Rattle.client_registry.specs.Command.{Command as Meant}
+use Rattle.client_registry.specs.Histories.{IsFirstOf, longer}
+use Rattle.client_registry.specs.Run.{History}
+use Rattle.client_registry.specs.Sized.{IsSized, run_words}
+use Rattle.def_script_meaning.proofs.FollowedPlaces.{first-follow}
+use Rattle.def_script_meaning.proofs.Outcomes.{by_cases}
+use Rattle.def_script_meaning.specs.Lines.{Line, Empty, Key, Command, Request, script_lines}
+use Rattle.def_script_meaning.specs.Meaning.{follow, meant_from, meaning}
+use Rattle.def_script_meaning.specs.Outcome.{Place, Refuses, Does, opened, outcome, after, shown_by, is_refusal}
+use Rattle.sse_script.specs.Shown.{Shown}
+use Rattle.sse_script.specs.Texts.{text_of}
+use Rattle.sse_script.specs.declared.refusal.Refusal.TheVariants.{HistoryFull}
+use Rattle.script_history.specs.Reads.{ReadEnd, Whole, EndsSo, StopsUnread, StopsPrinting, Reads, ReadsFirst, is_full, numbered, read_outcome, refusal_in, refused_text}
+use Rattle.script_history.specs.Meant.{IsCalm, IsReadAs, end_of, is_refused_line}
+
+-- Where nothing disturbs a reading.
+
+module _ (now last : Option (List ℕ)) (end : ReadEnd) (calm : IsCalm end) where
+  goes_on : StopsUnread now last end → ⊥
+  goes_on unread = elim unread.stops [ inl e ↦ calm.source e | inr e ↦ calm.memory e ]
+
+  prints : (text : List ℕ) → StopsPrinting text now last end → ⊥
+  prints text stops = elim stops.stops [ inl e ↦ calm.sink e | inr e ↦ calm.memory e ]
+
+  ends_so : (so : ReadEnd) → EndsSo so now last end → (last ≡ now) × (end ≡ so)
+  ends_so so ends = elim ends [ inl p ↦ p | inr unread ↦ absurd (goes_on unread) ]
+
+-- Texts.
+
+known-nil : (o : Option (List ℕ)) → append_known o [] ≡ o
+known-nil None = refl
+known-nil (Some xs) = ap (λ ys. Some ys) (append-nil xs)
+
+known-append : (o : Option (List ℕ)) (xs ys : List ℕ) → append_known (append_known o xs) ys ≡ append_known o (xs ++ ys)
+known-append None xs ys = refl
+known-append (Some zs) xs ys = ap (λ ws. Some ws) (append_assoc zs xs ys)
+
+abbrev refusals_text : List Shown → List ℕ
+refusals_text shown = flat_map text_of (filter is_refused_line shown)
+
+-- of a line's printed lines the refusal is read
+text_first : (place : Place) (line : Request) (shown : List Shown)
+    → refusals_text (shown_by (outcome place line) ++ shown) ≡ refused_text (refusal_in (outcome place line)) ++ refusals_text shown
+text_first place line shown = by_cases place line (λ o. refusals_text (shown_by o ++ shown) ≡ refused_text (refusal_in o) ++ refusals_text shown) (record {
+  refuses = λ refusal. refl;
+  collects = λ id words is none e. refl;
+  sets_up = λ b big pad none e. refl;
+  adds = λ id words is up e. refl;
+  deletes = λ id is up e. refl;
+  finds = λ word up e. refl;
+})
+
+-- Histories that can be numbered.
+
+sized_first : (part whole : History) → IsFirstOf part whole → IfSome whole IsSized → IfSome part IsSized
+sized_first None whole first sized = tt
+sized_first (Some run) None first sized = absurd first
+sized_first (Some run) (Some whole) first sized = IsSized-front run.setup run.later first.1.0 (subst IsSized (whole_run run whole first) sized)
+
+not_full : (h : History) → IfSome h IsSized → is_full h ≡ false
+not_full None sized = refl
+not_full (Some run) sized =
+    ap (λ b. b || nat_lt (2 ^ 32 - 1) (length (run_words run))) (le-ltb (2 ^ 32 - 1) (length run.later + 1) (omega (arith, sized.commands)))
+    ∙ le-ltb (2 ^ 32 - 1) (length (run_words run)) (omega (arith, sized.words))
+
+-- where the history after a line is sized, the line comes to what it comes to in a run
+same_outcome : (place : Place) (line : Request) → IfSome (after (outcome place line) place).history IsSized → read_outcome place line ≡ outcome place line
+same_outcome place line = by_cases place line (λ o. IfSome (after o place).history IsSized → numbered place.history o ≡ o) (record {
+  refuses = λ refusal sized. refl;
+  collects = λ id words is none e sized. refl;
+  sets_up = λ b big pad none e sized. refl;
+  adds = λ id words is up e sized. fits _ _ sized;
+  deletes = λ id is up e sized. fits _ _ sized;
+  finds = λ word up e sized. fits _ _ sized;
+})
+  where
+    fits : (commands : List Meant) (shown : Shown) → IfSome (longer commands place.history) IsSized → numbered place.history (Does commands shown) ≡ Does commands shown
+    fits commands shown sized = ap (λ b. if b then Refuses HistoryFull else Does commands shown) (not_full (longer commands place.history) sized)
+
+-- Readings.
+
+-- the number behind one line and those after it
+next-line : {X : Type 0} (number : ℕ) (line : X) (lines : List X) → number + 1 + length lines ≡ number + length (line ∷ lines)
+next-line number line lines = omega arith
+
+-- and behind none
+no-line : (number : ℕ) → number ≡ number + 0
+no-line number = omega arith
+
+-- Promise P164, also here
+-- from a place
+pub reads-follow : (place : Place) (number : ℕ) (lines : List (Option Line)) (refused : Bool) (now last : Option (List ℕ)) (end : ReadEnd) → Reads place number lines refused now last end → IsCalm end
+    → IfSome (follow place number lines refused).history IsSized → IsReadAs (follow place number lines refused) (number + length lines) now last end
+reads-follow place number [] refused now last end reads calm sized =
+    let so = ends_so now last end calm _ reads in record { ends = so.1 ∙ ap (Whole place.key place.history refused) (no-line number); printed = so.0 ∙ sym (known-nil now) }
+reads-follow place number (None ∷ lines) refused now last end reads calm sized =
+    let so = ends_so now last end calm _ reads in record { ends = so.1; printed = so.0 ∙ sym (known-nil now) }
+reads-follow place number (Some Empty ∷ lines) refused now last end reads calm sized =
+    elim reads [
+      | inl unread ↦ absurd (goes_on now last end calm unread)
+      | inr rest ↦
+          subst (λ next. IsReadAs (follow place (number + 1) lines refused) next now last end) (next-line number (Some Empty) lines) (reads-follow place (number + 1) lines refused now last end rest calm sized)
+    ]
+reads-follow place number (Some (Key key) ∷ lines) refused now last end reads calm sized =
+    let so = ends_so now last end calm _ reads in record { ends = so.1; printed = so.0 ∙ sym (known-nil now) }
+reads-follow place number (Some (Command line) ∷ lines) refused now last end reads calm sized =
+    let o = outcome place line in
+    let next = after o place in
+    let m = follow next (number + 1) lines (refused || is_refusal o) in
+    let same = same_outcome place line (sized_first next.history m.history (first-follow next (number + 1) lines (refused || is_refusal o)) sized) in
+    elim reads [
+      | inl unread ↦ absurd (goes_on now last end calm unread)
+      | inr others ↦ elim others [
+        | inl stops ↦ absurd (prints now last end calm _ stops)
+        | inr rest ↦
+            let after_it = reads-follow next (number + 1) lines (refused || is_refusal o) (append_known now (refused_text (refusal_in o))) last end
+            (subst (λ r. Reads (after r place) (number + 1) lines (refused || is_refusal r) (append_known now (refused_text (refusal_in r))) last end) same rest) calm sized in
+            record {
+              ends = after_it.ends ∙ ap (λ n. end_of m.key m.history n m.end) (next-line number (Some (Command line)) lines);
+              printed = after_it.printed ∙ known-append now (refused_text (refusal_in o)) (refusals_text m.shown) ∙ ap (append_known now) (sym (text_first place line m.shown));
+            }
+      ]
+    ]
+
+-- from before the key line
+pub reads-meant : (number : ℕ) (lines : List (Option Line)) (now last : Option (List ℕ)) (end : ReadEnd) → ReadsFirst number lines now last end → IsCalm end
+    → IfSome (meant_from number lines).history IsSized → IsReadAs (meant_from number lines) (number + length lines) now last end
+reads-meant number [] now last end reads calm sized =
+    let so = ends_so now last end calm _ reads in record { ends = so.1; printed = so.0 ∙ sym (known-nil now) }
+reads-meant number (None ∷ lines) now last end reads calm sized =
+    let so = ends_so now last end calm _ reads in record { ends = so.1; printed = so.0 ∙ sym (known-nil now) }
+reads-meant number (Some Empty ∷ lines) now last end reads calm sized =
+    elim reads [
+      | inl unread ↦ absurd (goes_on now last end calm unread)
+      | inr rest ↦ subst (λ next. IsReadAs (meant_from (number + 1) lines) next now last end) (next-line number (Some Empty) lines) (reads-meant (number + 1) lines now last end rest calm sized)
+    ]
+reads-meant number (Some (Key key) ∷ lines) now last end reads calm sized =
+    elim reads [
+      | inl unread ↦ absurd (goes_on now last end calm unread)
+      | inr rest ↦
+          subst (λ next. IsReadAs (follow (opened key) (number + 1) lines false) next now last end) (next-line number (Some (Key key)) lines) (reads-follow (opened key) (number + 1) lines false now last end rest calm sized)
+    ]
+reads-meant number (Some (Command line) ∷ lines) now last end reads calm sized =
+    let so = ends_so now last end calm _ reads in record { ends = so.1; printed = so.0 ∙ sym (known-nil now) }
+
+-- Promise P164 (inside): A script that is read to its end is read as it means, and its refusals are the ones printed.
+--   assumes: observable devices, no device fault, enough memory, countable history
+-- of a script's bytes
+pub reads-meaning : (bytes : List ℕ) (now last : Option (List ℕ)) (end : ReadEnd) → ReadsFirst 1 (script_lines bytes) now last end → IsCalm end
+    → IfSome (meaning bytes).history IsSized → IsReadAs (meaning bytes) (length (script_lines bytes) + 1) now last end
+reads-meaning bytes now last end reads calm sized =
+    subst (λ next. IsReadAs (meaning bytes) next now last end) (number-behind (length (script_lines bytes))) (reads-meant 1 (script_lines bytes) now last end reads calm sized)
+  where
+    number-behind : (n : ℕ) → 1 + n ≡ n + 1
+    number-behind n = omega arith

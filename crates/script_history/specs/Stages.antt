@@ -1,0 +1,56 @@
+-- The place of a reading in its script, and the effect of a line there.
+use Rattle.std.specs.Prelude.{◌≡◌, ℕ, List, [], ◌∷◌, ◌++◌, Option, None, Some}
+use Rattle.std.specs.Option.{option_or}
+use Rattle.client_registry.specs.Command.{Add, Delete, Search}
+use Rattle.client_registry.specs.Document.{Document}
+use Rattle.client_registry.specs.Run.{Run}
+use Rattle.client_registry.specs.Setup.{Setup}
+use Rattle.script_documents.specs.Refused.{bad_word}
+use Rattle.def_script_meaning.specs.Lines.{Request}
+use Rattle.def_script_meaning.specs.Outcome.{Place, Outcome, after}
+use Rattle.def_script_meaning.specs.Refused.{add_refusal, delete_refusal}
+use Rattle.sse_script.specs.declared.refusal.Refusal.{Refusal}
+use Rattle.script_history.specs.Reads.{number_refusal, read_outcome, refusal_in}
+use Rattle.script_history.specs.declared.stage.Stage.{Stage}
+use Rattle.script_history.specs.declared.stage.Stage.TheVariants.{Collecting, Built}
+
+-- the code's reading collects the documents of a place, and after the setup it has the place's history
+abbrev pub IsAt : Stage → Place → Type 0
+IsAt (Collecting docs) place = (docs.documents ≡ place.documents) × (place.history ≡ None)
+IsAt (Built history) place = place.history ≡ Some history
+
+-- a line comes to this: its refusal is found where it has one, and the reading stands after it
+pub record ComesTo (place : Place) (result : Outcome) (next : Stage) (found : Option Refusal) : Type 0 where
+  pub refusal : found ≡ refusal_in result
+  pub stands : IsAt next (after result place)
+
+-- wherever the reading may stand, it does with a line what is to be done there
+abbrev pub Takes : Stage → Request → Stage → Option Refusal → Type 0
+Takes stage request next found = (place : Place) → IsAt stage place → ComesTo place (read_outcome place request) next found
+
+-- the same of a line after the setup, by the histories before and after it
+abbrev pub TakesAfter : Run → Request → Run → Option Refusal → Type 0
+TakesAfter run request next found =
+    (place : Place) → place.history ≡ Some run → let result = read_outcome place request in (found ≡ refusal_in result) × ((after result place).history ≡ Some next)
+
+-- Why each kind of command is refused, with what its history can't number.
+
+abbrev pub read_add_refusal : Run → Document → Option Refusal
+read_add_refusal run d = option_or (add_refusal (Some run) d) (number_refusal (Some run) (Add d ∷ []))
+
+abbrev pub read_delete_refusal : Run → ℕ → Option Refusal
+read_delete_refusal run id = option_or (delete_refusal (Some run) id) (number_refusal (Some run) (Delete id ∷ []))
+
+abbrev pub read_find_refusal : Run → List ℕ → Option Refusal
+read_find_refusal run word = option_or (bad_word 0 (word ∷ [])) (number_refusal (Some run) (Search word ∷ []))
+
+-- the documents after one that was refused or collected
+abbrev pub collected_after : Option Refusal → List Document → Document → List Document
+collected_after None docs d = docs ++ d ∷ []
+collected_after (Some refusal) docs d = docs
+
+-- the stage after a setup that was refused or accepted
+abbrev pub IsSetUp : Option Refusal → List Document → Setup → Stage → Type 0
+IsSetUp None docs s (Built history) = history ≡ record { setup = s; later = [] }
+IsSetUp (Some refusal) docs s (Collecting collected) = collected.documents ≡ docs
+IsSetUp _ docs s _ = ⊥

@@ -1,0 +1,21 @@
+//! Reads a script to its history, with no link and no disk, and prints only the refusals. It depends on
+//! `def_script_meaning` for what a line comes to, on `leakage_history` for the history as a value, and on `script_run_texts` for
+//! numbered lines. It is no run, so it has definitions of its own (`Reads`), joined to the meaning by one law. A
+//! `NumberedHistory` refuses a command with which commands, update frames or words couldn't be numbered in 32 bits;
+//! words count as often as they are named, since counting different ones needs a table. `take_line` carries out one
+//! line after the key line.
+//! Proved: `read_history` is a reading (specs/Reads.antt) over any source and sink; a reading without device faults
+//! and with enough memory does what the script means (`reads-meaning`).
+//! Side: client.
+#![tactic(auto)]
+
+mod lines;
+mod numbered_history;
+mod script_reader;
+mod stage;
+mod taken_line;
+
+pub use numbered_history::NumberedHistory;
+pub use script_reader::{FirstScript, ReadScript, read_first, read_history};
+pub use stage::Stage;
+pub use taken_line::take_line;

@@ -1,0 +1,9 @@
+pub mod Words
+pub mod Lines
+pub mod Script
+pub mod ReadLines
+pub mod Asked
+pub mod Summary
+pub mod SummaryViews
+pub mod Buffer
+pub mod Source

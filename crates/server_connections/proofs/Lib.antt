@@ -1,0 +1,7 @@
+mod Ranges
+mod ConnectionStepLaws
+mod Pages
+mod Servings
+mod LastingFrames
+mod OneGiven
+mod DiskCauses

@@ -1,0 +1,10 @@
+pub mod Turns
+pub mod Disks
+pub mod Handled
+pub mod Connections
+pub mod ConnectionSteps
+pub mod RepliesLeft
+pub mod Served
+pub mod QueuedConns
+pub mod Scripts
+pub mod MemConns

@@ -1,0 +1,95 @@
+ghost use Rattle.std.specs.Prelude.{◌≡◌, ◌≢◌, ◌≤◌, ◌<◌, ◌++◌, ℕ, List, false, All, length, take};
+ghost use Rattle.keyed_fn.specs.KeyedFn.{keyed_fn};
+ghost use Rattle.sse_frames.specs.Frames.{FrameText, InGrammar};
+ghost use Rattle.sse_frames.specs.FrameViews.{frame_view};
+ghost use Rattle.sse_frames.specs.Sizes.{HasSizes};
+ghost use Rattle.server_core.specs.State.{ServerState};
+ghost use Rattle.server_core.specs.Views.{HasBegun, HasRange};
+ghost use Rattle.server_core.specs.Walk.{IsWalk, contents_of, rest_of};
+ghost use Rattle.sse_server.specs.Answers.{IfAnswered};
+ghost use Rattle.server_connections.specs.Disks.{AnswersDisk};
+ghost use Rattle.server_connections.specs.Handled.{IsHandled, Last, taken_by};
+
+use keyed_fn::Keyed;
+use server_core::Walk;
+use server_tables::Tables;
+use sse_frames::Frame;
+use sse_outside::Disk;
+use sse_server::{Store, StoreAnswer};
+
+/// What answers the frames of connections, over a file of a disk that it doesn't hold: a server that lasts, or many of
+/// them of which one is chosen.
+///
+/// It tells contracts the state of the server that answers (`state`), that its file and the disk belong together (`stands`),
+/// that it has taken certain frames, from nothing on, which every crash leaves (`lasts`), and that the disk didn't fail in an
+/// earlier call (`sound`).
+pub trait Keeps<D: Disk> {
+    ghost state: { Self → ServerState };
+
+    ghost stands: { Self → D → Type 0 };
+
+    ghost lasts: { Self → D → List FrameText → Type 0 };
+
+    ghost sound: { Self → Type 0 };
+
+    // Promise P27, also here; clauses: lasts
+    /// The answer to a frame, by the server's step; after `Found` the page begins with what the search gives first, and the
+    /// walk gives the others. In place of taking an update frame it may be out of memory or its disk may fail, and then the
+    /// state is as before. A frame that was taken lasts. No other frame takes memory.
+    fn keep<K: Keyed>(
+        &mut self,
+        keyed: &K,
+        disk: &mut D,
+        frame: &Frame<'_>,
+        page: &mut [u64],
+    ) -> StoreAnswer
+        requires grammar { InGrammar (frame_view frame.now) }
+        requires sizes { HasSizes frame.now }
+        requires stands { stands self.old disk.old }
+        ensures stands { stands self.new disk.new }
+        ensures handled { IsHandled (keyed_fn K.prf K.pad) (state self.old) (frame_view frame.now) result page.new (state self.new) }
+        ensures begun { IfAnswered result (λ answer. HasBegun (keyed_fn K.prf K.pad) (state self.new) answer page.new) }
+        ensures range { IfAnswered result (λ answer. HasRange answer) }
+        ensures long { length page.new ≡ length page.old }
+        ensures lasts { Last (lasts self.old disk.old) (lasts self.new disk.new) (taken_by (frame_view frame.now) result) }
+        ensures disk { AnswersDisk (sound self.old) (sound self.new) (D.faults disk.old) (D.faults disk.new) result };
+
+    /// Hands out what a walk gives next: as many identifiers as fit. No frame was handled since the walk began. It takes no
+    /// memory.
+    fn fill<K: Keyed>(&self, keyed: &K, walk: &mut Walk, page: &mut [u64]) -> usize
+        requires walk { IsWalk (keyed_fn K.prf K.pad) (contents_of (state self.now)) walk.old }
+        requires some { 0 < length page.old }
+        ensures handed { rest_of (keyed_fn K.prf K.pad) (contents_of (state self.now)) walk.old ≡ take result page.new ++ rest_of (keyed_fn K.prf K.pad) (contents_of (state self.now)) walk.new }
+        ensures walk { IsWalk (keyed_fn K.prf K.pad) (contents_of (state self.now)) walk.new }
+        ensures room { result ≤ length page.new }
+        ensures full { walk.new.is_over ≡ false → result ≡ length page.new }
+        ensures ids { All (λ id. 0 < id) (take result page.new) }
+        ensures long { length page.new ≡ length page.old };
+}
+
+impl<T: Tables, D: Disk> Keeps<D> for Store<T> {
+    ghost use Rattle.sse_server.specs.StoreView.{IsWithin};
+    ghost use Rattle.server_connections.specs.Handled.{IsWholeStoreOf, IsSound};
+
+    ghost state = { λ s. s.state };
+
+    ghost stands = { λ s disk. IsWithin s.journal (D.content disk) };
+
+    ghost sound = { λ s. IsSound s.journal };
+
+    ghost lasts = { λ s disk frames. IsWholeStoreOf frames s (D.content disk) (D.images disk) };
+
+    fn keep<K: Keyed>(
+        &mut self,
+        keyed: &K,
+        disk: &mut D,
+        frame: &Frame<'_>,
+        page: &mut [u64],
+    ) -> StoreAnswer {
+        self.handle(keyed, disk, frame, page)
+    }
+
+    fn fill<K: Keyed>(&self, keyed: &K, walk: &mut Walk, page: &mut [u64]) -> usize {
+        self.fill(keyed, walk, page)
+    }
+}

@@ -1,0 +1,36 @@
+//! A server over connections: it answers the frames of one connection until it ends, then serves the next. A
+//! connection is two halves, a source and a sink, since of one value no clause could say that a read leaves what was
+//! written. `Conns` gives the connections; `Keeps` answers a frame, so that one store or many can be served. It
+//! depends on `sse_server` for a store that lasts, on `sse_frames` and on `sse_outside`; it knows no word and no key.
+//! A peer that is silent for 60 seconds loses its connection, since one is served at a time. A peer that sends a byte
+//! now and then still holds the service: a limit on the whole connection needs a clock, of which no proof speaks.
+//! Proved: over any source, sink, keeper and disk, what was read is whole frames, answered in turn, and the bytes
+//! left after them; what was written are their replies (`IsConnection`).
+//! Side: server.
+#![tactic(auto)]
+
+mod conn_end;
+mod connection;
+mod conns;
+mod duplex;
+mod front_frame;
+mod incoming;
+mod keeps;
+mod mem_conns;
+mod outgoing;
+mod reply_list;
+mod script;
+mod service;
+mod tcp_conns;
+
+pub use conn_end::ConnEnd;
+pub use connection::serve_connection;
+pub use conns::Conns;
+pub use duplex::Duplex;
+pub use incoming::Incoming;
+pub use keeps::Keeps;
+pub use mem_conns::MemConns;
+pub use outgoing::Outgoing;
+pub use script::Script;
+pub use service::{ServeFault, serve};
+pub use tcp_conns::TcpConns;

@@ -1,8 +1,0 @@
-pub mod AbsentLaws
-pub mod BadLaws
-pub mod ExchangeLaws
-pub mod Gathering
-pub mod PageLaws
-pub mod RunLaws
-pub mod UpdateLaws
-pub mod ViewLaws

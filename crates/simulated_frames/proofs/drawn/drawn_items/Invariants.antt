@@ -1,9 +1,0 @@
-use Rattle.std.proofs.Common.{◌≡◌, ◌-◌, map, drop}
-use Rattle.sse_simulator.specs.Simulator.{first_of}
-use Rattle.simulated_frames.specs.Making.{ahead, kind_of}
-use Rattle.simulated_frames.specs.Views.{draw_view}
-use Rattle.simulated_frames.proofs.drawn.drawn_items.Given as goal
-
-abbrev pub invariant-loop-i : goal.invariant-loop-i
-invariant-loop-i l =
-    ahead l.entries.items (first_of (kind_of l.section) (l.count - l.i) (drop l.i (map draw_view l.draws))) ≡ first_of (kind_of l.section) l.count (map draw_view l.draws)

@@ -1,8 +1,0 @@
-use Rattle.std.proofs.Common.{◌≡◌, map, drop}
-use Rattle.simulated_frames.specs.Making.{draws_left}
-use Rattle.simulated_frames.specs.Views.{draw_view, word_view}
-use Rattle.simulated_frames.proofs.earlier.behind_words.Given as goal
-
-abbrev pub invariant-loop-word : goal.invariant-loop-word
-invariant-loop-word l =
-    draws_left (map word_view (drop l.word-index l.words)) (map draw_view l.rest) ≡ draws_left (map word_view l.words) (map draw_view l.draws)

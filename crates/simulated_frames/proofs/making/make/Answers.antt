@@ -1,8 +1,0 @@
-use Rattle.std.proofs.Common.{map}
-use Rattle.std.proofs.lemmas.Result.{on_ok_weaker}
-use Rattle.simulated_frames.specs.Making.{kept_view}
-use Rattle.simulated_frames.proofs.making.make.Goals as goal
-
-pub returns-in-Setup : goal.returns-in-Setup
-returns-in-Setup c =
-    rw c.in-Setup.is (record { made = on_ok_weaker c.make_setup.result (λ made. made (map kept_view c.args.kept.now)) c.make_setup.ensures.made })

@@ -1,4 +1,0 @@
-pub mod Making
-pub mod Steps
-pub mod Texts
-pub mod Views

@@ -1,3 +1,0 @@
-pub mod Agreement
-pub mod Held
-pub mod Taking

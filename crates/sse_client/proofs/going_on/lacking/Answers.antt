@@ -1,7 +1,0 @@
-use Rattle.sse_client.proofs.going_on.lacking.Goals as goal
-
-pub returns-in-Err-clause-meant : goal.returns-in-Err-clause-meant
-returns-in-Err-clause-meant c = (c.in-Err.fault, c.stop_of.ensures)
-
-pub returns-in-Err-clause-stopped : goal.returns-in-Err-clause-stopped
-returns-in-Err-clause-stopped c = λ f key run knows. (c.in-Err.fault, c.stop_of.ensures, c.in-Err.ensures.lacks f key run knows)

@@ -1,3 +1,0 @@
-pub mod UsedNames
-pub mod Differing
-pub mod SameLeaks

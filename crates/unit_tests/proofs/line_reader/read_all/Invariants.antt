@@ -1,5 +1,0 @@
-use Rattle.sse_script.specs.TextLines.{bytes_to_come}
-use Rattle.unit_tests.proofs.line_reader.read_all.Given as goal
-
-abbrev pub decreases-lines : goal.decreases-lines
-decreases-lines g l = bytes_to_come l.reader (g.S.Source.handed_out l.source)

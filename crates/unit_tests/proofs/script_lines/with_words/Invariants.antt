@@ -1,5 +1,0 @@
-use Rattle.std.proofs.Common.{length}
-use Rattle.unit_tests.proofs.script_lines.with_words.Given as goal
-
-abbrev pub decreases-loop-word : goal.decreases-loop-word
-decreases-loop-word l = length l.words
