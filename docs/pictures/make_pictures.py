@@ -1,10 +1,10 @@
 #!/usr/bin/env python3
-"""Makes the pictures of the documents: docs/sides.svg of crates.txt, docs/ARCHITECTURE.md and docs/FORMATS.md, docs/growth.svg and
-docs/scale.svg of what bench/growth and bench/scale printed into growth.txt and scale.txt beside this file.
+"""Makes the pictures of the documents: docs/sides.svg of crates.txt, the head comments of the crates and docs/FORMATS.md,
+docs/growth.svg and docs/scale.svg of what bench/growth and bench/scale printed into growth.txt and scale.txt beside this file.
 
     docs/pictures/make_pictures.py
 
-`.ci/documents` tells where one that is there isn't the one that this makes."""
+`.ci/documents` reports a picture that isn't the one that this makes."""
 import os
 import sys
 

@@ -1,11 +1,14 @@
-"""Both sides with what crosses, as a picture: the crates of crates.txt on the sides that the table of docs/ARCHITECTURE.md gives them,
+"""Both sides with what crosses, as a picture: the crates of crates.txt on the sides that their head comments name (docs/pages/crate_table.py),
 each on a row with those of its level, and between the sides the frames and replies of docs/FORMATS.md."""
 import os
 import re
+import sys
 
 import svg
 
-TOP = os.path.dirname(os.path.dirname(os.path.dirname(os.path.abspath(__file__))))
+sys.path.insert(0, os.path.join(os.path.dirname(os.path.abspath(__file__)), os.pardir, "pages"))
+from crate_table import TOP, crates, read  # noqa: E402
+
 WIDTH = 1180
 CLIENT, SERVER = (20, 560), (860, 300)  # where a side begins, and how wide it is
 LANE = (CLIENT[0] + CLIENT[1] + 12, SERVER[0] - 12)
@@ -13,50 +16,20 @@ HEAD, ROW, GAP, CHIP = 84, 27, 9, 22
 EACH = 7.25  # the width of a letter of a crate's name
 COLOURS = {"client": ("#fdf1e3", "#d9a25f", "#8a5410"), "server": ("#e8f1fb", "#7fa8d6", "#1f5592"), "both": ("#eef4ea", "#93b483", "#3f6b2c")}
 HOLDS = {
-    "client": ("Client", "the documents, the words and the master key, here alone", "a journal of its own: documents and words as they are, no key"),
-    "server": ("Server", "encrypted lists; it never sees a word", "a journal of its own: the frames that it took"),
-    "both": ("Both sides", "what either stands on: no words, no documents, no master key", ""),
+    "client": ("Client", "only here are documents, words and the master key", "its journal: documents and words in plaintext, no key"),
+    "server": ("Server", "encrypted lists; it never sees a word", "its journal: the frames that it accepted"),
+    "both": ("Both sides", "used by either side: no words, no documents, no master key", ""),
 }
 CROSSES = [
-    "01 opens a session and is answered by 81, the number that is expected next.",
-    "02 to 05 are a setup, 06 an addition, 07 a deletion: each is acknowledged by 82.",
-    "08 is a search: five keys of one word. It is answered by pages, 85.",
-    "The other replies tell why a frame wasn't taken or a search not answered.",
+    "01 opens a session; 81 answers it with the number of the frame expected next.",
+    "02 to 05 are a setup, 06 an addition, 07 a deletion; 82 acknowledges each.",
+    "08 is a search: five keys of one word. Pages, 85, answer it.",
+    "The other replies say why a frame was refused or a search not answered.",
 ]
 
 
-def read(path):
-    with open(os.path.join(TOP, path), encoding="utf-8") as file:
-        return file.read()
-
-
-class Crate:
-    """A crate as its row of docs/ARCHITECTURE.md has it, with the level that crates.txt gives it."""
-
-    def __init__(self, name, level, side, holds, proved):
-        self.name, self.level, self.side, self.holds = name, level, side, holds
-        self.is_program = os.path.exists(os.path.join(TOP, "crates", name, "src", "main.rt"))
-        self.is_test = proved.startswith("nothing more: ")
-
-    def width(self):
-        return EACH * len(self.name) + 14
-
-
-def levels():
-    """Each crate's level: one more than the highest that it depends on."""
-    found = {}
-    for line in read("crates.txt").splitlines():
-        name, _, below = line.partition("#")[0].partition(":")
-        if name.strip():
-            found[name.strip()] = 1 + max((found[crate] for crate in below.split() if crate in found), default=0)
-    return found
-
-
-def crates():
-    """Those that have a row there, in the order of crates.txt; `.ci/layers` names the others."""
-    rows = re.findall(r"^\| \d+ \| (\w+) \| `(\w+)` \| ([^|]*) \| ([^|]*) \|$", read("docs/ARCHITECTURE.md"), re.M)
-    of = {name: (side, holds, proved) for side, name, holds, proved in rows}
-    return [Crate(name, level, *of[name]) for name, level in levels().items() if name in of]
+def width_of(crate):
+    return EACH * len(crate.name) + 14
 
 
 def kinds():
@@ -70,11 +43,11 @@ def rows_of(chosen, width):
     """Crates cut into rows that are no wider."""
     rows, taken = [[]], 0.0
     for crate in chosen:
-        if rows[-1] and taken + crate.width() > width:
+        if rows[-1] and taken + width_of(crate) > width:
             rows.append([])
             taken = 0.0
         rows[-1].append(crate)
-        taken += crate.width() + 6
+        taken += width_of(crate) + 6
     return rows
 
 
@@ -85,10 +58,10 @@ def draw_level(picture, place, chosen, width):
         for crate in row:
             _, edge, ink = COLOURS[crate.side]
             fill = edge if crate.is_program else "#ffffff"
-            picture.box(x, y, crate.width(), CHIP, fill, edge, dashed=crate.is_test, tip=f"{crate.name}: {crate.holds}")
-            picture.text(x + crate.width() / 2, y + 15, crate.name, 12, "middle", svg.INK if crate.is_program else ink, mono=True,
+            picture.box(x, y, width_of(crate), CHIP, fill, edge, dashed=crate.is_test, tip=f"{crate.name}: {crate.purpose}".replace("`", ""))
+            picture.text(x + width_of(crate) / 2, y + 15, crate.name, 12, "middle", svg.INK if crate.is_program else ink, mono=True,
                          bold=crate.is_program)
-            x += crate.width() + 6
+            x += width_of(crate) + 6
         y += ROW
 
 
@@ -123,7 +96,7 @@ def picture():
     of_side = {side: [crate for crate in crates() if crate.side == side] for side in COLOURS}
     wide = {"client": CLIENT[1] - 46, "server": SERVER[1] - 24, "both": WIDTH - 100}
     y, tops = 20 + HEAD, []
-    for level in range(max(levels().values()), 0, -1):
+    for level in range(max(crate.level for crate in crates()), 0, -1):
         at = {side: [crate for crate in of_side[side] if crate.level == level] for side in ("client", "server")}
         tops.append((y, level, at))
         y += ROW * max(len(rows_of(at[side], wide[side])) for side in at) + GAP
@@ -150,6 +123,6 @@ def picture():
         draw_level(made, (54, y), row, wide["both"])
         y += ROW * len(rows_of(row, wide["both"])) + GAP
     y = height - 16
-    made.text(24, y, "Filled: a program. Dashed: tests alone. The number is the level: a crate depends on crates of lower levels,"
-              " and on one of the client only where it is of the client itself.", 12.5, ink=svg.PALE)
+    made.text(24, y, "Filled: a program. Dashed: only tests. The number is the level: a crate depends on crates of lower levels,"
+              " and only the client's crates depend on the client's.", 12.5, ink=svg.PALE)
     return made.whole()
