@@ -143,9 +143,11 @@ def have_journals(path, script, frames):
 
 class Server:
     """The server's program over a journal, listening; it is ended where the block is left. Where no address is given, another free one
-    is tried as long as one is taken in between. What is given besides is how it is started."""
+    is tried as long as one is taken in between. What it says on standard error is left out, unless it is started otherwise. What is given
+    besides is how it is started."""
 
     def __init__(self, path, *count, address=None, folder=None, **given):
+        given.setdefault("stderr", subprocess.DEVNULL)
         for _ in range(TRIES):
             self.address = address or free_address()
             self.process = subprocess.Popen([SERVED, self.address, path, *count], stdout=subprocess.PIPE, cwd=folder, **given)
@@ -195,7 +197,7 @@ def run(address, path, mode, script, lines, status):
 
 def ends(program, words, line, status, script=b""):
     """Runs a program to its end."""
-    ran = subprocess.run([program, *words], input=script, stdout=subprocess.PIPE, timeout=SECONDS, check=False)
+    ran = subprocess.run([program, *words], input=script, stdout=subprocess.PIPE, stderr=subprocess.DEVNULL, timeout=SECONDS, check=False)
     same(f"the output of {words}", ran.stdout, line)
     same(f"the status of {words}", ran.returncode, status)
 

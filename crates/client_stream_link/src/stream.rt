@@ -107,7 +107,7 @@ impl<S: Source, W: Sink> Link for StreamLink<S, W> {
     ghost began = { λ _. None };
 
     // Promise P86 (caller): Over a stream, a sent frame is all that is written and a receive takes one reply; a cut has a visible cause.
-    //   clauses: sent, none_due, in_place, cut, less, cause, never_memory, source_kept; assumes: observable devices; checks: .ci/tcp; not: That a call returns in any time; how much of a
+    //   clauses: sent, none_due, in_place, cut, less, cause, never_memory, source_kept; assumes: sizes in bounds, earlier calls, observable devices; checks: .ci/tcp; not: That a call returns in any time; how much of a
     //     cut frame the peer took. Of a socket only the counts and the place are known.
     fn send(&mut self, frame: &[u8]) -> Result<(), LinkFault>
         requires frame { IsFrame frame.now }

@@ -174,7 +174,7 @@ impl Disk for MemDisk {
     }
 
     // Promise P111 (caller): A disk in memory records each change as it is, fails at exactly the chosen calls, and its images are possible crash images.
-    //   clauses: made, made_failed, made_none, file_err, fails, passes, counted, not_counted
+    //   clauses: made, made_failed, made_none, file_err, fails, passes, counted, not_counted; assumes: sizes in bounds
     fn write_at(&mut self, at: u64, bytes: &[u8]) -> Result<(), DeviceFault>
         requires within { at ≤ length (file_of self.old) }
         requires fits { at + length bytes.now < 2 ^ 64 }

@@ -1,6 +1,5 @@
-//! The words of a program's command line, as a value that contracts can name. Every program uses it, and it depends
-//! only on std. The words are read by hand and not by clap: clap takes memory for any words, so a program over it
-//! couldn't promise that wrong words end with status 2 however little memory there is.
+//! The words of a program's command line, as a value that contracts can name. The network programs use it, and it
+//! depends only on std. What the words ask for is in `program_words`.
 //! Proved: which words follow the program's name, or why there are none.
 //! Not covered: that the program was started with these words.
 //! Side: both.

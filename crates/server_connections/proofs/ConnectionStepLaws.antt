@@ -28,7 +28,7 @@ use Rattle.server_connections.specs.declared.conn_end.ConnEnd.{ConnEnd}
 use Rattle.server_connections.specs.declared.conn_end.ConnEnd.TheVariants.{Closed, CutShort, ReadFault, WriteFault, OutOfMemory, BadFrame, StoreFault}
 use Rattle.server_connections.specs.Connections.{Finishes, IsCut, IsLast, HasFailed, bad_reply}
 use Rattle.server_connections.specs.ConnectionSteps.{Goes, IsCame, IsReplied, IsSaidLast, Stops}
-use Rattle.server_connections.specs.Handled.{IsHandled, Last, taken_by}
+use Rattle.server_connections.specs.Handled.{IsHandled, Last, Since, taken_by}
 use Rattle.server_connections.specs.Turns.{Turn, IsTurn, AreTurns, IsAnswered, frames_of, replies_of, bytes_of, acknowledged, is_acknowledged}
 
 -- Lists, with one more at the end.
@@ -78,11 +78,11 @@ front-behind written0 written written2 said more is front = record {
 
 -- What lasts.
 
-Last-more : (lasts0 lasts lasts2 : List FrameText → Type 0) (first more all : List FrameText) → first ++ more ≡ all → Last lasts0 lasts first → Last lasts lasts2 more → Last lasts0 lasts2 all
+Last-more : (lasts0 lasts lasts2 : Since → List FrameText → Type 0) (first more all : List FrameText) → first ++ more ≡ all → Last lasts0 lasts first → Last lasts lasts2 more → Last lasts0 lasts2 all
 Last-more lasts0 lasts lasts2 first more all is one two =
-    λ frames known. subst lasts2 (append_assoc frames first more ∙ ap (λ l. frames ++ l) is) (two (frames ++ first) (one frames known))
+    λ since frames known. subst (lasts2 since) (append_assoc frames first more ∙ ap (λ l. frames ++ l) is) (two since (frames ++ first) (one since frames known))
 
-no_more : (lasts0 lasts lasts2 : List FrameText → Type 0) (frames : List FrameText) → Last lasts0 lasts frames → Last lasts lasts2 [] → Last lasts0 lasts2 frames
+no_more : (lasts0 lasts lasts2 : Since → List FrameText → Type 0) (frames : List FrameText) → Last lasts0 lasts frames → Last lasts lasts2 [] → Last lasts0 lasts2 frames
 no_more lasts0 lasts lasts2 frames one two = Last-more lasts0 lasts lasts2 frames [] frames (append-nil frames) one two
 
 is_acknowledged-pages_of : (ps : List (List ℕ)) → is_acknowledged (pages_of ps) ≡ false
@@ -138,7 +138,7 @@ Finishes-cut end turns state rest left written0 written (inr is) cut = subst (λ
 
 -- The steps.
 
-module _ {S D : Type 0} (f : KeyedFn) (state : S → ServerState) (lasts : S → D → List FrameText → Type 0) (left written written2 : Option (List ℕ)) (held held2 : List ℕ) (store store2 : S) (disk disk2 : D) where
+module _ {S D : Type 0} (f : KeyedFn) (state : S → ServerState) (lasts : S → D → Since → List FrameText → Type 0) (left written written2 : Option (List ℕ)) (held held2 : List ℕ) (store store2 : S) (disk disk2 : D) where
   -- the frame in front was answered, or its replies cut
   Goes-answered : (frame : FrameText) (answer : Answer) (page : List ℕ) (result : Result Unit ConnEnd) → InGrammar frame → held ≡ frame_bytes frame ++ held2
       → IsHandled f (state store) frame (stores.Answered answer) page (state store2) → Last (lasts store disk) (lasts store2 disk2) (taken_by frame (stores.Answered answer))
@@ -246,7 +246,7 @@ module _ (turns : List Turn) (state : ServerState) (held held2 held3 : List ℕ)
   ends-more StoreFault part same still said stops = absurd stops
 
 -- no whole frame is in front, and more was read, or nothing came
-module _ {S D : Type 0} (f : KeyedFn) (state : S → ServerState) (lasts : S → D → List FrameText → Type 0) (left left2 written : Option (List ℕ)) (held held2 held3 : List ℕ) (store store2 : S) (disk disk2 : D) where
+module _ {S D : Type 0} (f : KeyedFn) (state : S → ServerState) (lasts : S → D → Since → List FrameText → Type 0) (left left2 written : Option (List ℕ)) (held held2 held3 : List ℕ) (store store2 : S) (disk disk2 : D) where
   pub Goes-more : (result : Result Unit ConnEnd) → frame_outcome held ≡ Ok false → held2 ≡ held → state store2 ≡ state store → Last (lasts store disk) (lasts store2 disk2) []
       → IsCame held2 held3 left left2 result
       → Goes f state lasts left left2 written written held held3 store store2 disk disk2 result

@@ -5,3 +5,4 @@ mod Servings
 mod LastingFrames
 mod OneGiven
 mod DiskCauses
+mod ClosedDisks

@@ -7,6 +7,7 @@ use Rattle.keyed_fn.specs.KeyedFn.{KeyedFn}
 use Rattle.sse_frames.specs.Frames.{FrameText}
 use Rattle.server_core.specs.State.{ServerState}
 use Rattle.server_connections.specs.declared.duplex.Duplex.{Duplex}
+use Rattle.server_connections.specs.Handled.{Since}
 use Rattle.server_connections.specs.Served.{IsServed, AreServed, HaveServed}
 
 -- a list that grew by some and then by one
@@ -20,7 +21,7 @@ grown-none : {A : Type 0} (old : Option (List A)) → old ≡ option_map (λ l. 
 grown-none None = refl
 grown-none (Some l) = ap Some (sym (append-nil l))
 
-module _ {S D I O : Type 0} (f : KeyedFn) (state : S → ServerState) (lasts : S → D → List FrameText → Type 0) (remaining : I → Option (List ℕ)) (written : O → Option (List ℕ)) where
+module _ {S D I O : Type 0} (f : KeyedFn) (state : S → ServerState) (lasts : S → D → Since → List FrameText → Type 0) (remaining : I → Option (List ℕ)) (written : O → Option (List ℕ)) where
   AreServed-last : (store mid store2 : S) (disk mid_disk disk2 : D) (conns backs : List (Duplex I O)) (conn back : Duplex I O)
       → AreServed f state lasts remaining written conns backs store mid disk mid_disk → IsServed f state lasts remaining written mid store2 mid_disk disk2 conn back
       → AreServed f state lasts remaining written (conns ++ conn ∷ []) (backs ++ back ∷ []) store store2 disk disk2

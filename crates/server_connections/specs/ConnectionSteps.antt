@@ -16,11 +16,11 @@ use Rattle.server_connections.specs.declared.conn_end.ConnEnd.{ConnEnd}
 use Rattle.server_connections.specs.declared.conn_end.ConnEnd.TheVariants.{Closed, CutShort, ReadFault, WriteFault, OutOfMemory, BadFrame, StoreFault}
 use Rattle.server_connections.specs.Connections.{IsConnection, EndsSource, EndsSink}
 use Rattle.server_connections.specs.Disks.{IsSteady, AnswersDisk}
-use Rattle.server_connections.specs.Handled.{IsHandled, Last, taken_by}
+use Rattle.server_connections.specs.Handled.{IsHandled, Last, Since, taken_by}
 use Rattle.server_connections.specs.Turns.{Turn, AreTurns, frames_of, replies_of, bytes_of, acknowledged}
 
 -- what was read and written while these frames were answered; this is held behind them
-pub record Progress (f : KeyedFn) (left0 left written0 written : Option (List ℕ)) (lasts0 lasts : List FrameText → Type 0) (before : ServerState) (held : List ℕ) (now : ServerState) : Type 0 where
+pub record Progress (f : KeyedFn) (left0 left written0 written : Option (List ℕ)) (lasts0 lasts : Since → List FrameText → Type 0) (before : ServerState) (held : List ℕ) (now : ServerState) : Type 0 where
   pub turns : List Turn
   pub answered : AreTurns f before turns now
   pub read_is : left0 ≡ prepend_known (frames_of turns ++ held) left
@@ -28,7 +28,7 @@ pub record Progress (f : KeyedFn) (left0 left written0 written : Option (List �
   pub lasting : Last lasts0 lasts (acknowledged turns)
 
 -- a step goes on, or ends the connection, from wherever it stood
-abbrev pub Goes : {S D : Type 0} → KeyedFn → (state : S → ServerState) (lasts : S → D → List FrameText → Type 0) (left left2 written written2 : Option (List ℕ)) (held held2 : List ℕ)
+abbrev pub Goes : {S D : Type 0} → KeyedFn → (state : S → ServerState) (lasts : S → D → Since → List FrameText → Type 0) (left left2 written written2 : Option (List ℕ)) (held held2 : List ℕ)
     → (store store2 : S) (disk disk2 : D) → Result Unit ConnEnd → Type 0
 Goes {S} {D} f state lasts left left2 written written2 held held2 store store2 disk disk2 result = (left0 written0 : Option (List ℕ)) (store0 : S) (disk0 : D)
     → Progress f left0 left written0 written (lasts store0 disk0) (lasts store disk) (state store0) held (state store)
@@ -53,7 +53,7 @@ IsCame held held2 left left2 result = MatchResult result
     (λ end. (held2 ≡ held) × Stops end held left left2)
 
 -- what stood in front of the bytes held, and what the keeper answered
-abbrev pub IsFronted : KeyedFn → (held held2 : List ℕ) (lasts lasts2 : List FrameText → Type 0) (now now2 : ServerState) → InFront → (page : List ℕ) → Type 0
+abbrev pub IsFronted : KeyedFn → (held held2 : List ℕ) (lasts lasts2 : Since → List FrameText → Type 0) (now now2 : ServerState) → InFront → (page : List ℕ) → Type 0
 IsFronted f held held2 lasts lasts2 now now2 Part page = (frame_outcome held ≡ Ok false) × (held2 ≡ held) × (now2 ≡ now) × Last lasts lasts2 []
 IsFronted f held held2 lasts lasts2 now now2 (Bad fault) page = (frame_outcome held ≡ Err fault) × (held2 ≡ held) × (now2 ≡ now) × Last lasts lasts2 []
 IsFronted f held held2 lasts lasts2 now now2 (Whole answer) page =

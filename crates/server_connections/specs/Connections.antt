@@ -13,7 +13,7 @@ use Rattle.sse_server.specs.Taken.{IsTaken}
 use Rattle.sse_link.specs.BadFrames.{bad_reason}
 use Rattle.server_connections.specs.declared.conn_end.ConnEnd.{ConnEnd}
 use Rattle.server_connections.specs.declared.conn_end.ConnEnd.TheVariants.{Closed, CutShort, ReadFault, WriteFault, OutOfMemory, BadFrame, StoreFault}
-use Rattle.server_connections.specs.Handled.{Last}
+use Rattle.server_connections.specs.Handled.{Last, Since}
 use Rattle.server_connections.specs.Turns.{Turn, AreTurns, frames_of, replies_of, acknowledged}
 
 -- the reply to bytes that begin with no frame: it says why
@@ -56,7 +56,7 @@ Finishes OutOfMemory turns state rest left written0 written = IsCut turns state 
 
 -- what was read is whole frames, each answered in turn, and what is left behind them; what was written goes by how it ended;
 -- and where frames lasted before it, they and those that were acknowledged last after it
-pub record IsConnection (f : KeyedFn) (left0 left written0 written : Option (List ℕ)) (lasts0 lasts : List FrameText → Type 0) (before : ServerState) (end : ConnEnd) (after : ServerState) : Type 0 where
+pub record IsConnection (f : KeyedFn) (left0 left written0 written : Option (List ℕ)) (lasts0 lasts : Since → List FrameText → Type 0) (before : ServerState) (end : ConnEnd) (after : ServerState) : Type 0 where
   pub turns : List Turn
   pub rest : List ℕ
   pub answered : AreTurns f before turns after

@@ -1,14 +1,15 @@
 -- A keeper's answer to a frame.
-use Rattle.std.specs.Prelude.{◌≡◌, ◌≢◌, ℕ, List, [], ◌∷◌, ◌++◌, Option, Some, None}
+use Rattle.std.specs.Prelude.{◌≡◌, ◌≢◌, ◌⊎◌, ℕ, List, [], ◌∷◌, ◌++◌, Option, Some, None}
 use Rattle.keyed_fn.specs.KeyedFn.{KeyedFn}
 use Rattle.sse_frames.specs.Frames.{FrameText}
-use Rattle.server_core.specs.State.{ServerState}
+use Rattle.server_core.specs.State.{ServerState, at_first}
 use Rattle.server_core.specs.Step.{step}
 use Rattle.server_core.specs.declared.answer.Answer.TheVariants as answers
 use Rattle.sse_server.specs.Answers.{store_replies}
-use Rattle.sse_server.specs.Taken.{IsTaken}
-use Rattle.sse_server.specs.StoreView.{StoreView, IsStoreOf}
-use Rattle.sse_journal.specs.JournalView.{broken_by}
+use Rattle.sse_server.specs.Taken.{IsTaken, AreTaken, taken_all, bodies}
+use Rattle.sse_server.specs.StoreView.{StoreView}
+use Rattle.sse_journal.specs.Files.{Gives}
+use Rattle.sse_journal.specs.JournalView.{broken_by, IsJournalOf}
 use Rattle.sse_journal.specs.declared.journal.Journal.{Journal}
 use Rattle.sse_outside.specs.declared.device_fault.DeviceFault.TheVariants.{Failed}
 use Rattle.sse_server.specs.declared.store_answer.StoreAnswer.{StoreAnswer}
@@ -26,13 +27,37 @@ abbrev pub taken_by : FrameText → StoreAnswer → List FrameText
 taken_by frame (Answered (answers.Took q)) = frame ∷ []
 taken_by frame _ = []
 
--- where frames lasted before a call, they and these last after it
-abbrev pub Last : (lasts lasts2 : List FrameText → Type 0) → List FrameText → Type 0
-Last lasts lasts2 more = (frames : List FrameText) → lasts frames → lasts2 (frames ++ more)
+-- a frame of one of many owners
+pub record OwnedFrame : Type 0 where
+  pub owner : ℕ
+  pub frame : FrameText
 
--- a store whose journal isn't broken has taken these frames, and every crash leaves them
-abbrev pub IsWholeStoreOf : List FrameText → StoreView → (content : Option (List ℕ)) → (images : List ℕ → Type 0) → Type 0
-IsWholeStoreOf frames store content images = broken_by store.journal ≡ None → IsStoreOf frames store content images
+-- whose frames are answered, and the frames of all owners that were taken before
+pub record Since : Type 0 where
+  pub owner : ℕ
+  pub taken : List OwnedFrame
+
+-- where frames lasted before a call, they and these last after it, whatever was taken before them
+abbrev pub Last : (lasts lasts2 : Since → List FrameText → Type 0) → List FrameText → Type 0
+Last lasts lasts2 more = (since : Since) (frames : List FrameText) → lasts since frames → lasts2 since (frames ++ more)
+
+-- a keeper that takes no update frame any more stays so, and leaves its disk untouched
+abbrev pub StaysClosed : {D : Type 0} → (closed closed2 : Type 0) (disk disk2 : D) → Type 0
+StaysClosed closed closed2 disk disk2 = closed → (disk2 ≡ disk) × closed2
+
+-- a start from this file gives these frames and at most one more, which a server takes after them
+abbrev pub GivesAtMostOneMore : List FrameText → (bytes : List ℕ) → Type 0
+GivesAtMostOneMore frames bytes =
+    Gives (bodies frames) bytes
+    ⊎ ((refused : FrameText) × IsTaken (taken_all at_first frames) refused × Gives (bodies (frames ++ refused ∷ [])) bytes)
+
+-- a store has taken these frames; unless its journal is broken they are all of it, and broken or not, the file that a crash
+-- leaves gives them, with at most the one more that a fault of the disk kept from being taken
+pub record IsLasting (frames : List FrameText) (store : StoreView) (content : Option (List ℕ)) (images : List ℕ → Type 0) : Type 0 where
+  pub are_taken : AreTaken at_first frames
+  pub state_is : store.state ≡ taken_all at_first frames
+  pub whole : broken_by store.journal ≡ None → IsJournalOf (bodies frames) store.journal content images
+  pub left : (bytes : List ℕ) → images bytes → GivesAtMostOneMore frames bytes
 
 -- its disk didn't fail at a record
 abbrev pub IsSound : Journal → Type 0

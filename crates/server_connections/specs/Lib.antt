@@ -8,3 +8,4 @@ pub mod Served
 pub mod QueuedConns
 pub mod Scripts
 pub mod MemConns
+pub mod Texts

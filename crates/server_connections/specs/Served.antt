@@ -6,9 +6,10 @@ use Rattle.sse_frames.specs.Frames.{FrameText}
 use Rattle.server_core.specs.State.{ServerState}
 use Rattle.server_connections.specs.declared.conn_end.ConnEnd.{ConnEnd}
 use Rattle.server_connections.specs.declared.duplex.Duplex.{Duplex}
+use Rattle.server_connections.specs.Handled.{Since}
 use Rattle.server_connections.specs.Connections.{IsConnection}
 
-module _ {S D I O : Type 0} (f : KeyedFn) (state : S → ServerState) (lasts : S → D → List FrameText → Type 0) (remaining : I → Option (List ℕ)) (written : O → Option (List ℕ)) where
+module _ {S D I O : Type 0} (f : KeyedFn) (state : S → ServerState) (lasts : S → D → Since → List FrameText → Type 0) (remaining : I → Option (List ℕ)) (written : O → Option (List ℕ)) where
   -- a connection, as it came and as it was given back
   pub record IsServed (store store2 : S) (disk disk2 : D) (conn back : Duplex I O) : Type 0 where
     pub end : ConnEnd

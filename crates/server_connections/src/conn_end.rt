@@ -1,3 +1,5 @@
+use std::fmt;
+
 /// How a connection ended.
 #[derive(Clone, Copy, Debug, PartialEq, Eq)]
 pub enum ConnEnd {
@@ -15,4 +17,23 @@ pub enum ConnEnd {
     BadFrame,
     /// The disk kept an update frame from being taken. The reply that says so is the last one.
     StoreFault,
+}
+
+impl fmt::Display for ConnEnd {
+    ghost use Rattle.std.specs.Prelude.{Some};
+    ghost use Rattle.server_connections.specs.Texts.{conn_end_text};
+
+    ghost output = { λ end. Some (conn_end_text end) };
+
+    fn fmt<W: fmt::Write>(&self, f: &mut fmt::Formatter<W>) -> fmt::Result {
+        match self {
+            ConnEnd::Closed => f.write_str("closed between two frames"),
+            ConnEnd::CutShort => f.write_str("closed inside a frame"),
+            ConnEnd::ReadFault => f.write_str("nothing more could be read, or not in time"),
+            ConnEnd::WriteFault => f.write_str("a reply could not be written, or not in time"),
+            ConnEnd::OutOfMemory => f.write_str("out of memory at a reply"),
+            ConnEnd::BadFrame => f.write_str("what came was no frame"),
+            ConnEnd::StoreFault => f.write_str("the disk kept an update from being stored"),
+        }
+    }
 }

@@ -2,6 +2,7 @@ ghost use Rattle.std.specs.Prelude.{◌≡◌, ◌<◌, ℕ, List, [], OnOk};
 ghost use Rattle.keyed_fn.specs.KeyedFn.{keyed_fn};
 ghost use Rattle.server_connections.specs.Connections.{IsConnection, EndsSource, EndsSink};
 ghost use Rattle.server_connections.specs.Disks.{HasDiskCause, EndsDisk};
+ghost use Rattle.server_connections.specs.Handled.{StaysClosed};
 ghost use Rattle.server_connections.specs.ConnectionSteps.{Goes, HasSourceCause, HasSinkCause, bytes_to_come};
 
 use crate::front_frame::{InFront, more, refuse, reply, take_front};
@@ -20,6 +21,7 @@ fn advance<K: Keyed, D: Disk, S: Keeps<D>, I: Source, O: Sink>(
 ) -> Result<(), ConnEnd>
     requires stands { S.stands store.old disk.old }
     ensures stands { S.stands store.new disk.new }
+    ensures closed { StaysClosed (S.closed store.old) (S.closed store.new) disk.old disk.new }
     ensures goes { Goes (keyed_fn K.prf K.pad) S.state S.lasts (I.remaining conn.old.source) (I.remaining conn.new.source) (O.written conn.old.sink) (O.written conn.new.sink) incoming.old incoming.new store.old store.new disk.old disk.new result }
     ensures disk_cause { HasDiskCause (S.sound store.old) (S.sound store.new) (D.faults disk.old) (D.faults disk.new) result }
     ensures less { OnOk result (bytes_to_come incoming.new (I.handed_out conn.new.source) < bytes_to_come incoming.old (I.handed_out conn.old.source)) }
@@ -35,9 +37,9 @@ fn advance<K: Keyed, D: Disk, S: Keeps<D>, I: Source, O: Sink>(
     }
 }
 
-// Promise P27 (user): While the journal isn't broken, update frames acknowledged over a connection last after it.
-//   clauses: connection; fields: IsConnection.lasting; assumes: observable devices, disk model, earlier calls; not: Acknowledged frames after a fault of the server's disk: then the
-//     clause says nothing of them.
+// Promise P27 (user): Update frames acknowledged over a connection last after it, also after a fault of the server's disk, with at most one frame more.
+//   clauses: connection, closed; fields: IsConnection.lasting, IsLasting.left; assumes: observable devices, disk model, earlier calls; not: The moments of a call: P26 says them
+//     of one frame.
 // Promise P131 (caller): A connection's frames are answered one by one by the server's step, with replies in order.
 //   clauses: connection; fields: IsConnection.answered, IsConnection.read_is, IsConnection.finish; assumes: observable devices, earlier calls; checks: .ci/served; not: An
 //     update frame may be answered out of memory instead, and which were isn't said; how long a call waits. The last frame may be answered with a fault of the disk.
@@ -58,6 +60,7 @@ pub fn serve_connection<K: Keyed, D: Disk, S: Keeps<D>, I: Source, O: Sink>(
 ) -> ConnEnd
     requires stands { S.stands store.old disk.old }
     ensures stands { S.stands store.new disk.new }
+    ensures closed { StaysClosed (S.closed store.old) (S.closed store.new) disk.old disk.new }
     ensures connection { IsConnection (keyed_fn K.prf K.pad) (I.remaining conn.old.source) (I.remaining conn.new.source) (O.written conn.old.sink) (O.written conn.new.sink) (S.lasts store.old disk.old) (S.lasts store.new disk.new) (S.state store.old) result (S.state store.new) }
     ensures disk_cause { EndsDisk (S.sound store.old) (S.sound store.new) (D.faults disk.old) (D.faults disk.new) result }
     ensures source_cause { EndsSource (I.faults conn.old.source) (I.faults conn.new.source) result }

@@ -3,8 +3,9 @@ ghost use Rattle.std.specs.declared.option.Option.{Option};
 ghost use Rattle.sse_outside.specs.Causes.{HasCause};
 ghost use Rattle.server_connections.specs.declared.duplex.Duplex.{Duplex};
 
-use crate::Duplex;
+use crate::{ConnEnd, Duplex};
 use sse_outside::{Failed, Sink, Source};
+use sse_server::OpenFault;
 
 /// Where connections come from, one after the other.
 ///
@@ -46,8 +47,11 @@ pub trait Conns {
         ensures returned_kept { returned self.new ≡ returned self.old }
         ensures cause { HasCause (faults self.old) (faults self.new) result };
 
-    /// Takes a connection back, which ends it. One is still lent. It takes no memory and can't fail.
-    fn done(&mut self, conn: Duplex<Self::In, Self::Out>)
+    /// No connection is asked for, since the store was not started. Where there is an operator, this may be told to them.
+    fn not_started(&self, _fault: OpenFault) {}
+
+    /// Takes a connection back, which ends it, with how its frames ended. One is still lent. It takes no memory and can't fail.
+    fn done(&mut self, conn: Duplex<Self::In, Self::Out>, end: ConnEnd)
         requires lent { 0 < lent self.old }
         ensures returned { returned self.new ≡ option_map (λ conns. conns ++ conn ∷ []) (returned self.old) }
         ensures back { lent self.old ≡ lent self.new + 1 }

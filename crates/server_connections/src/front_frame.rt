@@ -5,6 +5,7 @@ ghost use Rattle.sse_link.specs.BadFrames.{bad_reason};
 ghost use Rattle.server_core.specs.Views.{HasBegun, HasRange};
 ghost use Rattle.sse_server.specs.Answers.{IfAnswered};
 ghost use Rattle.server_connections.specs.Connections.{EndsSink};
+ghost use Rattle.server_connections.specs.Handled.{StaysClosed};
 ghost use Rattle.server_connections.specs.ConnectionSteps.{FrontsDisk, IfWhole, IsCame, IsFronted, IsReplied, IsSaidLast, HasSourceCause, HasSinkCause, bytes_to_come};
 
 use crate::reply_list::{reply_list_of, say_all, say_reply};
@@ -38,6 +39,7 @@ pub fn take_front<K: Keyed, D: Disk, S: Keeps<D>>(
     ensures fronted { IsFronted (keyed_fn K.prf K.pad) incoming.old incoming.new (S.lasts store.old disk.old) (S.lasts store.new disk.new) (S.state store.old) (S.state store.new) result page.new }
     ensures begun { IfWhole result (λ answer. IfAnswered answer (λ core. HasBegun (keyed_fn K.prf K.pad) (S.state store.new) core page.new)) }
     ensures range { IfWhole result (λ answer. IfAnswered answer (λ core. HasRange core)) }
+    ensures closed { StaysClosed (S.closed store.old) (S.closed store.new) disk.old disk.new }
     ensures disk { FrontsDisk (S.sound store.old) (S.sound store.new) (D.faults disk.old) (D.faults disk.new) result }
     ensures less { IfWhole result (λ _. length incoming.new < length incoming.old) }
     ensures room { result ≡ InFront.Part → length incoming.new < 1048580 }

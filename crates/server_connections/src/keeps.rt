@@ -8,7 +8,7 @@ ghost use Rattle.server_core.specs.Views.{HasBegun, HasRange};
 ghost use Rattle.server_core.specs.Walk.{IsWalk, contents_of, rest_of};
 ghost use Rattle.sse_server.specs.Answers.{IfAnswered};
 ghost use Rattle.server_connections.specs.Disks.{AnswersDisk};
-ghost use Rattle.server_connections.specs.Handled.{IsHandled, Last, taken_by};
+ghost use Rattle.server_connections.specs.Handled.{IsHandled, Last, Since, StaysClosed, taken_by};
 
 use keyed_fn::Keyed;
 use server_core::Walk;
@@ -21,21 +21,30 @@ use sse_server::{Store, StoreAnswer};
 /// them of which one is chosen.
 ///
 /// It tells contracts the state of the server that answers (`state`), that its file and the disk belong together (`stands`),
-/// that it has taken certain frames, from nothing on, which every crash leaves (`lasts`), and that the disk didn't fail in an
-/// earlier call (`sound`).
+/// that the disk didn't fail in an earlier call (`sound`), and that it takes no update frame any more, since its disk refused
+/// one (`closed`).
+///
+/// It also tells that it has taken certain frames of one owner, after those that were taken since (`lasts`), and the files
+/// that may then be there after a crash (`leaves`): they give those frames, with at most the one more that the disk kept
+/// from being taken. This holds after a fault of the disk too.
 pub trait Keeps<D: Disk> {
     ghost state: { Self → ServerState };
 
     ghost stands: { Self → D → Type 0 };
 
-    ghost lasts: { Self → D → List FrameText → Type 0 };
+    ghost lasts: { Self → D → Since → List FrameText → Type 0 };
+
+    ghost leaves: { Since → List FrameText → List ℕ → Type 0 };
 
     ghost sound: { Self → Type 0 };
+
+    ghost closed: { Self → Type 0 };
 
     // Promise P27, also here; clauses: lasts
     /// The answer to a frame, by the server's step; after `Found` the page begins with what the search gives first, and the
     /// walk gives the others. In place of taking an update frame it may be out of memory or its disk may fail, and then the
-    /// state is as before. A frame that was taken lasts. No other frame takes memory.
+    /// state is as before. A frame that was taken lasts, whatever is answered later. Once it is closed, the disk is left
+    /// untouched. No frame but an update takes memory.
     fn keep<K: Keyed>(
         &mut self,
         keyed: &K,
@@ -52,6 +61,8 @@ pub trait Keeps<D: Disk> {
         ensures range { IfAnswered result (λ answer. HasRange answer) }
         ensures long { length page.new ≡ length page.old }
         ensures lasts { Last (lasts self.old disk.old) (lasts self.new disk.new) (taken_by (frame_view frame.now) result) }
+        ensures closed { StaysClosed (closed self.old) (closed self.new) disk.old disk.new }
+        ensures closes { result ≡ StoreAnswer.StoreFault → closed self.new }
         ensures disk { AnswersDisk (sound self.old) (sound self.new) (D.faults disk.old) (D.faults disk.new) result };
 
     /// Hands out what a walk gives next: as many identifiers as fit. No frame was handled since the walk began. It takes no
@@ -65,11 +76,17 @@ pub trait Keeps<D: Disk> {
         ensures full { walk.new.is_over ≡ false → result ≡ length page.new }
         ensures ids { All (λ id. 0 < id) (take result page.new) }
         ensures long { length page.new ≡ length page.old };
+
+    // Promise P27, also here
+    /// What a crash leaves of frames that last.
+    ghost left_by_crash: { (keeper : Self) (disk : D) (since : Since) (frames : List FrameText) → lasts keeper disk since frames → (bytes : List ℕ) → D.images disk bytes → leaves since frames bytes };
 }
 
 impl<T: Tables, D: Disk> Keeps<D> for Store<T> {
     ghost use Rattle.sse_server.specs.StoreView.{IsWithin};
-    ghost use Rattle.server_connections.specs.Handled.{IsWholeStoreOf, IsSound};
+    ghost use Rattle.std.specs.Prelude.{IsSome};
+    ghost use Rattle.sse_journal.specs.JournalView.{broken_by};
+    ghost use Rattle.server_connections.specs.Handled.{GivesAtMostOneMore, IsLasting, IsSound};
 
     ghost state = { λ s. s.state };
 
@@ -77,7 +94,13 @@ impl<T: Tables, D: Disk> Keeps<D> for Store<T> {
 
     ghost sound = { λ s. IsSound s.journal };
 
-    ghost lasts = { λ s disk frames. IsWholeStoreOf frames s (D.content disk) (D.images disk) };
+    ghost closed = { λ s. IsSome (broken_by s.journal) };
+
+    ghost lasts = { λ s disk since frames. IsLasting frames s (D.content disk) (D.images disk) };
+
+    ghost leaves = { λ since frames bytes. GivesAtMostOneMore frames bytes };
+
+    ghost left_by_crash = { λ s disk since frames is. is.left };
 
     fn keep<K: Keyed>(
         &mut self,

@@ -2,8 +2,8 @@
 //! connection is two halves, a source and a sink, since of one value no clause could say that a read leaves what was
 //! written. `Conns` gives the connections; `Keeps` answers a frame, so that one store or many can be served. It
 //! depends on `sse_server` for a store that lasts, on `sse_frames` and on `sse_outside`; it knows no word and no key.
-//! A peer that is silent for 60 seconds loses its connection, since one is served at a time. A peer that sends a byte
-//! now and then still holds the service: a limit on the whole connection needs a clock, of which no proof speaks.
+//! A peer loses its connection if it is silent for 60 seconds, or takes two minutes for a frame or a reply, since one
+//! is served at a time; these limits are `TcpConns`' own, and no proof speaks of them.
 //! Proved: over any source, sink, keeper and disk, what was read is whole frames, answered in turn, and the bytes
 //! left after them; what was written are their replies (`IsConnection`).
 //! Side: server.

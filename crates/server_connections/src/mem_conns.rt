@@ -4,7 +4,7 @@ ghost use Rattle.server_connections.specs.Scripts.{AreMade};
 ghost use Rattle.server_connections.specs.QueuedConns.{IsFront};
 
 use crate::script::connections;
-use crate::{Conns, Duplex, Script};
+use crate::{ConnEnd, Conns, Duplex, Script};
 use sse_outside::{Failed, FailingCalls, MemSink, MemSource};
 use std::alloc::{AllocError, Global};
 use std::snapshot::Snapshot;
@@ -126,7 +126,7 @@ impl Conns for MemConns {
         }
     }
 
-    fn done(&mut self, conn: Duplex<MemSource, MemSink>)
+    fn done(&mut self, conn: Duplex<MemSource, MemSink>, _end: ConnEnd)
         requires lent { 0 < lent_by self.old }
         ensures returned { Some (returned_by self.new) ≡ option_map (λ conns. conns ++ conn ∷ []) (Some (returned_by self.old)) }
         ensures back { lent_by self.old ≡ lent_by self.new + 1 }

@@ -2,6 +2,7 @@ ghost use Rattle.std.specs.Prelude.{◌≡◌, ◌⊎◌, ◌+◌, ◌≤◌, �
 ghost use Rattle.keyed_fn.specs.KeyedFn.{keyed_fn};
 ghost use Rattle.sse_outside.specs.Causes.{Rose, HasCause};
 ghost use Rattle.server_connections.specs.Disks.{ServesDisk, HasFallen};
+ghost use Rattle.server_connections.specs.Handled.{StaysClosed};
 ghost use Rattle.server_connections.specs.Served.{HaveServed, ServesMore};
 
 use crate::connection::serve_connection;
@@ -29,6 +30,7 @@ fn serve_next<K: Keyed, D: Disk, S: Keeps<D>, C: Conns>(
 ) -> Result<Option<ConnEnd>, Failed>
     requires stands { S.stands store.old disk.old }
     ensures stands { S.stands store.new disk.new }
+    ensures closed { StaysClosed (S.closed store.old) (S.closed store.new) disk.old disk.new }
     ensures served { ServesMore (keyed_fn K.prf K.pad) S.state S.lasts C.In.remaining C.Out.written store.old store.new disk.old disk.new (C.offered conns.old) (C.offered conns.new) (C.returned conns.old) (C.returned conns.new) }
     ensures disk_cause { ServesDisk (S.sound store.old) (S.sound store.new) (D.faults disk.old) (D.faults disk.new) result }
     ensures counted { IfOk result (λ next. IfSome next (λ _. C.given conns.new ≡ C.given conns.old + 1)) }
@@ -42,7 +44,7 @@ fn serve_next<K: Keyed, D: Disk, S: Keeps<D>, C: Conns>(
         Ok(Some(conn)) => {
             let mut conn = conn;
             let end = serve_connection(keyed, store, disk, &mut conn, incoming, outgoing);
-            conns.done(conn);
+            conns.done(conn, end);
             Ok(Some(end))
         }
         Ok(None) => Ok(None),
@@ -66,6 +68,7 @@ pub fn serve<K: Keyed, D: Disk, S: Keeps<D>, C: Conns>(
 ) -> Result<(), ServeFault>
     requires stands { S.stands store.old disk.old }
     ensures stands { S.stands store.new disk.new }
+    ensures closed { StaysClosed (S.closed store.old) (S.closed store.new) disk.old disk.new }
     ensures served { HaveServed (keyed_fn K.prf K.pad) S.state S.lasts C.In.remaining C.Out.written store.old store.new disk.old disk.new (C.offered conns.old) (C.offered conns.new) (C.returned conns.old) (C.returned conns.new) }
     ensures all { OnOk result ((C.given conns.new ≡ C.given conns.old + most) ⊎ (C.ended conns.new ≡ true)) }
     ensures none_lent { C.lent conns.new ≡ C.lent conns.old }

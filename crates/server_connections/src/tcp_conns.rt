@@ -1,27 +1,36 @@
 ghost use Rattle.std.specs.Prelude.{◌≡◌, ◌+◌, ◌-◌, ◌^◌, ◌≤◌, ◌<◌, false, None, IfOk};
 ghost use Rattle.sse_outside.specs.Causes.{HasCause};
 
-use crate::{Conns, Duplex};
+use crate::{ConnEnd, Conns, Duplex};
+use outside_tcp::{TimedReader, TimedWriter, is_lost, is_short};
 use sse_outside::{Failed, StdSink, StdSource};
-use std::io;
-use std::io::ErrorKind;
-use std::net::{TcpListener, TcpStream};
+use sse_server::OpenFault;
+use std::net::{SocketAddr, TcpListener, TcpStream};
 use std::time::Duration;
+use std::{io, thread};
 
-/// How long a read or a write of a connection may wait, in seconds.
-const TIMEOUT: u64 = 60;
+/// How long it waits before it accepts again where the system lacked memory or files, in milliseconds.
+const PAUSE: u64 = 100;
 
-/// How many connections in a row may be lost before they are given.
-const MOST_LOST: u32 = 1_000;
+/// A connection over a socket, and the address of its peer.
+type Accepted = (
+    Duplex<StdSource<TimedReader>, StdSink<TimedWriter>>,
+    SocketAddr,
+);
 
 /// The connections that a listener accepts, over both directions of a socket.
 ///
-/// What is written goes out at once, and a read or a write that waits 60 seconds fails, so that a peer that is silent, or that
-/// doesn't read, ends its own connection. A peer that sends a byte now and then may hold the server for ever. Where a connection
-/// is lost before it was given, the next one is waited for, 1,000 times at most; every other error of the listener is a fault.
+/// What is written goes out at once. A peer that is silent for 60 seconds, that doesn't read for 60 seconds, that takes more than
+/// two minutes for a frame or for a reply, ends its own connection. Where a connection is lost before it was given, the next one
+/// is waited for; where the system lacks memory or files for one, after a pause. Every other error of the listener is a fault.
+///
+/// What ended a connection other than at its end, and why none is given, is a line on standard error.
 #[derive(Drop)]
 pub struct TcpConns {
+    rt: HostRuntime,
     listener: TcpListener,
+    /// The peer of the connection that was given last, for that line.
+    peer: Option<SocketAddr>,
     given: u64,
     lent: u64,
     faults: u64,
@@ -30,16 +39,18 @@ pub struct TcpConns {
 
 impl TcpConns {
     // Promise P135 (caller): Connections of a listener are counted as given and lent; if none is given, the fault count rose.
-    //   clauses: given, lent, faults; checks: .ci/served, .ci/tcp; not: That writes go out at once, that waiting 60 seconds fails, and that a connection lost before it was
-    //     given is passed over.
+    //   clauses: given, lent, faults; checks: .ci/served, .ci/tcp; not: That writes go out at once, the limits of time, that a connection lost before it was given is passed over,
+    //     and the lines on standard error.
     /// The connections that `listener` accepts from now on.
-    pub fn new(listener: TcpListener) -> TcpConns
+    pub fn new(rt: &HostRuntime, listener: TcpListener) -> TcpConns
         ensures given { result.given ≡ 0 }
         ensures lent { result.lent ≡ 0 }
         ensures faults { result.faults ≡ 0 }
     {
         TcpConns {
+            rt: *rt,
             listener,
+            peer: None,
             given: 0,
             lent: 0,
             faults: 0,
@@ -47,28 +58,34 @@ impl TcpConns {
     }
 
     /// Waits for a connection; an error is counted.
-    fn accept(&mut self) -> Result<Duplex<StdSource<TcpStream>, StdSink<TcpStream>>, Failed>
+    fn accept(&mut self) -> Result<Duplex<StdSource<TimedReader>, StdSink<TimedWriter>>, Failed>
         ensures given { self.new.given ≡ self.old.given }
         ensures lent { self.new.lent ≡ self.old.lent }
         ensures room { IfOk result (λ _. self.new.given < 2 ^ 64 - 1) }
         ensures cause { HasCause self.old.faults self.new.faults result }
     {
         let accepted = if self.given < u64::MAX {
-            accepted(&self.listener)
+            accepted(&self.rt, &self.listener)
         } else {
             Err(Failed)
         };
-        if accepted.is_err() {
-            self.faults = self.faults.saturating_add(1);
+        match accepted {
+            Ok((conn, peer)) => {
+                self.peer = Some(peer);
+                Ok(conn)
+            }
+            Err(failed) => {
+                self.faults = self.faults.saturating_add(1);
+                Err(failed)
+            }
         }
-        accepted
     }
 }
 
 impl Conns for TcpConns {
-    type In = StdSource<TcpStream>;
+    type In = StdSource<TimedReader>;
 
-    type Out = StdSink<TcpStream>;
+    type Out = StdSink<TimedWriter>;
 
     ghost faults = { λ c. c.faults };
 
@@ -82,15 +99,21 @@ impl Conns for TcpConns {
 
     ghost returned = { λ _. None };
 
-    fn next(&mut self) -> Result<Option<Duplex<StdSource<TcpStream>, StdSink<TcpStream>>>, Failed> {
+    fn next(
+        &mut self,
+    ) -> Result<Option<Duplex<StdSource<TimedReader>, StdSink<TimedWriter>>>, Failed> {
         let conn = self.accept()?;
         self.given += 1;
         self.lent += 1;
         Ok(Some(conn))
     }
 
+    fn not_started(&self, fault: OpenFault) {
+        let _ = eprintln!(self.rt; "the store was not started: {fault}");
+    }
+
     // Promise P135, also here; clauses: back, given_kept, steady
-    fn done(&mut self, conn: Duplex<StdSource<TcpStream>, StdSink<TcpStream>>)
+    fn done(&mut self, conn: Duplex<StdSource<TimedReader>, StdSink<TimedWriter>>, end: ConnEnd)
         requires lent { 0 < self.old.lent }
         ensures back { self.old.lent ≡ self.new.lent + 1 }
         ensures given_kept { self.new.given ≡ self.old.given }
@@ -98,48 +121,49 @@ impl Conns for TcpConns {
     {
         drop(conn);
         self.lent -= 1;
+        report(&self.rt, self.peer, end);
+    }
+}
+
+/// Says how a connection ended, unless it was at its end.
+fn report(rt: &HostRuntime, peer: Option<SocketAddr>, end: ConnEnd) {
+    let Some(peer) = peer else {
+        return;
+    };
+    if end != ConnEnd::Closed {
+        let _ = eprintln!(rt; "connection from {peer} ended: {end}");
     }
 }
 
 /// Waits for a connection.
-fn accepted(
-    listener: &TcpListener,
-) -> Result<Duplex<StdSource<TcpStream>, StdSink<TcpStream>>, Failed> {
-    for _ in 0..MOST_LOST {
+fn accepted(rt: &HostRuntime, listener: &TcpListener) -> Result<Accepted, Failed> {
+    for _ in 0..u64::MAX {
         match listener.accept() {
-            Ok((stream, _)) => {
-                if let Ok(conn) = halves_of(stream) {
-                    return Ok(conn);
+            Ok((stream, peer)) => {
+                if let Ok(conn) = halves_of(rt, stream) {
+                    return Ok((conn, peer));
                 }
             }
-            Err(error) if is_lost(error.kind()) => {}
-            Err(_) => return Err(Failed),
+            Err(error) if is_lost(&error) => {}
+            Err(error) if is_short(&error) => thread::sleep(rt, Duration::from_millis(PAUSE)),
+            Err(error) => {
+                let _ = eprintln!(rt; "no connection can be accepted: {error}");
+                return Err(Failed);
+            }
         }
     }
     Err(Failed)
 }
 
-/// Whether an error tells of the connection that was waited for, and not of the listener.
-fn is_lost(kind: ErrorKind) -> bool {
-    matches!(
-        kind,
-        ErrorKind::Interrupted
-            | ErrorKind::ConnectionAborted
-            | ErrorKind::ConnectionReset
-            | ErrorKind::HostUnreachable
-            | ErrorKind::NetworkUnreachable
-            | ErrorKind::NetworkDown
-    )
-}
-
 /// Both directions of a stream, each a handle of its own.
-fn halves_of(stream: TcpStream) -> io::Result<Duplex<StdSource<TcpStream>, StdSink<TcpStream>>> {
+fn halves_of(
+    rt: &HostRuntime,
+    stream: TcpStream,
+) -> io::Result<Duplex<StdSource<TimedReader>, StdSink<TimedWriter>>> {
     stream.set_nodelay(true)?;
-    stream.set_read_timeout(Some(Duration::from_secs(TIMEOUT)))?;
-    stream.set_write_timeout(Some(Duration::from_secs(TIMEOUT)))?;
-    let sink = StdSink::new(stream.try_clone()?);
+    let sink = StdSink::new(TimedWriter::new(rt, stream.try_clone()?));
     Ok(Duplex {
-        source: StdSource::new(stream),
+        source: StdSource::new(TimedReader::new(rt, stream)),
         sink,
     })
 }

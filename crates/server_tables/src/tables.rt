@@ -32,7 +32,7 @@ pub trait Tables: Drop {
 
     // Promise P89 (caller): The server's tables are two maps, a list and a set; each call changes exactly its own entry and refuses exactly duplicates.
     //   clauses: ok, err, taken; not: That they are fast, which is tested; the order of labels in a hash table. Taking out a number is refused exactly when it isn't there.
-    // Promise P90 (caller): After a reserve, the calls it was asked for succeed without memory.
+    // Promise P90 (caller): After a reserve, the calls it was asked for take no memory and fail only for a duplicate.
     //   clauses: has_room, spent, not_spent
     /// Adds a label with its cell.
     ///

@@ -4,3 +4,4 @@ mod Handled
 mod Kept
 mod StoreSteps
 pub mod Stored
+mod ReachedLaws

@@ -9,3 +9,4 @@ pub mod Scripted
 pub mod BadFrames
 pub mod Texts
 pub mod Stored
+pub mod Reached

@@ -7,6 +7,7 @@ ghost use Rattle.def_link_events.specs.declared.mark.Mark.{Mark};
 ghost use Rattle.def_link_events.specs.Events.{Event, Sent, Received, Remote};
 ghost use Rattle.sse_link.specs.Due.{IsOpenPage};
 ghost use Rattle.sse_link.specs.Scripted.{reply_size};
+ghost use Rattle.sse_link.specs.Reached.{HasSent};
 ghost use Rattle.sse_frames.specs.Frames.{IsFrame};
 
 use crate::LinkFault;
@@ -33,21 +34,27 @@ pub trait Link {
 
     // Promise P83 (caller): A link's fault count rises at a call that is cut and at a reported fault of the server's disk, and nowhere else.
     //   clauses: steady, cut_cause, no_memory_count; assumes: sizes in bounds; not: How the link counts is a duty of each link; sockets meet it as tested.
+    // Promise P180 (caller): A sent frame moves a link's server as the mark of its answer says; after a cut it did so, or nothing passed.
+    //   clauses: reached, cut_reached; not: A server that the link can't tell, as over a socket.
     /// Sends one frame of the grammar, all of its bytes, with its four length bytes. Replies to an earlier frame that
     /// weren't received are dropped.
     ///
-    /// After `Cut` the server has taken the frame or it hasn't, and no reply is due. After `NoMemory` everything is as
-    /// before.
+    /// After `Ok` the server at the other end, where the link can tell it, has moved as the mark of its answer says: by its
+    /// step, or not at all. After `Cut` that is so, or nothing passed and the server is as before; no reply is due. After
+    /// `NoMemory` everything is as before.
     fn send(&mut self, frame: &[u8]) -> Result<(), LinkFault>
         requires frame { IsFrame frame.now }
         ensures due { OnOk result (reply_due self.new ≡ true) }
         ensures told { OnOk result ((mark : Mark) ×
             (transcript self.new ≡ option_map (λ events. events ++ Sent frame.now mark ∷ []) (transcript self.old))) }
         ensures steady { OnOk result (faults self.new ≡ faults self.old) }
+        ensures reached { OnOk result (HasSent frame.now (transcript self.old) (transcript self.new) (remote self.old) (remote self.new)) }
 
         ensures cut_due { IsErrOf result LinkFault.Cut → reply_due self.new ≡ false }
         ensures cut_told { IsErrOf result LinkFault.Cut → (transcript self.new ≡ transcript self.old) ⊎
             ((mark : Mark) × (transcript self.new ≡ option_map (λ events. events ++ Sent frame.now mark ∷ []) (transcript self.old))) }
+        ensures cut_reached { IsErrOf result LinkFault.Cut → ((transcript self.new ≡ transcript self.old) × (remote self.new ≡ remote self.old))
+            ⊎ HasSent frame.now (transcript self.old) (transcript self.new) (remote self.old) (remote self.new) }
         ensures cut_cause { IsErrOf result LinkFault.Cut → Rose (faults self.old) (faults self.new) }
 
         ensures no_memory_due { IsErrOf result LinkFault.NoMemory → reply_due self.new ≡ reply_due self.old }

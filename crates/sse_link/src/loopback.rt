@@ -129,7 +129,7 @@ impl<K: Keyed, T: Tables, D: Disk> Link for Loopback<K, T, D> {
     ghost began = { λ l. Some (record { state = l.told.began; file = l.told.began_file }) };
 
     // Promise P84 (caller): The failing loopback is cut at exactly its listed calls, if memory suffices; the steady ones never are.
-    //   clauses: not_listed, listed, undelivered, worked, failed; assumes: enough memory
+    //   clauses: not_listed, listed, undelivered, worked, failed; assumes: sizes in bounds, earlier calls, enough memory
     fn send(&mut self, frame: &[u8]) -> Result<(), LinkFault>
         requires frame { IsFrame frame.now }
 

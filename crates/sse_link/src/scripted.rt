@@ -91,7 +91,7 @@ impl Link for ScriptedLink {
     }
 
     // Promise P85 (caller): A link over made-up replies hands them out reply by reply and is cut exactly where they end.
-    //   clauses: size, reply, rest, end
+    //   clauses: size, reply, rest, end; assumes: earlier calls, sizes in bounds
     /// Hands out the reply in front of the bytes that are left.
     fn recv(&mut self, out: &mut [u8]) -> Result<usize, LinkFault>
         requires room { 65544 ≤ length out.old }

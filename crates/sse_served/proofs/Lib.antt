@@ -1,2 +1,3 @@
-mod CountLemmas
+mod Chains
 mod StopLaws
+mod KeptFiles

@@ -1,7 +1,7 @@
 -- The meaning of the words of the server's command line (docs/FORMATS.md).
-use Rattle.std.specs.Prelude.{ℕ, ◌-◌, ◌^◌, List, [], ◌∷◌, Option, None, Some, Result, Ok, Err, drop, map, string_bytes}
+use Rattle.std.specs.Prelude.{ℕ, List, [], ◌∷◌, Option, None, Some, Result, Ok, Err, drop, map, string_bytes}
 use Rattle.std.specs.Option.{option_map}
-use Rattle.sse_served.specs.Counts.{count_of}
+use Rattle.program_words.specs.Modes.{count_of}
 use Rattle.outside_words.specs.declared.CommandLine.{CommandLine}
 use Rattle.outside_words.specs.declared.CommandLine.TheVariants as lines
 use Rattle.sse_served.specs.declared.asked.Asked.{Asked as AskedBy}
@@ -15,13 +15,11 @@ pub record Asked : Type 0 where
   pub path : List ℕ
   pub count : ℕ
 
--- the words after the program's name: an address and a path, and a count, without which it is the most that there can be
+-- the words after the program's name: an address and a path, and behind them how many connections
 abbrev pub asked_of : List (List ℕ) → Option Asked
 asked_of [] = None
 asked_of (address ∷ []) = None
-asked_of (address ∷ path ∷ []) = Some (record { address = address; path = path; count = 2 ^ 32 - 1 })
-asked_of (address ∷ path ∷ word ∷ []) = option_map (λ count. record { address = address; path = path; count = count }) (count_of word)
-asked_of (address ∷ path ∷ word ∷ next ∷ words) = None
+asked_of (address ∷ path ∷ words) = option_map (λ count. record { address = address; path = path; count = count }) (count_of words)
 
 -- they are right where they ask for something
 abbrev pub right_words : Option Asked → Result Asked Stop
@@ -36,4 +34,4 @@ asked_by lines.NoMemory = Err (stops.Service Memory)
 
 -- the code's own value
 abbrev pub asked_view : AskedBy → Asked
-asked_view a = record { address = a.address.now; path = a.path.now; count = a.count }
+asked_view a = record { address = a.address.text.now; path = a.path.text.now; count = a.count }

@@ -1,5 +1,5 @@
-pub mod Counts
 pub mod Asked
 pub mod Stops
 pub mod Services
-pub mod Printed
+pub mod Places
+pub mod Program

@@ -1,17 +1,26 @@
 -- The effect of a service over a disk and connections, from the file on.
-use Rattle.std.specs.Prelude.{◌⊎◌, ℕ, List, Option, IfSome}
+use Rattle.std.specs.Prelude.{◌≡◌, ◌⊎◌, ℕ, List, Option, IfSome}
 use Rattle.keyed_fn.specs.KeyedFn.{KeyedFn}
+use Rattle.sse_journal.specs.Files.{GivesAs}
 use Rattle.sse_journal.specs.Walks.{IsNoJournalAt}
 use Rattle.sse_server.specs.Records.{HasBadRecord}
 use Rattle.sse_server.specs.StoreView.{StoreView, IsStoreFrom}
 use Rattle.server_connections.specs.declared.duplex.Duplex.{Duplex}
-use Rattle.server_connections.specs.Handled.{IsWholeStoreOf}
+use Rattle.server_connections.specs.Handled.{IsLasting}
 use Rattle.server_connections.specs.Served.{HaveServed}
 
 -- the bytes of a file that no server has written: it stops being a journal, or a record of it is no frame that a server takes
 -- after those before it
 abbrev pub IsNoJournal : List ℕ → Type 0
 IsNoJournal bytes = ((place : ℕ) × IsNoJournalAt bytes place) ⊎ ((number : ℕ) × HasBadRecord bytes number)
+
+-- a crash leaves what it might have left before, or a file that gives the records of the file as it read
+abbrev pub LeavesSame : {D : Type 0} → (content : D → Option (List ℕ)) (images : D → List ℕ → Type 0) (disk disk2 : D) → Type 0
+LeavesSame content images disk disk2 = (bytes : List ℕ) → images disk2 bytes → images disk bytes ⊎ IfSome (content disk) (λ file. GivesAs file bytes)
+
+-- nothing was served: the connections are untouched, and the file has the records that it had
+abbrev pub HasNotServed : {C D : Type 0} → (content : D → Option (List ℕ)) (images : D → List ℕ → Type 0) (conns conns2 : C) (disk disk2 : D) → Type 0
+HasNotServed content images conns conns2 disk disk2 = (conns2 ≡ conns) × LeavesSame content images disk disk2
 
 module _ {D I O : Type 0} (f : KeyedFn) (content : D → Option (List ℕ)) (images : D → List ℕ → Type 0) (remaining : I → Option (List ℕ)) (written : O → Option (List ℕ)) where
   -- a store was started that has taken the frames of the file's records, and connections were served from it, one after the other
@@ -20,5 +29,5 @@ module _ {D I O : Type 0} (f : KeyedFn) (content : D → Option (List ℕ)) (ima
     pub store2 : StoreView
     pub started_disk : D
     pub started : IfSome (content disk) (λ bytes. IsStoreFrom bytes store (content started_disk) (images started_disk))
-    pub served : HaveServed f (λ s. s.state) (λ s d frames. IsWholeStoreOf frames s (content d) (images d)) remaining written
+    pub served : HaveServed f (λ s. s.state) (λ s d since frames. IsLasting frames s (content d) (images d)) remaining written
         store store2 started_disk disk2 offered offered2 returned returned2

@@ -1,30 +1,35 @@
 //! The server's program: serves connections to an address, one after the other, from a store whose journal is a file.
-//! It depends on `server_connections` for connections, on `sse_server` for the store, and on `sse_outside` for file, sockets
-//! and standard output; it knows no word and no master key. `served_main` chooses what the command line asks for, the
-//! status and the lines; `serve_all`, over any disk and connections, is the real keyed function's server. All words
-//! are read first, then the file is opened, then the address; `serving` is printed once the server listens, and then
-//! the journal is read.
-//! Proved: status and lines by how it ended; over any disk and any connections, what is served from the file on, or
-//! why no more is.
-//! Not covered: what a real file and socket do (tested by `.ci/served` and `.ci/tcp`).
+//! It depends on `server_connections` for connections, on `sse_server` for the store, on `sse_outside` for file, sockets
+//! and standard output, and on `program_words` for the words; it knows no word and no master key. `served_main` is the
+//! whole program over any places that a file and connections come from. All words are read first, then the file is
+//! opened, then the address; `serving` is printed once the server listens, and then the journal is read.
+//! Proved: which file and address are opened, in which order, that as many connections as the words say are served under
+//! the real keyed function, or why not, and status and lines, over any places, disk, connections and sink.
+//! Not covered: what a real file and socket do, and the lines on standard error (tested by `.ci/served` and `.ci/tcp`).
 //! Side: server.
 #![tactic(auto)]
 
 mod asked;
-mod count;
 mod places;
 mod program;
 mod service;
 mod stop;
+mod system_places;
 
 use outside_words::command_line;
 use program::served_main;
 use sse_outside::StdSink;
 use std::process::ExitCode;
+use system_places::SystemPlaces;
 
 /// Serves, as the words of the command line ask for, and ends with the status.
 fn main(rt: HostRuntime) -> ExitCode {
     let mut sink = StdSink::new(rt.stdout());
+    let mut places = SystemPlaces::new(&rt);
     let given = command_line(&rt);
-    ExitCode::from(served_main(&rt, &given, &mut sink))
+    let status = served_main(rt.alloc(), &mut places, &given, &mut sink);
+    if status == 2 {
+        let _ = eprintln!(rt; "usage: sse_served ADDRESS FILE [COUNT]");
+    }
+    ExitCode::from(status)
 }

@@ -1,57 +1,138 @@
-ghost use Rattle.std.specs.Prelude.{◌≡◌, Ok, Err, IfErr, MatchResult};
+ghost use Rattle.std.specs.Prelude.{◌≡◌, ◌≢◌, ◌⊎◌, Err, IfErr, IfOk};
+ghost use Rattle.keyed_fn.specs.KeyedFn.{keyed_fn};
+ghost use Rattle.sse_outside.specs.Causes.{Rose};
 ghost use Rattle.sse_outside.specs.Fronts.{TookOrRose};
 ghost use Rattle.sse_served.specs.Asked as asks;
 ghost use Rattle.sse_served.specs.Asked.{asked_view};
-ghost use Rattle.sse_served.specs.Printed.{Began, HasPrinted};
+ghost use Rattle.sse_served.specs.Places.{HasDone, HasNoAddress, HasNoFile, HasRun};
+ghost use Rattle.sse_served.specs.Program.{EndsFor, HasService, Printed};
 ghost use Rattle.sse_served.specs.Stops.{stop_line, stop_status};
 
-use crate::asked::{Asked, asked_of};
-use crate::places::{listen, open};
+use crate::asked::{Asked, asked_by};
+use crate::places::Places;
 use crate::service::serve_all;
 use crate::stop::{ServiceStop, Stop};
-use keyed_fn::Real;
-use outside_words::{CommandLine, behind_name};
-use sse_outside::{Sink, print_all};
+use keyed_fn::{Keyed, Real};
+use outside_words::CommandLine;
+use server_connections::Conns;
+use sse_outside::{Disk, Sink, print_all};
+use std::alloc::Global;
 
-// Promise P30 (user): `sse_served` takes an address, a path and an optional count; other words end with 2, missing memory for them with 7.
-//   clauses: wrong, wrong_line, words; checks: .ci/served; not: That nothing is opened after wrong words. With right words only P31 is claimed: no clause joins the words to the service.
-// Promise P31 (user): `sse_served` prints `serving` if it ends with 0; otherwise at most that, and then the line of the cause that its status names.
-//   clauses: printed; assumes: observable devices; checks: .ci/served; not: The service itself. Of each line a prefix may be printed if a count of the sink rose. No clause says that
-//     right words start any service, or under which keyed function.
-/// All that the program does with a command line and a sink, and the status to end with.
+// Promise P30 (user): `sse_served` takes an address, a path and an optional count; other words open nothing, and end with 2, or with 7 if memory is out.
+//   clauses: wrong, wrong_places, words; checks: .ci/served; not: Of the line a prefix may be printed if a count of the sink rose.
+// Promise P31 (user): Right words make `sse_served` serve as many connections as they say, from their file and address, under HMAC-SHA-256 and ChaCha20; else the status names why.
+//   clauses: serves; assumes: observable devices; checks: .ci/served; not: That the system opens the file of that path and listens at that address: real places show contracts only
+//     their count of faults. Of each line a prefix may be printed if a count of the sink rose. With right words too the status is 7 if there is no memory to read them in.
+/// All that the program does with a command line, places and a sink, and the status to end with.
 ///
 /// Where the words aren't right nothing is opened and nothing is made. Else it opens the file, listens at the address, prints
-/// that it is serving, and serves from a store on the file. What stops it is the status and the last line; a line that isn't
-/// taken changes no status.
-pub(crate) fn served_main<W: Sink>(rt: &HostRuntime, given: &CommandLine, sink: &mut W) -> u8
-    ensures wrong { IfErr (asks.asked_by given.now) (λ stop. result ≡ stop_status stop) }
-    ensures wrong_line { IfErr (asks.asked_by given.now) (λ stop.
-        TookOrRose (W.written sink.old) (W.written sink.new) (stop_line stop) (W.faults sink.old) (W.faults sink.new) (W.shortages sink.old) (W.shortages sink.new)) }
+/// that it is serving, and serves from a store on the file, under the real keyed function. What stops it is the status and the last
+/// line; a line that isn't taken changes no status. Words, right or wrong, end with 7 where there is no memory to read them in.
+pub(crate) fn served_main<P: Places, W: Sink>(
+    alloc: Global,
+    places: &mut P,
+    given: &CommandLine,
+    sink: &mut W,
+) -> u8
+    ensures wrong { IfErr (asks.asked_by given.now) (λ stop.
+        let p : Printed = record { written = W.written sink.old; written2 = W.written sink.new; faults = W.faults sink.old; faults2 = W.faults sink.new; shortages = W.shortages sink.old; shortages2 = W.shortages sink.new } in
+        EndsFor stop p result ⊎ EndsFor (Stop.Service ServiceStop.Memory) p result) }
+    ensures wrong_places { IfErr (asks.asked_by given.now) (λ stop. places.new ≡ places.old) }
     ensures words { result ≡ 2 → asks.asked_by given.now ≡ Err Stop.Words }
-    ensures printed { HasPrinted result (W.written sink.old) (W.written sink.new) (W.faults sink.old) (W.faults sink.new) (W.shortages sink.old) (W.shortages sink.new) }
+    ensures serves { IfOk (asks.asked_by given.now) (λ asked.
+        let p : Printed = record { written = W.written sink.old; written2 = W.written sink.new; faults = W.faults sink.old; faults2 = W.faults sink.new; shortages = W.shortages sink.old; shortages2 = W.shortages sink.new } in
+        HasRun (P.events places.old) (P.events places.new) (P.holds places.old) (P.hears places.old) (P.kept places.new) (P.ended places.new) asked.path asked.address
+        (HasService (keyed_fn ⟦<Real as Keyed>⟧.prf ⟦<Real as Keyed>⟧.pad) P.Disk.content P.Disk.images P.Disk.faults P.Conns.In.remaining P.Conns.Out.written
+        P.Conns.offered P.Conns.returned P.Conns.given P.Conns.lent P.Conns.faults P.Conns.ended asked.count p result)
+        ⊎ (HasNoFile (P.events places.old) (P.events places.new) (P.holds places.old) (P.hears places.old) (P.kept places.new) (P.ended places.new) asked.path asked.address
+        (Rose (P.faults places.old) (P.faults places.new)) (EndsFor (Stop.Service ServiceStop.Disk) p result)
+        ⊎ (HasNoAddress (P.events places.old) (P.events places.new) (P.holds places.old) (P.hears places.old) (P.kept places.new) (P.ended places.new) asked.path asked.address
+        (Rose (P.faults places.old) (P.faults places.new)) (EndsFor (Stop.Service ServiceStop.Link) p result)
+        ⊎ (EndsFor (Stop.Service ServiceStop.Memory) p result × (places.new ≡ places.old))))) }
 {
-    match run(rt, given, sink) {
-        Ok(()) => 0,
-        Err(stop) => {
-            say(sink, stop.line());
-            stop.status()
-        }
+    match asked_by(alloc, given) {
+        Ok(asked) => serve_at(alloc, places, asked, sink),
+        Err(stop) => finish(sink, stop),
     }
 }
 
-/// Serves as the words ask for.
-fn run<W: Sink>(rt: &HostRuntime, given: &CommandLine, sink: &mut W) -> Result<(), Stop>
-    ensures wrong { IfErr (asks.asked_by given.now) (λ stop. result ≡ Err stop) }
-    ensures wrong_sink { IfErr (asks.asked_by given.now) (λ stop. sink.new ≡ sink.old) }
-    ensures words { result ≡ Err Stop.Words → asks.asked_by given.now ≡ Err Stop.Words }
-    ensures began { Began result (W.written sink.old) (W.written sink.new) (W.faults sink.old) (W.faults sink.new) (W.shortages sink.old) (W.shortages sink.new) }
+/// Opens the file, listens at the address, and serves from both.
+fn serve_at<P: Places, W: Sink>(alloc: Global, places: &mut P, asked: Asked<'_>, sink: &mut W) -> u8
+    ensures serves { let asked : asks.Asked = asked_view asked.entry in
+        let p : Printed = record { written = W.written sink.old; written2 = W.written sink.new; faults = W.faults sink.old; faults2 = W.faults sink.new; shortages = W.shortages sink.old; shortages2 = W.shortages sink.new } in
+        HasRun (P.events places.old) (P.events places.new) (P.holds places.old) (P.hears places.old) (P.kept places.new) (P.ended places.new) asked.path asked.address
+        (HasService (keyed_fn ⟦<Real as Keyed>⟧.prf ⟦<Real as Keyed>⟧.pad) P.Disk.content P.Disk.images P.Disk.faults P.Conns.In.remaining P.Conns.Out.written
+        P.Conns.offered P.Conns.returned P.Conns.given P.Conns.lent P.Conns.faults P.Conns.ended asked.count p result)
+        ⊎ (HasNoFile (P.events places.old) (P.events places.new) (P.holds places.old) (P.hears places.old) (P.kept places.new) (P.ended places.new) asked.path asked.address
+        (Rose (P.faults places.old) (P.faults places.new)) (EndsFor (Stop.Service ServiceStop.Disk) p result)
+        ⊎ HasNoAddress (P.events places.old) (P.events places.new) (P.holds places.old) (P.hears places.old) (P.kept places.new) (P.ended places.new) asked.path asked.address
+        (Rose (P.faults places.old) (P.faults places.new)) (EndsFor (Stop.Service ServiceStop.Link) p result)) }
+    ensures status { result ≢ 2 }
 {
-    let asked = asked_by(given)?;
-    let mut disk = open(rt, asked.path)?;
-    let mut conns = listen(rt, asked.address)?;
+    match places.open(asked.path) {
+        Ok(disk) => match places.listen(asked.address) {
+            Ok(conns) => serve_over(alloc, places, disk, conns, asked.count, sink),
+            Err(_) => {
+                places.close(disk);
+                finish(sink, Stop::Service(ServiceStop::Link))
+            }
+        },
+        Err(_) => finish(sink, Stop::Service(ServiceStop::Disk)),
+    }
+}
+
+/// Serves so many connections from a disk, and gives both back.
+fn serve_over<P: Places, W: Sink>(
+    alloc: Global,
+    places: &mut P,
+    disk: P::Disk,
+    conns: P::Conns,
+    count: u32,
+    sink: &mut W,
+) -> u8
+    ensures serves { HasDone (P.events places.old) (P.events places.new) (P.kept places.new) (P.ended places.new)
+        (HasService (keyed_fn ⟦<Real as Keyed>⟧.prf ⟦<Real as Keyed>⟧.pad) P.Disk.content P.Disk.images P.Disk.faults P.Conns.In.remaining P.Conns.Out.written
+        P.Conns.offered P.Conns.returned P.Conns.given P.Conns.lent P.Conns.faults P.Conns.ended count
+        (record { written = W.written sink.old; written2 = W.written sink.new; faults = W.faults sink.old; faults2 = W.faults sink.new; shortages = W.shortages sink.old; shortages2 = W.shortages sink.new })
+        result disk conns) }
+    ensures status { result ≢ 2 }
+{
+    let mut disk = disk;
+    let mut conns = conns;
+    let status = serve_words(alloc, &Real, count, &mut disk, &mut conns, sink);
+    places.end(conns);
+    places.close(disk);
+    status
+}
+
+/// Prints that connections can come, serves as many as the words ask for from the journal of a disk, and prints what ended it; the
+/// status to end with.
+fn serve_words<K: Keyed, D: Disk, C: Conns, W: Sink>(
+    alloc: Global,
+    keyed: &K,
+    count: u32,
+    disk: &mut D,
+    conns: &mut C,
+    sink: &mut W,
+) -> u8
+    ensures serves { HasService (keyed_fn K.prf K.pad) D.content D.images D.faults C.In.remaining C.Out.written C.offered C.returned C.given C.lent C.faults C.ended count
+        (record { written = W.written sink.old; written2 = W.written sink.new; faults = W.faults sink.old; faults2 = W.faults sink.new; shortages = W.shortages sink.old; shortages2 = W.shortages sink.new })
+        result disk.old conns.old disk.new conns.new }
+    ensures status { result ≢ 2 }
+{
     say(sink, b"serving\n");
-    serve_all(rt.alloc(), &Real, &mut disk, &mut conns, asked.count)?;
-    Ok(())
+    match serve_all(alloc, keyed, disk, conns, count) {
+        Ok(()) => 0,
+        Err(stop) => finish(sink, Stop::Service(stop)),
+    }
+}
+
+/// Prints the last line of a program that ends for this cause; its status.
+fn finish<W: Sink>(sink: &mut W, stop: Stop) -> u8
+    ensures { EndsFor stop (record { written = W.written sink.old; written2 = W.written sink.new; faults = W.faults sink.old; faults2 = W.faults sink.new; shortages = W.shortages sink.old; shortages2 = W.shortages sink.new }) result }
+{
+    say(sink, stop.line());
+    stop.status()
 }
 
 /// Prints a line as far as the sink takes it.
@@ -59,18 +140,4 @@ fn say<W: Sink>(sink: &mut W, line: &[u8])
     ensures { TookOrRose (W.written sink.old) (W.written sink.new) line.now (W.faults sink.old) (W.faults sink.new) (W.shortages sink.old) (W.shortages sink.new) }
 {
     let _ = print_all(sink, line);
-}
-
-/// What a command line asks for.
-fn asked_by(given: &CommandLine) -> Result<Asked<'_>, Stop>
-    ensures { MatchResult result (λ asked. asks.asked_by given.now ≡ Ok (asked_view asked)) (λ stop. asks.asked_by given.now ≡ Err stop) }
-{
-    match given {
-        CommandLine::Words(words) => match asked_of(behind_name(words)) {
-            Some(asked) => Ok(asked),
-            None => Err(Stop::Words),
-        },
-        CommandLine::NoText => Err(Stop::Words),
-        CommandLine::NoMemory => Err(Stop::Service(ServiceStop::Memory)),
-    }
 }

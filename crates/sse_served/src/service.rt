@@ -5,7 +5,7 @@ ghost use Rattle.sse_frames.specs.Frames.{FrameText};
 ghost use Rattle.sse_journal.specs.Files.{Gives};
 ghost use Rattle.server_core.specs.State.{at_first};
 ghost use Rattle.sse_server.specs.Taken.{AreTaken, bodies};
-ghost use Rattle.sse_served.specs.Services.{HasServed, IsNoJournal};
+ghost use Rattle.sse_served.specs.Services.{HasNotServed, HasServed, IsNoJournal};
 
 use crate::stop::ServiceStop;
 use keyed_fn::Keyed;
@@ -15,14 +15,16 @@ use sse_outside::Disk;
 use sse_server::{Buffers, Store};
 use std::alloc::Global;
 
-// Promise P32 (user): After an Ok or a link fault, connections were served one after another from the frames of the file's records.
-//   clauses: served, all, few, none_lent, link, link_served, disk, no_journal, no_journal_refused, journal_taken; assumes: observable devices; checks: .ci/served, .ci/tcp; not:
-//     Connections and the file after `Memory`, `Disk` or `NoJournal`: nothing is said of them. The real file and the real address. Locking, owner-only access and syncing the folder are
-//     tested or read.
+// Promise P32 (user): After an Ok, a link fault or a fault of the disk, connections were served one after another from the file's frames; else none was.
+//   clauses: served, all, few, none_lent, link, link_served, disk, disk_served, memory, no_journal, no_journal_untouched, no_journal_refused, journal_taken; fields: IsLasting.left;
+//     assumes: observable devices; checks: .ci/served, .ci/tcp; not: The real file and the real address. Locking, owner-only access and syncing the folder are tested or read.
 /// Starts a store on the journal of a disk, and serves connections from it, as many as `most` says or there are.
 ///
-/// `Disk` where the disk failed, at the start or at a record; `NoJournal` where the file is no journal of a server; `Link` where
-/// no connection was given; `Memory` before any was asked for.
+/// Errors: `Disk` if the disk failed, at the start or at a record; `NoJournal` if the file is no journal of a server; `Link` if
+/// no connection was given; `Memory` if there was no memory to begin with.
+///
+/// After `Memory` and `NoJournal`, and after `Disk` at the start, no connection was asked for and the file has the records that
+/// it had. After `Disk` at a record it has all that were acknowledged, and at most one more.
 pub(crate) fn serve_all<K: Keyed, D: Disk, C: Conns>(
     alloc: Global,
     keyed: &K,
@@ -38,8 +40,12 @@ pub(crate) fn serve_all<K: Keyed, D: Disk, C: Conns>(
     // Why it ends before.
     ensures link { result ≡ Err ServiceStop.Link → Rose (C.faults conns.old) (C.faults conns.new) }
     ensures link_served { result ≡ Err ServiceStop.Link → HasServed (keyed_fn K.prf K.pad) D.content D.images C.In.remaining C.Out.written disk.old disk.new (C.offered conns.old) (C.offered conns.new) (C.returned conns.old) (C.returned conns.new) }
+    ensures memory { result ≡ Err ServiceStop.Memory → HasNotServed D.content D.images conns.old conns.new disk.old disk.new }
+    ensures disk_served { result ≡ Err ServiceStop.Disk → HasNotServed D.content D.images conns.old conns.new disk.old disk.new
+        ⊎ HasServed (keyed_fn K.prf K.pad) D.content D.images C.In.remaining C.Out.written disk.old disk.new (C.offered conns.old) (C.offered conns.new) (C.returned conns.old) (C.returned conns.new) }
     ensures disk { result ≡ Err ServiceStop.Disk → Rose (D.faults disk.old) (D.faults disk.new) }
     ensures no_journal { result ≡ Err ServiceStop.NoJournal → IfSome (D.content disk.old) (λ bytes. IsNoJournal bytes) }
+    ensures no_journal_untouched { result ≡ Err ServiceStop.NoJournal → HasNotServed D.content D.images conns.old conns.new disk.old disk.new }
     ensures no_journal_refused { IfSome (D.content disk.old) (λ bytes. IsNoJournal bytes → (IsErr result) × (result ≢ Err ServiceStop.Link)) }
     ensures journal_taken { IfSome (D.content disk.old) (λ bytes. (frames : List FrameText) → AreTaken at_first frames → Gives (bodies frames) bytes → result ≢ Err ServiceStop.NoJournal) }
 {
@@ -48,7 +54,13 @@ pub(crate) fn serve_all<K: Keyed, D: Disk, C: Conns>(
     };
     let mut incoming = Incoming::new(buffers.frame);
     let mut outgoing = Outgoing::new(buffers.reply, buffers.page);
-    let mut store = Store::start(alloc, BucketTables::new(alloc), disk)?;
+    let mut store = match Store::start(alloc, BucketTables::new(alloc), disk) {
+        Ok(store) => store,
+        Err(fault) => {
+            conns.not_started(fault);
+            return Err(ServiceStop::from(fault));
+        }
+    };
     match serve(
         keyed,
         &mut store,

@@ -36,6 +36,10 @@ pub record TakesRecord (before : ServerState) (body : List ℕ) (after : ServerS
   pub body_is : body ≡ body_of frame
   pub state_is : after ≡ taken before frame
 
+-- these bytes are the body of a frame that a server in this state takes
+abbrev pub CanTake : ServerState → (body : List ℕ) → Type 0
+CanTake s body = (frame : FrameText) × IsTaken s frame × (body ≡ body_of frame)
+
 -- the record of this number and the place of the next one; none where all were taken
 abbrev pub TakesNext : (payloads : List (List ℕ)) (number : ℕ) → Option ℕ → (before after : ServerState) → Type 0
 TakesNext payloads number None before after = (number ≡ length payloads) × (after ≡ before)

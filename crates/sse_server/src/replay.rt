@@ -9,7 +9,7 @@ ghost use Rattle.sse_journal.specs.Reads.{place_of};
 ghost use Rattle.server_core.specs.State.{at_first};
 ghost use Rattle.server_core.specs.Step.{taken};
 ghost use Rattle.sse_server.specs.Taken.{IsTaken};
-ghost use Rattle.sse_server.specs.Records.{IsBadRecord, IsReplayed, TakesRecord, TakesNext};
+ghost use Rattle.sse_server.specs.Records.{CanTake, IsBadRecord, IsReplayed, TakesRecord, TakesNext};
 
 use crate::OpenFault;
 use server_core::{Refuse, Server};
@@ -89,10 +89,12 @@ fn take_next<T: Tables, D: Disk>(
     }
 }
 
-/// Has the server take the frame whose body the bytes of record `number` are.
+/// Has the server take the frame whose body the bytes of record `number` are. `NoMemory` only for a record that it would take:
+/// a bad one is named first.
 fn take_record<T: Tables>(server: &mut Server<T>, body: &[u8], number: u64) -> Result<(), OpenFault>
     ensures taken { OnOk result (TakesRecord server.old.state body.now server.new.state) }
     ensures bad { (k : ℕ) → result ≡ Err (OpenFault.BadRecord k) → (k ≡ number) × ((frame : FrameText) → IsTaken server.old.state frame → body.now ≢ body_of frame) }
+    ensures no_memory { result ≡ Err OpenFault.NoMemory → CanTake server.old.state body.now }
     ensures known { IsErr result → (result ≡ Err OpenFault.NoMemory) ⊎ (result ≡ Err (OpenFault.BadRecord number)) }
 {
     match read_body(body) {
@@ -111,6 +113,7 @@ fn take_frame<T: Tables>(
     ensures taken { OnOk result (IsTaken server.old.state (frame_view frame.now)) }
     ensures state { OnOk result (server.new.state ≡ taken server.old.state (frame_view frame.now)) }
     ensures bad { (k : ℕ) → result ≡ Err (OpenFault.BadRecord k) → (k ≡ number) × (IsTaken server.old.state (frame_view frame.now) → ⊥) }
+    ensures no_memory { result ≡ Err OpenFault.NoMemory → IsTaken server.old.state (frame_view frame.now) }
     ensures known { IsErr result → (result ≡ Err OpenFault.NoMemory) ⊎ (result ≡ Err (OpenFault.BadRecord number)) }
 {
     if frame.update_number().is_none() {

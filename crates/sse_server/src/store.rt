@@ -124,7 +124,7 @@ impl<T: Tables> Store<T> {
     // Promise P125 (caller): A store answers by the server's step; in place of taking an update it may report out of memory or a disk fault.
     //   clauses: state, replies, begun, no_memory, store_fault, range, long, later, failed, steady; assumes: earlier calls, sizes in bounds
     // Promise P126 (caller): A frame that the server doesn't take, such as Hello or a search, leaves disk and journal untouched.
-    //   clauses: untouched; not: The other calls of a search, `walk` and `fill`, are given no disk.
+    //   clauses: untouched; assumes: earlier calls, sizes in bounds; not: The other calls of a search, `walk` and `fill`, are given no disk.
     // Promise P127 (caller): After a refused append a store takes no update frame; disk, journal and state stay, and searches continue.
     //   clauses: whole, broken, stays_broken, breaks, no_memory, store_fault, state, replies; assumes: earlier calls
     /// The answer to a frame, by the server's step. An update frame that the server takes is in the journal before it is

@@ -1,0 +1,6 @@
+pub mod CountReading
+pub mod DiskReading
+pub mod HyphenLaws
+pub mod LocalReading
+pub mod NumberLemmas
+pub mod Readings

@@ -1,0 +1,14 @@
+use Rattle.std.proofs.Common.{ap, ap₂, ◌∙◌}
+use Rattle.std.proofs.lemmas.Result.{IfOk-weaker}
+use Rattle.clap.specs.Words.{App, Shape, with_subcommand}
+use Rattle.program_words.proofs.local_mode.local_command.Goals as goal
+
+abbrev top_of : App → Shape
+top_of a = a.top
+
+pub returns : goal.returns
+returns c =
+    let one = c.in_ok-subcommand.ensures.shape c.new.ensures.local ∙ ap₂ with_subcommand c.one_of_several.ensures (ap top_of c.new.ensures.app) in
+    let two = c.in_ok-subcommand-2.ensures.shape c.new-2.ensures.local ∙ ap₂ with_subcommand one (ap top_of c.new-2.ensures.app) in
+    let three = c.in_ok-subcommand-3.ensures.shape c.new-3.ensures.local ∙ ap₂ with_subcommand two (ap top_of c.new-3.ensures.app) in
+    IfOk-weaker c.subcommand-4.result _ _ (λ command added. added.shape c.in_ok-made_command.ensures.own ∙ ap₂ with_subcommand three (ap top_of c.in_ok-made_command.ensures.app)) c.subcommand-4.ensures

@@ -1,0 +1,4 @@
+pub mod Commands
+pub mod Hyphens
+pub mod Modes
+pub mod Numbers

@@ -1,0 +1,11 @@
+-- Events that come behind others.
+use Rattle.std.proofs.Common.{◌≡◌, List, ◌++◌, Option, Some, None, refl, ap, ◌∙◌, append_assoc}
+use Rattle.sse_served.specs.Places.{Event, with_events}
+
+behind : {D C : Type 0} (told : Option (List (Event D C))) (xs ys : List (Event D C)) → with_events (with_events told xs) ys ≡ with_events told (xs ++ ys)
+behind None xs ys = refl
+behind (Some events) xs ys = ap Some (append_assoc events xs ys)
+
+pub chained : {D C : Type 0} (told told1 told2 : Option (List (Event D C))) (xs ys : List (Event D C))
+    → told1 ≡ with_events told xs → told2 ≡ with_events told1 ys → told2 ≡ with_events told (xs ++ ys)
+chained told told1 told2 xs ys e f = f ∙ ap (λ t. with_events t ys) e ∙ behind told xs ys
