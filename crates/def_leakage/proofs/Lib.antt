@@ -1,6 +1,7 @@
 pub mod Places
 pub mod Draws
 pub mod Names
+pub mod Covered
 pub mod Law
 pub mod Sessions
 pub mod Fronts

@@ -35,8 +35,7 @@ names_over epoch s past [] = refl
 names_over epoch s past (c ∷ later) = λ i. names_by epoch s past c i ∷ names_over epoch s (past ++ c ∷ []) later i
 
 -- Promise P148 (inside): Each history draws every name once; a draw depends on its own names and the blocks' order, and XORs a plaintext with its pad.
---   assumes: kept limits; not: The same of two histories under one key: after a restored backup, pads may repeat. That a pad is as long as its plaintext, and that different
---     names have different inputs of the functions: no named law says either.
+--   assumes: kept limits; not: The same of two histories under one key: after a restored backup, pads may repeat.
 -- command by command, the names of what is drawn are the names that the command draws
 pub names_drawn : (o : Offsets) (run : Run) → map (flat_map names_in) (drawings o run) ≡ drawn o run
 names_drawn o run =

@@ -13,7 +13,7 @@ pub trait Keyed {
     ghost pad: { List ℕ → ℕ → ℕ → List ℕ };
 
     // Promise P94 (caller): `Real` and `Toy` are keyed functions: their values have the stated sizes, and a shorter pad is a prefix of a longer one.
-    //   clauses: ensures
+    //   clauses: ensures; assumes: sizes in bounds
     /// The 32 bytes of the function under `key` at `input`, which may have any length.
     fn prf(&self, key: &[u8; 32], input: &[u8]) -> [u8; 32]
         ensures { result ≡ prf key.now input.now };

@@ -2,6 +2,8 @@ pub mod Prefixes
 pub mod Collisions
 pub mod Updates
 pub mod SameName
+pub mod InputLaws
+pub mod UsedNames
 pub mod Apart
 pub mod SetupNames
 pub mod LabelsApart

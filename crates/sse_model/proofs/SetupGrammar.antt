@@ -1,5 +1,5 @@
 -- The frames of a setup are in the grammar.
-use Rattle.std.proofs.Common.{◌≡◌, ℕ, zero, suc, ◌+◌, ◌*◌, ◌^◌, ◌<◌, ◌≤◌, List, [], ◌∷◌, ◌++◌, length, take, drop, map, refl, sym, ap, ◌∙◌, subst, arith, length-take, length-drop}
+use Rattle.std.proofs.Common.{◌≡◌, ℕ, zero, suc, ◌+◌, ◌*◌, ◌^◌, ◌<◌, ◌≤◌, List, [], ◌∷◌, ◌++◌, length, take, drop, map, refl, sym, ◌∙◌, subst, arith, length-take, length-drop}
 use Rattle.std.specs.Prelude.{Contains, None, All}
 use Rattle.std.specs.Int.{div_ceil}
 use Rattle.std.specs.List.{AllByRecursion}
@@ -13,13 +13,11 @@ use Rattle.std.proofs.lemmas.Simd.{map-map}
 use Rattle.list_packing.proofs.PartsLemmas.{parts-within, All-parts}
 use Rattle.list_packing.specs.Parts.{parts}
 use Rattle.two_level.specs.Shape.{Shape}
-use Rattle.client_registry.proofs.DistinctLaws.{IsDistinct-first_seen}
 use Rattle.client_registry.proofs.SizedLaws.{accepted_shape, accepted_entries}
-use Rattle.client_registry.proofs.WordsLaws.{length-first_seen}
 use Rattle.client_registry.specs.Acceptance.{frames_needed, size_refusal}
-use Rattle.client_registry.specs.Documents.{all_words, IsCollected}
+use Rattle.client_registry.specs.Documents.{IsCollected}
 use Rattle.client_registry.specs.Run.{Offsets}
-use Rattle.client_registry.specs.Setup.{Setup, setup_words}
+use Rattle.client_registry.specs.Setup.{Setup}
 use Rattle.sse_frames.proofs.Sorted.{AllDiffer, Rises-by_bytes, All-by_bytes}
 use Rattle.sse_frames.specs.Frames.{Entry, FrameText, SetupBegin, SetupDict, SetupArray, SetupEnd, IsNumber, IsBytes, IsEntry, Rises, InGrammar}
 use Rattle.sse_frames.specs.Order.{by_bytes}

@@ -133,7 +133,7 @@ module _ (s : Setup) (some : 0 < s.shape.big) (first : ℕ) (word : List ℕ) (r
 abbrev pub HasText : ℕ → List ℕ → Position → Type 0
 HasText size ranks p = IsBytes size (p.clear ranks)
 
-each_of_range : {X : Type 0} (P : X → Type 0) (f : ℕ → X) (a n : ℕ) → ((i : ℕ) → i < a + n → P (f i)) → AllByRecursion P (map f (range_with_len a n))
+pub each_of_range : {X : Type 0} (P : X → Type 0) (f : ℕ → X) (a n : ℕ) → ((i : ℕ) → i < a + n → P (f i)) → AllByRecursion P (map f (range_with_len a n))
 each_of_range P f a zero each = tt
 each_of_range P f a (suc n) each = (each a (omega arith), each_of_range P f (a + 1) n (λ i below. each i (omega (arith, below))))
 

@@ -1,4 +1,5 @@
 pub mod Names
+pub mod Inputs
 pub mod Positions
 pub mod Wire
 pub mod Transcript

@@ -8,7 +8,7 @@ use crate::shape::Shape;
 use crate::too_long::ListTooLong;
 
 // Promise P78 (caller): The layout of a list is the smallest kind that holds it.
-//   clauses: ensures
+//   clauses: ensures; assumes: sizes in bounds
 /// How a list of `n` identifiers is laid out in cells of `b` numbers and blocks of `big` numbers: [`Shape::plan`] for
 /// parameters that are numbers.
 ///
