@@ -11,6 +11,7 @@ mod UpdateBytes
 mod DifferLaws
 mod PlanLaws
 mod StandsForLaws
+mod OrderedEntries
 pub mod OwesLaws
 pub mod ResumeLaws
 mod ReplannedSetup

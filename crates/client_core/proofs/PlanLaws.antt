@@ -173,21 +173,18 @@ module _ (l n : Option (ℕ × ℕ)) where
   abbrev both : Option Collision
   both = option_or (option_map (λ places. Labels places.0 places.1) l) (option_map (λ places. Numbers places.0 places.1) n)
 
-  pub stops_at_labels : (fault : CommandFault) → Some fault ≡ option_map (λ two. LabelClash two.0 two.1) l → Some fault ≡ option_map clash_fault both
-  stops_at_labels fault is = by l is
+  pub fault_of_both : option_or (option_map (λ two. LabelClash two.0 two.1) l) (option_map (λ two. NumberClash two.0 two.1) n) ≡ option_map clash_fault both
+  fault_of_both = by l
     where
-      by : (o : Option (ℕ × ℕ)) → Some fault ≡ option_map (λ two. LabelClash two.0 two.1) o
-          → Some fault ≡ option_map clash_fault (option_or (option_map (λ places. Labels places.0 places.1) o) (option_map (λ places. Numbers places.0 places.1) n))
-      by None e = absurd (cc)
-      by (Some two) e = e
+      by : (o : Option (ℕ × ℕ)) → option_or (option_map (λ two. LabelClash two.0 two.1) o) (option_map (λ two. NumberClash two.0 two.1) n)
+          ≡ option_map clash_fault (option_or (option_map (λ places. Labels places.0 places.1) o) (option_map (λ places. Numbers places.0 places.1) n))
+      by None = clash_of_numbers n
+      by (Some two) = refl
 
-  pub goes_to_numbers : (o : Option CommandFault) → None ≡ option_map (λ two. LabelClash two.0 two.1) l → o ≡ option_map (λ two. NumberClash two.0 two.1) n → o ≡ option_map clash_fault both
-  goes_to_numbers o none is = is ∙ by l none n
-    where
-      by : (o : Option (ℕ × ℕ)) → None ≡ option_map (λ two. LabelClash two.0 two.1) o → (m : Option (ℕ × ℕ))
-          → option_map (λ two. NumberClash two.0 two.1) m ≡ option_map clash_fault (option_or (option_map (λ places. Labels places.0 places.1) o) (option_map (λ places. Numbers places.0 places.1) m))
-      by None e m = clash_of_numbers m
-      by (Some two) e m = absurd (cc)
+-- where none of two is named, neither is
+pub neither_named : {X : Type 0} (a b : Option X) → option_or a b ≡ None → (a ≡ None) × (b ≡ None)
+neither_named None b none = (refl, none)
+neither_named (Some x) b none = absurd (cc)
 
 -- results and their faults
 

@@ -5,9 +5,9 @@ use Rattle.client_registry.specs.Setup.{setup_with}
 use Rattle.client_core.specs.Plans.{SetupPlan, UpdatePlan}
 use Rattle.client_core.specs.Updates.{command_of_update}
 
--- of a setup: of the documents and the numbers that it was planned of, under the key of the plan's mark
+-- of a setup: of the plan's documents and numbers, under the key of the plan's mark
 abbrev pub setup_payload : SetupPlan → List ℕ
-setup_payload p = setup_record p.mark (setup_with p.made_of.documents p.b p.big p.pad)
+setup_payload p = setup_record p.mark (setup_with p.docs.documents p.b p.big p.pad)
 
 -- of an update: of its command
 abbrev pub update_payload : UpdatePlan → List ℕ

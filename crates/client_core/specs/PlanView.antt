@@ -15,7 +15,7 @@ use Rattle.client_core.specs.declared.planned.Planned.TheInside.{Inside}
 abbrev pub plan_of : List ℕ → Index → Collected → SetupPlan
 plan_of mark index docs = record {
   mark = mark;
-  made_of = docs;
+  docs = docs;
   b = index.b;
   big = index.big;
   pad = index.pad;
@@ -36,9 +36,9 @@ pub record IsSendable (index : Index) (docs : Collected) : Type 0 where
 
 -- what contracts see of the fields
 abbrev pub setup_plan_of : Inside → SetupPlan
-setup_plan_of p = plan_of p.mark p.index p.made_of.value
+setup_plan_of p = plan_of p.mark p.index p.docs
 
 -- and what is so of them: the index can be sent, and the room is that of the longest frame
 pub record IsPlanned (p : Inside) : Type 0 where
-  pub sendable : IsSendable p.index p.made_of.value
+  pub sendable : IsSendable p.index p.docs
   pub fits : vec_len p.room ≡ 541709

@@ -1,13 +1,13 @@
 -- A contract's view of a plan.
-use Rattle.std.specs.Prelude.{ℕ, List}
+use Rattle.std.specs.Prelude.{ℕ, List, Result, Ok, Err}
 use Rattle.client_registry.specs.Collected.{Collected}
 use Rattle.client_core.specs.declared.update.Update.{Update}
 
--- of a setup: the mark of its key, the documents that it was made of, the numbers per cell and per block, Q, how many words it has
+-- of a setup: the mark of its key, its documents, the numbers per cell and per block, Q, how many words it has
 -- and how many blocks their lists take, and the bytes of its frames in the order in which they are sent, numbered from 0
 pub record SetupPlan : Type 0 where
   pub mark : List ℕ
-  pub made_of : Collected
+  pub docs : Collected
   pub b : ℕ
   pub big : ℕ
   pub pad : ℕ
@@ -22,3 +22,8 @@ pub record UpdatePlan : Type 0 where
   pub words : List ℕ
   pub frame : List ℕ
   pub number : ℕ
+
+-- the same result without the documents that a refusal gives back
+abbrev pub without_docs : {X E D : Type 0} → Result X (E × D) → Result X E
+without_docs (Ok x) = Ok x
+without_docs (Err refused) = Err refused.0

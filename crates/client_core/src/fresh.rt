@@ -1,4 +1,4 @@
-ghost use Rattle.std.specs.Prelude.{◌≡◌, ◌≢◌, List, [], ℕ, length, map, None, Err, IfOk, IfSome, IsOkUnless};
+ghost use Rattle.std.specs.Prelude.{◌≡◌, ◌≢◌, List, [], ℕ, length, map, None, Err, IfErr, IfOk, IfSome, IsOkUnless};
 ghost use Rattle.client_records.specs.Records.{setup_record};
 ghost use Rattle.client_registry.specs.Acceptance.{blocks_of, padded_blocks, padded_words, size_refusal};
 ghost use Rattle.client_registry.specs.Documents.{words_of};
@@ -14,6 +14,7 @@ ghost use Rattle.index_setup.specs.Entries.{key_table};
 ghost use Rattle.index_setup.specs.Refused.{build_refusal, clash_refusal, refused_by_size};
 ghost use Rattle.client_core.specs.Owes.{Owes};
 ghost use Rattle.client_core.specs.Payloads.{setup_payload};
+ghost use Rattle.client_core.specs.Plans.{without_docs};
 ghost use Rattle.client_core.specs.TakenViews.{first_number, frames_left, to_send};
 ghost use Rattle.client_core.specs.Setup.{SendsSetup};
 ghost use Rattle.client_core.specs.StandsFor.{StandsFor};
@@ -21,10 +22,10 @@ ghost use Rattle.client_core.specs.StandsFor.{StandsFor};
 use crate::behind::{Behind, Owed};
 use crate::client::Client;
 use crate::owed_setup::OwedSetup;
-use crate::planned::Planned;
+use crate::planned::{Planned, frame_buffer};
 use crate::ready::Ready;
 use crate::setup_frames::frame_count;
-use client_registry::Docs;
+use client_registry::{Docs, Sizes};
 use index_setup::{BuildFault, build};
 use keyed_fn::Keyed;
 use std::alloc::Global;
@@ -47,61 +48,64 @@ impl Client<Fresh> {
     // Promise P53 (caller): A planned setup's frames are the defined ones for its documents and key, in the grammar and numbered from 0.
     //   clauses: frames, grammar, sends, refused, clash, built, accepted
     // Promise P68 (caller): Every plan yields its command's journal record, of 1 to 2^27 bytes; out of memory leaves the bytes as they were.
-    //   clauses: payload; assumes: earlier calls, kept limits; not: That the record is kept: P12 says it of the run.
-    /// Plans the setup of these documents with b numbers per cell (1 to 64) and `big` numbers per block (1 to 256), filled
-    /// with dummies up to multiples of `pad` (a power of two from 1 to 4,096), and takes its memory: the frames are those of
-    /// `sse_model` for this setup under the client's key, numbered from 0, and its record has that key's mark. Errors: as
-    /// `index_setup::build`. Nothing is changed.
+    //   clauses: payload; assumes: own keys, earlier calls, kept limits; not: That the record is kept: P12 says it of the run.
+    /// Plans the setup of these documents with these parameters, and takes its memory: the frames are those of `sse_model` for
+    /// this setup under the client's key, numbered from 0, and its record has that key's mark. Errors: as
+    /// `index_setup::build`, and the documents come back as they were.
     pub fn plan_setup<K: Keyed>(
         &self,
         alloc: Global,
         keyed: &K,
-        docs: &Docs,
-        b: u64,
-        big: u64,
-        pad: u64,
-    ) -> Result<Planned, BuildFault>
-        ensures refused { IfSome (size_refusal (setup_with docs.now.documents b big pad)) (λ fault. result ≡ Err (refused_by_size fault)) }
-        ensures clash { size_refusal (setup_with docs.now.documents b big pad) ≡ None → result ≢ Err BuildFault.NoMemory → IfSome (clash_refusal (keyed_fn K.prf K.pad) self.now.key (setup_with docs.now.documents b big pad)) (λ fault. result ≡ Err fault) }
-        ensures built { build_refusal (keyed_fn K.prf K.pad) self.now.key (setup_with docs.now.documents b big pad) ≡ None → IsOkUnless result BuildFault.NoMemory }
-        ensures accepted { IfOk result (λ _. build_refusal (keyed_fn K.prf K.pad) self.now.key (setup_with docs.now.documents b big pad) ≡ None) }
-        ensures frames { IfOk result (λ planned. planned.frames ≡ map frame_bytes (frames_of_setup (key_table (keyed_fn K.prf K.pad) self.now.key (setup_with docs.now.documents b big pad)) at_first (setup_with docs.now.documents b big pad))) }
+        docs: Docs,
+        sizes: Sizes,
+    ) -> Result<Planned, (BuildFault, Docs)>
+        ensures refused { IfSome (size_refusal (setup_with docs.documents sizes.b sizes.big sizes.pad)) (λ fault. without_docs result ≡ Err (refused_by_size fault)) }
+        ensures clash { size_refusal (setup_with docs.documents sizes.b sizes.big sizes.pad) ≡ None → without_docs result ≢ Err BuildFault.NoMemory → IfSome (clash_refusal (keyed_fn K.prf K.pad) self.now.key (setup_with docs.documents sizes.b sizes.big sizes.pad)) (λ fault. without_docs result ≡ Err fault) }
+        ensures built { build_refusal (keyed_fn K.prf K.pad) self.now.key (setup_with docs.documents sizes.b sizes.big sizes.pad) ≡ None → IsOkUnless (without_docs result) BuildFault.NoMemory }
+        ensures accepted { IfOk result (λ _. build_refusal (keyed_fn K.prf K.pad) self.now.key (setup_with docs.documents sizes.b sizes.big sizes.pad) ≡ None) }
+        ensures frames { IfOk result (λ planned. planned.frames ≡ map frame_bytes (frames_of_setup (key_table (keyed_fn K.prf K.pad) self.now.key (setup_with docs.documents sizes.b sizes.big sizes.pad)) at_first (setup_with docs.documents sizes.b sizes.big sizes.pad))) }
         ensures grammar { IfOk result (λ planned. AllByRecursion IsFrame (planned.frames)) }
-        ensures payload { IfOk result (λ planned. setup_payload planned ≡ setup_record (mark_of (keyed_fn K.prf K.pad) self.now.key) (setup_with docs.now.documents b big pad)) }
-        ensures documents { IfOk result (λ planned. planned.made_of ≡ docs.now) }
-        ensures shape { IfOk result (λ planned. (planned.b ≡ b) × (planned.big ≡ big)) }
-        ensures pad { IfOk result (λ planned. planned.pad ≡ pad) }
-        ensures own_words { IfOk result (λ planned. planned.own_words ≡ length (words_of docs.now.documents)) }
-        ensures own_blocks { IfOk result (λ planned. planned.own_blocks ≡ blocks_of (setup_with docs.now.documents b big pad)) }
-        ensures sends { IfOk result (λ planned. SendsSetup b big (padded_words (setup_with docs.now.documents b big pad)) (padded_blocks (setup_with docs.now.documents b big pad)) (planned.frames)) }
+        ensures payload { IfOk result (λ planned. setup_payload planned ≡ setup_record (mark_of (keyed_fn K.prf K.pad) self.now.key) (setup_with docs.documents sizes.b sizes.big sizes.pad)) }
+        ensures kept { IfErr result (λ refused. refused.1 ≡ docs) }
+        ensures documents { IfOk result (λ planned. planned.docs ≡ docs) }
+        ensures shape { IfOk result (λ planned. (planned.b ≡ sizes.b) × (planned.big ≡ sizes.big)) }
+        ensures pad { IfOk result (λ planned. planned.pad ≡ sizes.pad) }
+        ensures own_words { IfOk result (λ planned. planned.own_words ≡ length (words_of docs.documents)) }
+        ensures own_blocks { IfOk result (λ planned. planned.own_blocks ≡ blocks_of (setup_with docs.documents sizes.b sizes.big sizes.pad)) }
+        ensures sends { IfOk result (λ planned. SendsSetup sizes.b sizes.big (padded_words (setup_with docs.documents sizes.b sizes.big sizes.pad)) (padded_blocks (setup_with docs.documents sizes.b sizes.big sizes.pad)) (planned.frames)) }
     {
-        let index = build(alloc, keyed, &self.key, docs, b, big, pad)?;
-        let mark = self.key.prepare(keyed).mark(keyed);
-        Ok(Planned::new(alloc, mark, index, docs)?)
+        let index = match build(alloc, keyed, &self.key, &docs, sizes) {
+            Ok(index) => index,
+            Err(fault) => return Err((fault, docs)),
+        };
+        let room = match frame_buffer(alloc) {
+            Ok(room) => room,
+            Err(_) => return Err((BuildFault::NoMemory, docs)),
+        };
+        let mark = self.key.prepare(keyed).mark();
+        Ok(Planned::new(mark, docs, index, room))
     }
 
     // Promise P54 (caller): A client sends its plan's frames in order; only the acknowledgement of a frame's number takes it off, else the client stops.
-    //   clauses: owed, first
+    //   clauses: owed, first; assumes: earlier calls
     // Promise P69 (caller): After a commit the client stands for the history with the plan's command and has exactly its frames to send, without taking memory.
     //   clauses: key, stands, owed, first, owes; assumes: earlier calls
-    /// Takes the plan as done, with the documents that it was made of: from here on its frames are owed to the server. It
-    /// takes no memory.
-    pub fn commit(self, alloc: Global, planned: Planned, docs: Docs) -> Client<Behind>
-        requires documents { planned.made_of ≡ docs }
+    /// Takes the plan as done: from here on its frames are owed to the server. It takes no memory.
+    pub fn commit(self, alloc: Global, planned: Planned) -> Client<Behind>
         ensures key { result.key ≡ self.key }
-        ensures hash_keys { result.state.ready.registry.keys ≡ docs.keys }
-        ensures stands { (f : KeyedFn) (keys : ℕ → List ℕ) → StandsFor f keys at_first (record { setup = setup_with docs.documents planned.b planned.big planned.pad; later = [] }) result.state.ready }
+        ensures hash_keys { result.state.ready.registry.keys ≡ planned.docs.keys }
+        ensures stands { (f : KeyedFn) (keys : ℕ → List ℕ) → StandsFor f keys at_first (record { setup = setup_with planned.docs.documents planned.b planned.big planned.pad; later = [] }) result.state.ready }
         ensures frames { frames_left result.state ≡ length (planned.frames) }
         ensures owed { to_send result.state ≡ planned.frames }
         ensures first { first_number result.state ≡ 0 }
-        ensures owes { (f : KeyedFn) (keys : ℕ → List ℕ) → planned.frames ≡ map frame_bytes (frames_of_setup (table f (setup_with docs.documents planned.b planned.big planned.pad).shape keys) at_first (setup_with docs.documents planned.b planned.big planned.pad)) → Owes f keys at_first (record { setup = setup_with docs.documents planned.b planned.big planned.pad; later = [] }) 0 result.state }
+        ensures owes { (f : KeyedFn) (keys : ℕ → List ℕ) → planned.frames ≡ map frame_bytes (frames_of_setup (table f (setup_with planned.docs.documents planned.b planned.big planned.pad).shape keys) at_first (setup_with planned.docs.documents planned.b planned.big planned.pad)) → Owes f keys at_first (record { setup = setup_with planned.docs.documents planned.b planned.big planned.pad; later = [] }) 0 result.state }
     {
         let Client { key, state: _ } = self;
         let Planned {
+            mark: _,
+            docs,
             index,
             room,
-            made_of: _,
-            mark: _,
         } = planned;
         let ready = Ready::begun(alloc, docs, frame_count(&index));
         let owed = Owed::Setup(OwedSetup::at(index, room, 0, 0));

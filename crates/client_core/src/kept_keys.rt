@@ -45,8 +45,7 @@ impl KeptKeys {
     /// The entry of the next addition of the word of this number, which isn't at its last counter.
     pub(crate) fn entry<K: Keyed>(
         &mut self,
-        keyed: &K,
-        master: &PreparedMaster<K>,
+        master: &PreparedMaster<'_, K>,
         registry: &Registry,
         number: u32,
         id: DocId,
@@ -58,10 +57,10 @@ impl KeptKeys {
     {
         let counter = registry.counter_at(number as usize);
         if let Some(keys) = self.plus.get(&number) {
-            return Ok(next_entry(keyed, keys, counter, id).unwrap());
+            return Ok(next_entry(master.keyed(), keys, counter, id).unwrap());
         }
-        let keys = master.plus_keys(keyed, registry.word(number as usize));
-        let entry = next_entry(keyed, &keys, counter, id).unwrap();
+        let keys = master.plus_keys(registry.word(number as usize));
+        let entry = next_entry(master.keyed(), &keys, counter, id).unwrap();
         self.plus.insert(number, keys)?;
         Ok(entry)
     }
@@ -69,8 +68,7 @@ impl KeptKeys {
     /// Appends the identifier's revocation number under the word of this number.
     pub(crate) fn push_number<K: Keyed>(
         &mut self,
-        keyed: &K,
-        master: &PreparedMaster<K>,
+        master: &PreparedMaster<'_, K>,
         registry: &Registry,
         number: u32,
         id: DocId,
@@ -82,10 +80,10 @@ impl KeptKeys {
         ensures number { Keeps (keyed_fn K.prf K.pad) master.now (known_words registry.now) self.old → OnOk result (numbers.new ≡ numbers.old ++ number_of (keyed_fn K.prf K.pad) master.now (id_number id) (slice_index_or (known_words registry.now) number []) ∷ []) }
     {
         if let Some(key) = self.revocations.get(&number) {
-            return numbers.push(keyed, key, id);
+            return numbers.push(master.keyed(), key, id);
         }
-        let key = master.revocation_key(keyed, registry.word(number as usize));
-        numbers.push(keyed, &key, id)?;
+        let key = master.revocation_key(registry.word(number as usize));
+        numbers.push(master.keyed(), &key, id)?;
         self.revocations.insert(number, key)?;
         Ok(())
     }

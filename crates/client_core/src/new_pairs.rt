@@ -1,12 +1,12 @@
-ghost use Rattle.std.specs.Prelude.{◌≡◌, ◌-◌, ◌<◌, ◌≤◌, ◌^◌, ◌++◌, [], All, IfOk, OnOk, bytes_eq, length, map, slice_index_or};
-ghost use Rattle.std.specs.List.{IsDistinct, flat_map};
+ghost use Rattle.std.specs.Prelude.{◌≡◌, ◌-◌, ◌<◌, ◌≤◌, ◌^◌, ◌++◌, [], All, IfOk, OnOk, length, map, slice_index_or};
+ghost use Rattle.std.specs.List.{flat_map};
 ghost use Rattle.add_counters.specs.NewEntry.{entry_text};
 ghost use Rattle.client_registry.specs.IdNumber.{id_number};
 ghost use Rattle.client_registry.specs.Registered.{facts, known_words};
 ghost use Rattle.keyed_fn.specs.KeyedFn.{keyed_fn};
-ghost use Rattle.sse_frames.specs.Frames.{Rises, entry_bytes, joined};
+ghost use Rattle.sse_frames.specs.Frames.{entry_bytes, joined};
 ghost use Rattle.sse_frames.specs.Order.{by_bytes};
-ghost use Rattle.client_tag_order.specs.Tagged.{tagged_from};
+ghost use Rattle.client_tag_order.specs.Tagged.{tagged_from, IsOrderOf};
 ghost use Rattle.client_core.specs.Keys.{Keeps};
 ghost use Rattle.client_core.specs.UpdateTexts.{next_entry_of, number_of, HaveSizes};
 
@@ -22,8 +22,7 @@ use word_keys::PreparedMaster;
 /// The entry of the next addition of each of these words, in their order. None of them is at its last counter.
 pub(crate) fn entries_of<K: Keyed>(
     alloc: Global,
-    keyed: &K,
-    master: &PreparedMaster<K>,
+    master: &PreparedMaster<'_, K>,
     registry: &Registry,
     keys: &mut KeptKeys,
     places: &[NumberedWord],
@@ -37,7 +36,7 @@ pub(crate) fn entries_of<K: Keyed>(
 {
     let mut entries = Vec::with_capacity(alloc, places.len())?;
     for place in places {
-        let entry = keys.entry(keyed, master, registry, place.number, id)?;
+        let entry = keys.entry(master, registry, place.number, id)?;
         entries.push(entry)?;
     }
     Ok(entries)
@@ -46,8 +45,7 @@ pub(crate) fn entries_of<K: Keyed>(
 /// The identifier's revocation number under each of these words, in their order.
 pub(crate) fn numbers_of<K: Keyed>(
     alloc: Global,
-    keyed: &K,
-    master: &PreparedMaster<K>,
+    master: &PreparedMaster<'_, K>,
     registry: &Registry,
     keys: &mut KeptKeys,
     places: &[NumberedWord],
@@ -60,7 +58,7 @@ pub(crate) fn numbers_of<K: Keyed>(
 {
     let mut numbers = Numbers::new(alloc, places.len())?;
     for place in places {
-        keys.push_number(keyed, master, registry, place.number, id, &mut numbers)?;
+        keys.push_number(master, registry, place.number, id, &mut numbers)?;
     }
     Ok(numbers)
 }
@@ -91,18 +89,20 @@ pub(crate) fn tags_of(alloc: Global, sorted: &[Tagged]) -> Result<Vec<[u8; 16]>,
     Ok(tags)
 }
 
-/// The entries by rising label.
-pub(crate) fn by_label(entries: Vec<Entry>) -> Result<Vec<Entry>, AllocError>
-    ensures sorted { IfOk result (λ sorted. sorted.items ≡ by_bytes (λ entry. entry.label) entries.items) }
-    ensures rises { IsDistinct bytes_eq (map (λ entry. entry.label) entries.items) → IfOk result (λ sorted. Rises (map (λ entry. entry.label) sorted.items)) }
+/// The entries by rising label, from the order of their labels.
+pub(crate) fn in_order(
+    alloc: Global,
+    entries: &[Entry],
+    order: &[Tagged],
+) -> Result<Vec<Entry>, AllocError>
+    requires { IsOrderOf (map (λ entry. entry.label) entries.now) order.now }
+    ensures { IfOk result (λ sorted. sorted.items ≡ by_bytes (λ entry. entry.label) entries.now) }
 {
-    let mut entries = entries;
-    entries.sort_by_key(
-        |entry|
-            ensures { result ≡ entry.now.label }
-        { entry.label },
-    )?;
-    Ok(entries)
+    let mut sorted = Vec::with_capacity(alloc, order.len())?;
+    for label in order {
+        sorted.push(entries[label.position as usize])?;
+    }
+    Ok(sorted)
 }
 
 /// Appends an entry's label and its encrypted bytes.

@@ -46,19 +46,14 @@ impl Model for Ready {
 
 impl Client<Ready> {
     // Promise P48 (caller): A search sends the frame with its word's token, as the key formulas give it.
-    //   clauses: ensures
+    //   clauses: ensures; assumes: own keys
     /// The Search frame of a word: four length bytes, the kind byte 08 and the token of 160 bytes. `master` is the
     /// client's key, prepared once for all searches. It takes no memory.
-    pub fn search_frame<K: Keyed>(
-        &self,
-        keyed: &K,
-        master: &PreparedMaster<K>,
-        word: &Word,
-    ) -> [u8; 165]
+    pub fn search_frame<K: Keyed>(&self, master: &PreparedMaster<'_, K>, word: &Word) -> [u8; 165]
         requires prepared { master.now ≡ self.now.key }
         ensures { result ≡ frame_bytes (SearchFrame (token_of (keyed_fn K.prf K.pad) self.now.key (word_bytes word.now))) }
     {
-        search_frame(&master.token(keyed, word).to_bytes())
+        search_frame(&master.token(word).to_bytes())
     }
 }
 
@@ -94,8 +89,7 @@ impl Ready {
     pub(crate) fn addition<K: Keyed>(
         &mut self,
         alloc: Global,
-        keyed: &K,
-        master: &PreparedMaster<K>,
+        master: &PreparedMaster<'_, K>,
         doc: &Doc,
     ) -> Result<(Vec<u8>, Vec<u32>), CommandFault>
         requires counters { has_counters (facts self.old.registry) doc.now ≡ true }
@@ -116,7 +110,6 @@ impl Ready {
         let numbers = self.registry.reserve_numbered(doc)?;
         let frame = add_update(
             alloc,
-            keyed,
             master,
             &self.registry,
             &mut self.keys,
@@ -131,8 +124,7 @@ impl Ready {
     pub(crate) fn deletion<K: Keyed>(
         &mut self,
         alloc: Global,
-        keyed: &K,
-        master: &PreparedMaster<K>,
+        master: &PreparedMaster<'_, K>,
         id: DocId,
     ) -> Result<Vec<u8>, CommandFault>
         requires live { IsSome ((facts self.old.registry).live (id_number id)) }
@@ -146,7 +138,6 @@ impl Ready {
     {
         delete_update(
             alloc,
-            keyed,
             master,
             &self.registry,
             &mut self.keys,

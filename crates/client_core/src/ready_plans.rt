@@ -39,8 +39,7 @@ impl Client<Ready> {
     pub fn plan_add<K: Keyed>(
         &mut self,
         alloc: Global,
-        keyed: &K,
-        master: &PreparedMaster<K>,
+        master: &PreparedMaster<'_, K>,
         doc: Doc,
     ) -> Result<PlannedUpdate, CommandFault>
         requires prepared { master.now ≡ self.old.key }
@@ -59,7 +58,7 @@ impl Client<Ready> {
         if let Some(fault) = self.state.add_refusal(&doc) {
             return Err(fault);
         }
-        let (frame, words) = self.state.addition(alloc, keyed, master, &doc)?;
+        let (frame, words) = self.state.addition(alloc, master, &doc)?;
         Ok(PlannedUpdate {
             update: Update::Add(doc),
             words,
@@ -78,8 +77,7 @@ impl Client<Ready> {
     pub fn plan_delete<K: Keyed>(
         &mut self,
         alloc: Global,
-        keyed: &K,
-        master: &PreparedMaster<K>,
+        master: &PreparedMaster<'_, K>,
         id: DocId,
     ) -> Result<PlannedUpdate, CommandFault>
         requires prepared { master.now ≡ self.old.key }
@@ -99,7 +97,7 @@ impl Client<Ready> {
             return Err(fault);
         }
         let number = self.state.number();
-        let frame = self.state.deletion(alloc, keyed, master, id)?;
+        let frame = self.state.deletion(alloc, master, id)?;
         Ok(PlannedUpdate {
             update: Update::Delete(id),
             words: Vec::new(alloc),

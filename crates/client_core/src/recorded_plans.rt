@@ -24,7 +24,7 @@ use crate::ready::Ready;
 use crate::resume_fault::{ResumeFault, of_setup, of_update};
 use crate::update::Update;
 use client_rebuild::{Last, RecordedSetup, RecordedUpdate, Update as Recorded};
-use client_registry::{Doc, DocId};
+use client_registry::{Doc, DocId, Sizes};
 use keyed_fn::Keyed;
 use std::alloc::Global;
 use word_keys::MasterKey;
@@ -79,10 +79,15 @@ fn replan_setup<K: Keyed>(
         pad,
         ..
     } = setup;
+    let sizes = Sizes {
+        b: b as u64,
+        big: big as u64,
+        pad: pad as u64,
+    };
     let client = Client::fresh(key);
-    match client.plan_setup(alloc, keyed, &docs, b as u64, big as u64, pad as u64) {
-        Ok(planned) => Ok(client.commit(alloc, planned, docs).skip(next)),
-        Err(fault) => Err(of_setup(fault)),
+    match client.plan_setup(alloc, keyed, docs, sizes) {
+        Ok(planned) => Ok(client.commit(alloc, planned).skip(next)),
+        Err((fault, _)) => Err(of_setup(fault)),
     }
 }
 
@@ -127,7 +132,7 @@ fn replan_addition<K: Keyed>(
     ensures hash_keys { IfOk result (λ client. client.state.ready.registry.keys ≡ ready.registry.keys) }
 {
     let master = key.prepare(keyed);
-    match ready.addition(alloc, keyed, &master, &doc) {
+    match ready.addition(alloc, &master, &doc) {
         Ok((frame, words)) => {
             let number = ready.number();
             let client = Client { key, state: ready };
@@ -158,7 +163,7 @@ fn replan_deletion<K: Keyed>(
     ensures hash_keys { IfOk result (λ client. client.state.ready.registry.keys ≡ ready.registry.keys) }
 {
     let master = key.prepare(keyed);
-    match ready.deletion(alloc, keyed, &master, id) {
+    match ready.deletion(alloc, &master, id) {
         Ok(frame) => {
             let number = ready.number();
             let client = Client { key, state: ready };

@@ -12,10 +12,10 @@ ghost use Rattle.client_core.specs.UpdateFaults.{clash_fault};
 ghost use Rattle.client_core.specs.UpdateTexts.{add_collision, add_text, delete_collision, delete_text};
 
 use crate::command_fault::CommandFault;
-use crate::equal_values::{label_clash, number_clash};
+use crate::equal_values::{add_clash, number_clash};
 use crate::kept_keys::KeptKeys;
-use crate::new_pairs::{by_label, entries_of, labels_of, numbers_of, tags_of};
-use crate::update_frames::{add_frame, delete_frame};
+use crate::new_pairs::{entries_of, in_order, labels_of, numbers_of, tags_of};
+use crate::update_frames::{checked_addition, checked_deletion};
 use client_registry::{Doc, DocId, Registry};
 use client_tag_order::by_tag;
 use keyed_fn::Keyed;
@@ -23,12 +23,11 @@ use revocation_ids::{NumberedWord, split};
 use std::alloc::{AllocError, Global};
 use word_keys::PreparedMaster;
 
-/// The frame of an addition of this document, whose words have these numbers, and counters where their pair is new. Errors:
-/// `LabelClash`, else `NumberClash`, exactly where two values are equal; `NoMemory`.
+/// The frame of an addition of this document, whose words have these numbers, and a counter left if their pair is new. Errors:
+/// `LabelClash` if two labels are equal, else `NumberClash` if two revocation numbers are; `NoMemory`.
 pub(crate) fn add_update<K: Keyed>(
     alloc: Global,
-    keyed: &K,
-    master: &PreparedMaster<K>,
+    master: &PreparedMaster<'_, K>,
     registry: &Registry,
     keys: &mut KeptKeys,
     q: u32,
@@ -47,28 +46,26 @@ pub(crate) fn add_update<K: Keyed>(
     let parts = split(alloc, registry, words, doc.id())?;
     let fresh = parts.fresh.as_slice();
     let listed = parts.listed.as_slice();
-    let entries = entries_of(alloc, keyed, master, registry, keys, fresh, doc.id())?;
-    let labels = labels_of(alloc, entries.as_slice())?;
+    let made = entries_of(alloc, master, registry, keys, fresh, doc.id())?;
+    let made = made.as_slice();
+    let labels = labels_of(alloc, made)?;
     let labels = by_tag(labels)?;
-    if let Some(fault) = label_clash(labels.as_slice(), fresh) {
-        return Err(fault);
-    }
-    let numbers = numbers_of(alloc, keyed, master, registry, keys, listed, doc.id())?;
+    let labels = labels.as_slice();
+    let numbers = numbers_of(alloc, master, registry, keys, listed, doc.id())?;
     let numbers = numbers.sorted()?;
-    if let Some(fault) = number_clash(numbers.as_slice(), listed) {
-        return Err(fault);
-    }
-    let numbers = tags_of(alloc, numbers.as_slice())?;
-    let entries = by_label(entries)?;
-    Ok(add_frame(alloc, q, entries.as_slice(), numbers.as_slice())?)
+    let numbers = numbers.as_slice();
+    let entries = in_order(alloc, made, labels)?;
+    let sent = tags_of(alloc, numbers)?;
+    // The test comes after all that takes memory but the frame, so that what it finds is reported.
+    let clash = add_clash(labels, fresh, numbers, listed);
+    checked_addition(alloc, q, clash, entries.as_slice(), sent.as_slice())
 }
 
-/// The frame of a deletion of the live document of this identifier. Errors: `NumberClash` exactly where two numbers are
-/// equal; `NoMemory`.
+/// The frame of a deletion of the live document of this identifier. Errors: `NumberClash` if two revocation numbers are equal;
+/// `NoMemory`.
 pub(crate) fn delete_update<K: Keyed>(
     alloc: Global,
-    keyed: &K,
-    master: &PreparedMaster<K>,
+    master: &PreparedMaster<'_, K>,
     registry: &Registry,
     keys: &mut KeptKeys,
     q: u32,
@@ -84,13 +81,12 @@ pub(crate) fn delete_update<K: Keyed>(
     let doc = registry.get(id).unwrap();
     let places = places_of(alloc, doc.numbers)?;
     let places = places.as_slice();
-    let numbers = numbers_of(alloc, keyed, master, registry, keys, places, id)?;
+    let numbers = numbers_of(alloc, master, registry, keys, places, id)?;
     let numbers = numbers.sorted()?;
-    if let Some(fault) = number_clash(numbers.as_slice(), places) {
-        return Err(fault);
-    }
-    let numbers = tags_of(alloc, numbers.as_slice())?;
-    Ok(delete_frame(alloc, q, numbers.as_slice())?)
+    let numbers = numbers.as_slice();
+    let sent = tags_of(alloc, numbers)?;
+    let clash = number_clash(numbers, places);
+    checked_deletion(alloc, q, clash, sent.as_slice())
 }
 
 /// The words of these numbers, each at its position.

@@ -1,7 +1,6 @@
 -- What a started journal says of the file that it was started from.
 use Rattle.std.proofs.Common.{◌≡◌, ◌≢◌, ℕ, List, [], ◌∷◌, length, refl, sym, ap, subst, ◌∙◌, None, Some, Ok, Err, arith}
-use Rattle.std.specs.Prelude.{Option, Result, IfSome, is_some, option_map}
-use Rattle.std.specs.Result.{IsErrAnd}
+use Rattle.std.specs.Prelude.{Option, Result, IfSome, OnErr, is_some, option_map}
 use Rattle.sse_journal.proofs.FileRecords.{gives_records, records_of_journal}
 use Rattle.sse_journal.proofs.Once.{gives_once}
 use Rattle.sse_journal.specs.FileRecords.{records_in_file}
@@ -11,11 +10,9 @@ use Rattle.sse_journal.specs.declared.journal.Journal.{Journal}
 use Rattle.sse_journal.specs.declared.start_fault.StartFault.{StartFault}
 use Rattle.sse_journal.specs.declared.start_fault.StartFault.TheVariants as starts
 use Rattle.client_journal.specs.Openings.{GivesSome, IsBegun}
-use Rattle.client_journal.specs.Faults.{GoesOn, fault_of_reopen, fault_of_start}
-use Rattle.client_journal.specs.declared.faults.BeginFault.{BeginFault}
-use Rattle.client_journal.specs.declared.faults.BeginFault.TheVariants as begins
-use Rattle.client_journal.specs.declared.faults.ReopenFault.{ReopenFault}
-use Rattle.client_journal.specs.declared.faults.ReopenFault.TheVariants as reopens
+use Rattle.client_journal.specs.Faults.{EndsFor, GoesOn, stop_of_start}
+use Rattle.script_run_texts.specs.declared.journal_stop.JournalStop.{JournalStop}
+use Rattle.script_run_texts.specs.declared.journal_stop.JournalStop.TheVariants.{NoJournal}
 
 -- what is so of a value, where there is one
 
@@ -27,28 +24,30 @@ pub if_some_both : {A : Type 0} {P Q R : A → Type 0} (o : Option A) → IfSome
 if_some_both None p q f = tt
 if_some_both (Some a) p q f = f a p q
 
--- What a fault of a start makes a run end for.
+-- what is so is so after an error
+pub on_err : {T E P : Type 0} (r : Result T E) → P → OnErr r P
+on_err (Ok x) p = tt
+on_err (Err e) p = p
 
-pub same_fault : {T : Type 0} (r : Result T ReopenFault) (fault wanted cause : ReopenFault) → r ≡ Err fault → fault ≡ cause → r ≡ Err wanted → cause ≡ wanted
-same_fault r fault wanted cause is same e = cc
+-- The stop of a run for a fault of a start.
 
-pub ends_no_journal : (fault : StartFault) → fault_of_start fault ≡ reopens.NoJournal → (place : ℕ) × (fault ≡ starts.NotAJournal place)
+pub same_stop : {T : Type 0} (r : Result T JournalStop) (stop wanted cause : JournalStop) → r ≡ Err stop → stop ≡ cause → r ≡ Err wanted → cause ≡ wanted
+same_stop r stop wanted cause is same e = cc
+
+pub ends_no_journal : (fault : StartFault) → stop_of_start fault ≡ NoJournal → (place : ℕ) × (fault ≡ starts.NotAJournal place)
 ends_no_journal starts.DiskFault e = absurd (cc)
 ends_no_journal (starts.NotAJournal place) e = (place, refl)
 ends_no_journal starts.NoMemory e = absurd (cc)
 
-pub goes_but_for : {T : Type 0} (r : Result T ReopenFault) (own : ReopenFault) (fault : StartFault) → r ≡ Err own → own ≡ fault_of_start fault → ((place : ℕ) → fault ≢ starts.NotAJournal place) → GoesOn reopens.Disk reopens.Memory r
-goes_but_for r own starts.DiskFault is same never disk memory = absurd (disk (is ∙ ap (λ (s : ReopenFault). Err s) same))
-goes_but_for r own (starts.NotAJournal place) is same never disk memory = absurd (never place refl)
-goes_but_for r own starts.NoMemory is same never disk memory = absurd (memory (is ∙ ap (λ (s : ReopenFault). Err s) same))
+pub goes_but_for : {T : Type 0} (r : Result T JournalStop) (stop : JournalStop) (fault : StartFault) → r ≡ Err stop → stop ≡ stop_of_start fault → ((place : ℕ) → fault ≢ starts.NotAJournal place) → GoesOn r
+goes_but_for r stop starts.DiskFault is same never disk memory = absurd (disk (is ∙ ap (λ (s : JournalStop). Err s) same))
+goes_but_for r stop (starts.NotAJournal place) is same never disk memory = absurd (never place refl)
+goes_but_for r stop starts.NoMemory is same never disk memory = absurd (memory (is ∙ ap (λ (s : JournalStop). Err s) same))
 
--- a start that would go on and didn't fails a beginning for the disk or for memory alone
-pub unbegun : {S T : Type 0} (started : Result S ReopenFault) (fault : ReopenFault) (r : Result T BeginFault) → started ≡ Err fault → IsErrAnd r (λ own. own ≡ fault_of_reopen fault)
-    → GoesOn reopens.Disk reopens.Memory started → r ≢ Err begins.Disk → r ≢ Err begins.Memory → ⊥
-unbegun started fault (Ok x) was is goes disk memory = is
-unbegun started reopens.NoJournal (Err own) was is goes disk memory = let ok = goes (λ d. absurd (cc)) (λ m. absurd (cc)) in cc
-unbegun started reopens.Disk (Err own) was is goes disk memory = disk (ap (λ (b : BeginFault). Err b) is)
-unbegun started reopens.Memory (Err own) was is goes disk memory = memory (ap (λ (b : BeginFault). Err b) is)
+-- a call that would go on and didn't ended for the disk or for memory
+pub ends_but_for : {T : Type 0} (r : Result T JournalStop) (stop wanted : JournalStop) → r ≡ Err stop → GoesOn r → EndsFor wanted r
+ends_but_for (Ok x) stop wanted is goes disk memory = absurd (cc)
+ends_but_for (Err own) stop wanted is goes disk memory = absurd (let ok = goes disk memory in cc)
 
 none_of : (payloads : List (List ℕ)) → length payloads ≡ 0 → payloads ≡ []
 none_of [] e = refl

@@ -11,9 +11,9 @@ use Rattle.client_rebuild.specs.declared.fault.RebuildFault.TheVariants as fault
 use Rattle.client_rebuild.specs.declared.rebuild.Rebuild.{Rebuild}
 use Rattle.client_journal.proofs.Fronts.{bad_not_elsewhere, bad_once, elsewhere_first, open_not_bad, open_not_elsewhere}
 use Rattle.client_journal.specs.Recordings.{AreFirst, IsBadUnder, IsRebuiltFrom, TakesAll, TakesNext}
-use Rattle.client_journal.specs.Faults.{EndsFor, GoesOn, fault_of_read, fault_of_take}
-use Rattle.client_journal.specs.declared.faults.RecordsFault.{RecordsFault}
-use Rattle.client_journal.specs.declared.faults.RecordsFault.TheVariants.{NoJournal, BadRecord, WrongKey, Disk, Memory}
+use Rattle.client_journal.specs.Faults.{EndsFor, GoesOn, stop_of_read, stop_of_take}
+use Rattle.script_run_texts.specs.declared.journal_stop.JournalStop.{JournalStop}
+use Rattle.script_run_texts.specs.declared.journal_stop.JournalStop.TheVariants.{NoJournal, HasRecords, BadRecord, WrongKey, Disk, Memory}
 use Rattle.sse_journal.specs.JournalView.{IsJournalOf}
 use Rattle.sse_journal.specs.Reads.{IsRead, place_of}
 use Rattle.sse_journal.specs.declared.journal.Journal.{Journal}
@@ -48,7 +48,7 @@ module _ (told : List (List ℕ) → Type 0) (mark : List ℕ) (payloads : List 
   pub next_refused : (next : ℕ) (out : List ℕ) → Gives (Some next) out → (after : Rebuild) (fault : RebuildFault)
       → ((n : ℕ) → fault ≡ faults.BadRecord n → (n ≡ length payloads) × IsBadRecord (payloads ++ out ∷ []) n)
       → (fault ≡ faults.WrongKey → OpensElsewhere mark (payloads ++ out ∷ []))
-      → TakesNext told mark payloads at (Err (fault_of_take fault)) after
+      → TakesNext told mark payloads at (Err (stop_of_take fault)) after
   next_refused next out read after (faults.BadRecord n) bad wrong = λ all is first.
       let here = bad n refl in
       let known = read all is first in
@@ -59,7 +59,7 @@ module _ (told : List (List ℕ) → Type 0) (mark : List ℕ) (payloads : List 
   next_refused next out read after faults.NoMemory bad wrong = tt
 
   pub next_unread : (fault : ReadFault) → ((all : List (List ℕ)) → told all → AreFirst all payloads at → fault ≡ reads.NotAJournal at → ⊥) → ((place : ℕ) → fault ≡ reads.NotAJournal place → place ≡ at)
-      → (after : Rebuild) → TakesNext told mark payloads at (Err (fault_of_read fault)) after
+      → (after : Rebuild) → TakesNext told mark payloads at (Err (stop_of_read fault)) after
   next_unread reads.DiskFault never place after = tt
   next_unread (reads.NotAJournal n) never place after = λ all is first. never all is first (ap (λ (m : ℕ). reads.NotAJournal m) (place n refl))
   next_unread reads.NoMemory never place after = tt
@@ -88,7 +88,7 @@ module _ (told now : List (List ℕ) → Type 0) (same : (all : List (List ℕ))
         first.are ∙ take_all (length here.payloads) all (omega (arith, one.1 all (same all is) first));
   }
 
-  pub here_refused : r.mark ≡ mark → (stop : RecordsFault) → TakesNext now mark' here.payloads at (Err stop) after → TakesAll {T = Unit {0}} told mark (Err stop) after
+  pub here_refused : r.mark ≡ mark → (stop : JournalStop) → TakesNext now mark' here.payloads at (Err stop) after → TakesAll {T = Unit {0}} told mark (Err stop) after
   here_refused is_mark (BadRecord n) one = λ all is.
       let first = here.first all is in
       let known = one all (same all is) first in
@@ -100,11 +100,12 @@ module _ (told now : List (List ℕ) → Type 0) (same : (all : List (List ℕ))
   here_refused is_mark WrongKey one = λ all is.
       elsewhere_first mark all (length here.payloads) (subst (λ (m : List ℕ). OpensElsewhere m (take (length here.payloads + 1) all)) marks (one all (same all is) (here.first all is)))
   here_refused is_mark NoJournal one = λ all is. one all (same all is) (here.first all is)
+  here_refused is_mark HasRecords one = absurd one
   here_refused is_mark Disk one = tt
   here_refused is_mark Memory one = tt
 
 -- What is so of the records is so of the result, and no other.
-module _ {T : Type 0} (told : List (List ℕ) → Type 0) (own mark : List ℕ) (marks : own ≡ mark) (r : Rebuild) (result : Result T RecordsFault) (takes : TakesAll told own result r) where
+module _ {T : Type 0} (told : List (List ℕ) → Type 0) (own mark : List ℕ) (marks : own ≡ mark) (r : Rebuild) (result : Result T JournalStop) (takes : TakesAll told own result r) where
   module _ (own_mark : r.mark ≡ mark) (all : List (List ℕ)) (told_all : told all) where
     -- all were taken, so they open under this mark
     opened_all : IsRebuiltFrom told r → (h : History) × OpensTo mark all h
@@ -116,35 +117,38 @@ module _ {T : Type 0} (told : List (List ℕ) → Type 0) (own mark : List ℕ) 
     other : ((a : List (List ℕ)) → told a → OpensElsewhere own (take 1 a)) → OpensElsewhere mark (take 1 all)
     other wrong = subst (λ (m : List ℕ). OpensElsewhere m (take 1 all)) marks (wrong all told_all)
 
-    pub all_wrong_refused : OpensElsewhere mark (take 1 all) → EndsFor Disk Memory WrongKey result
+    pub all_wrong_refused : OpensElsewhere mark (take 1 all) → EndsFor WrongKey result
     all_wrong_refused elsewhere = by result takes
       where
-        by : (q : Result T RecordsFault) → TakesAll told own q r → EndsFor Disk Memory WrongKey q
+        by : (q : Result T JournalStop) → TakesAll told own q r → EndsFor WrongKey q
         by (Ok done) t disk memory = let at = opened_all t in absurd (open_not_elsewhere mark all at.0 at.1 elsewhere)
         by (Err (BadRecord n)) t disk memory = absurd (bad_not_elsewhere mark all n (under n t) elsewhere)
         by (Err WrongKey) t disk memory = refl
         by (Err NoJournal) t disk memory = absurd (t all told_all)
+        by (Err HasRecords) t disk memory = absurd t
         by (Err Disk) t disk memory = absurd (disk refl)
         by (Err Memory) t disk memory = absurd (memory refl)
 
-    pub all_bad_refused : (n : ℕ) → IsBadUnder mark all n → EndsFor Disk Memory (BadRecord n) result
+    pub all_bad_refused : (n : ℕ) → IsBadUnder mark all n → EndsFor (BadRecord n) result
     all_bad_refused n bad = by result takes
       where
-        by : (q : Result T RecordsFault) → TakesAll told own q r → EndsFor Disk Memory (BadRecord n) q
+        by : (q : Result T JournalStop) → TakesAll told own q r → EndsFor (BadRecord n) q
         by (Ok done) t disk memory = let at = opened_all t in absurd (open_not_bad mark all at.0 n at.1 bad)
         by (Err (BadRecord m)) t disk memory = ap (λ (k : ℕ). Err (BadRecord k)) (bad_once mark all m n (under m t) bad)
         by (Err WrongKey) t disk memory = absurd (bad_not_elsewhere mark all n bad (other t))
         by (Err NoJournal) t disk memory = absurd (t all told_all)
+        by (Err HasRecords) t disk memory = absurd t
         by (Err Disk) t disk memory = absurd (disk refl)
         by (Err Memory) t disk memory = absurd (memory refl)
 
-    pub all_accepted : (run : Run) → Opens mark all run → GoesOn Disk Memory result
+    pub all_accepted : (run : Run) → Opens mark all run → GoesOn result
     all_accepted run opened = by result takes
       where
-        by : (q : Result T RecordsFault) → TakesAll told own q r → GoesOn Disk Memory q
+        by : (q : Result T JournalStop) → TakesAll told own q r → GoesOn q
         by (Ok done) t disk memory = refl
         by (Err (BadRecord m)) t disk memory = absurd (open_not_bad mark all (Some run) m opened (under m t))
         by (Err WrongKey) t disk memory = absurd (open_not_elsewhere mark all (Some run) opened (other t))
         by (Err NoJournal) t disk memory = absurd (t all told_all)
+        by (Err HasRecords) t disk memory = absurd t
         by (Err Disk) t disk memory = absurd (disk refl)
         by (Err Memory) t disk memory = absurd (memory refl)

@@ -3,9 +3,9 @@ use Rattle.std.specs.Prelude.{◌≡◌, ℕ, ◌+◌, ◌≤◌, List, [], ◌�
 use Rattle.client_records.specs.Openings.{OpensElsewhere, OpensNowhere, OpensTo}
 use Rattle.client_rebuild.specs.Rebuilds.{Rebuilds}
 use Rattle.client_rebuild.specs.declared.rebuild.Rebuild.{Rebuild}
-use Rattle.client_journal.specs.declared.faults.RecordsFault.{RecordsFault}
-use Rattle.client_journal.specs.declared.faults.RecordsFault.TheVariants.{NoJournal, BadRecord, WrongKey, Disk, Memory}
 use Rattle.client_registry.specs.Run.{History}
+use Rattle.script_run_texts.specs.declared.journal_stop.JournalStop.{JournalStop}
+use Rattle.script_run_texts.specs.declared.journal_stop.JournalStop.TheVariants.{NoJournal, HasRecords, BadRecord, WrongKey, Disk, Memory}
 use Rattle.sse_journal.specs.Reads.{place_of}
 
 -- the record of this number, from 0, is the first that can't stand where it does: those before it open under this mark, and with it
@@ -28,9 +28,9 @@ pub record AreFirst (all payloads : List (List ℕ)) (at : ℕ) : Type 0 where
   pub place : at ≡ place_of all (length payloads)
 
 -- after these records the one at a place is read and taken: there is none, and they are all; it is taken, and the next place is told;
--- it can't stand there; it is that of a setup under another mark; or the disk failed or memory was wanting. What is read is no record
--- only where the records aren't told
-abbrev pub TakesNext : (told : List (List ℕ) → Type 0) (mark : List ℕ) (payloads : List (List ℕ)) (at : ℕ) → Result (Option ℕ) RecordsFault → Rebuild → Type 0
+-- it can't stand there; it is that of a setup under another mark; or the disk failed or it is out of memory. What is read is no
+-- record only where the records aren't told
+abbrev pub TakesNext : (told : List (List ℕ) → Type 0) (mark : List ℕ) (payloads : List (List ℕ)) (at : ℕ) → Result (Option ℕ) JournalStop → Rebuild → Type 0
 TakesNext told mark payloads at (Ok None) r =
     Rebuilds payloads r × ((all : List (List ℕ)) → told all → AreFirst all payloads at → length payloads ≡ length all)
 TakesNext told mark payloads at (Ok (Some next)) r =
@@ -40,14 +40,16 @@ TakesNext told mark payloads at (Err (BadRecord n)) r =
 TakesNext told mark payloads at (Err WrongKey) r =
     (all : List (List ℕ)) → told all → AreFirst all payloads at → OpensElsewhere mark (take (length payloads + 1) all)
 TakesNext told mark payloads at (Err NoJournal) r = (all : List (List ℕ)) → told all → AreFirst all payloads at → ⊥
+TakesNext told mark payloads at (Err HasRecords) r = ⊥
 TakesNext told mark payloads at (Err Disk) r = Unit {0}
 TakesNext told mark payloads at (Err Memory) r = Unit {0}
 
 -- all records are read and taken, from the first on, or this is why not
-abbrev pub TakesAll : {T : Type 0} (told : List (List ℕ) → Type 0) (mark : List ℕ) → Result T RecordsFault → Rebuild → Type 0
+abbrev pub TakesAll : {T : Type 0} (told : List (List ℕ) → Type 0) (mark : List ℕ) → Result T JournalStop → Rebuild → Type 0
 TakesAll told mark (Ok done) r = IsRebuiltFrom told r
 TakesAll told mark (Err (BadRecord n)) r = (all : List (List ℕ)) → told all → IsBadUnder mark all n
 TakesAll told mark (Err WrongKey) r = (all : List (List ℕ)) → told all → OpensElsewhere mark (take 1 all)
 TakesAll told mark (Err NoJournal) r = (all : List (List ℕ)) → told all → ⊥
+TakesAll told mark (Err HasRecords) r = ⊥
 TakesAll told mark (Err Disk) r = Unit {0}
 TakesAll told mark (Err Memory) r = Unit {0}

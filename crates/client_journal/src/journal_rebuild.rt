@@ -13,9 +13,10 @@ ghost use Rattle.sse_outside.specs.Causes.{Rose};
 ghost use Rattle.sse_outside.specs.Images.{NoOther};
 ghost use Rattle.word_keys.specs.HashNumbers.{numbers_of_key};
 
-use crate::faults::RecordsFault;
+use crate::faults::{stop_of_read, stop_of_take};
 use client_rebuild::Rebuild;
 use keyed_fn::Keyed;
+use script_run_texts::JournalStop;
 use sse_journal::Journal;
 use sse_outside::Disk;
 use std::alloc::Global;
@@ -29,10 +30,11 @@ fn take_next<D: Disk>(
     at: u64,
     buffer: &mut Vec<u8>,
     rebuilt: &mut Rebuild,
-) -> Result<Option<u64>, RecordsFault>
+) -> Result<Option<u64>, JournalStop>
     ensures takes { (payloads : List (List ℕ)) → Rebuilds payloads rebuilt.old →
         TakesNext (λ all. IsJournalOf all journal.now (D.content disk.old) (D.images disk.old)) rebuilt.old.mark payloads at result rebuilt.new }
     ensures on { IfOk result (λ next. IfSome next (λ place. (at < place) × (at < end_of journal.now))) }
+    ensures never_has_records { result ≢ Err JournalStop.HasRecords }
 
     // The key stays, and the disk.
     ensures key { rebuilt.new.key ≡ rebuilt.old.key }
@@ -44,16 +46,16 @@ fn take_next<D: Disk>(
 
     // The count of faults.
     ensures later { D.faults disk.old ≤ D.faults disk.new }
-    ensures failed { result ≡ Err RecordsFault.Disk → Rose (D.faults disk.old) (D.faults disk.new) }
-    ensures steady { result ≢ Err RecordsFault.Disk → D.faults disk.new ≡ D.faults disk.old }
+    ensures failed { result ≡ Err JournalStop.Disk → Rose (D.faults disk.old) (D.faults disk.new) }
+    ensures steady { result ≢ Err JournalStop.Disk → D.faults disk.new ≡ D.faults disk.old }
 {
     match journal.read(disk, at, buffer) {
         Ok(None) => Ok(None),
         Ok(Some(next)) => match rebuilt.take(alloc, buffer) {
             Ok(()) => Ok(Some(next)),
-            Err(fault) => Err(RecordsFault::from(fault)),
+            Err(fault) => Err(stop_of_take(fault)),
         },
-        Err(fault) => Err(RecordsFault::from(fault)),
+        Err(fault) => Err(stop_of_read(fault)),
     }
 }
 
@@ -63,9 +65,10 @@ fn take_all<D: Disk>(
     journal: &Journal,
     disk: &mut D,
     rebuilt: &mut Rebuild,
-) -> Result<(), RecordsFault>
+) -> Result<(), JournalStop>
     requires none { Rebuilds [] rebuilt.old }
     ensures takes { TakesAll (λ all. IsJournalOf all journal.now (D.content disk.old) (D.images disk.old)) rebuilt.old.mark result rebuilt.new }
+    ensures never_has_records { result ≢ Err JournalStop.HasRecords }
 
     // The key stays, and the disk.
     ensures key { rebuilt.new.key ≡ rebuilt.old.key }
@@ -77,8 +80,8 @@ fn take_all<D: Disk>(
 
     // The count of faults.
     ensures later { D.faults disk.old ≤ D.faults disk.new }
-    ensures failed { result ≡ Err RecordsFault.Disk → Rose (D.faults disk.old) (D.faults disk.new) }
-    ensures steady { result ≢ Err RecordsFault.Disk → D.faults disk.new ≡ D.faults disk.old }
+    ensures failed { result ≡ Err JournalStop.Disk → Rose (D.faults disk.old) (D.faults disk.new) }
+    ensures steady { result ≢ Err JournalStop.Disk → D.faults disk.new ≡ D.faults disk.old }
 {
     let mut buffer = Vec::new(alloc);
     let mut at = journal.first();
@@ -92,39 +95,41 @@ fn take_all<D: Disk>(
 }
 
 // Promise P122 (caller): A rebuild takes all records of a journal under its key, or names the first bad one or the wrong key.
-//   clauses: rebuilt, key, mark, hash_keys, wrong, wrong_refused, bad, bad_refused, accepted, no_journal, holds, kept, images_kept, quiet, later, failed, steady; assumes: observable
-//     devices, earlier calls; not: Over a disk that isn't observable: that the records are all of its file, and which error is right.
+//   clauses: rebuilt, key, mark, hash_keys, wrong, wrong_refused, bad, bad_refused, accepted, no_journal, never_has_records, holds, kept, images_kept, quiet, later, failed, steady;
+//     assumes: observable devices, earlier calls; not: Over a disk that isn't observable: that the records are all of its file, and which error is right.
 /// Reads all records of a journal, in their order, and takes each as that of the client of this key. The disk is only read, one
 /// record after the other into one buffer.
 ///
 /// Errors: `WrongKey` exactly where the first record is that of a setup under another key; else `BadRecord(number)` exactly where
 /// the record of this number, from 0, is the first that isn't one or isn't accepted after those before it; each unless one of the
 /// others comes first: `Disk` where the disk failed, with its count of faults risen, and `Memory`, for a record of at most 2^27 bytes or
-/// for what it says. `NoJournal` comes only of a disk that doesn't tell its content, where what was read is no record.
+/// for what it says. `NoJournal` comes only of a disk that doesn't tell its content, where what was read is no record, and
+/// `HasRecords` never.
 pub fn rebuild<K: Keyed, D: Disk>(
     alloc: Global,
     keyed: &K,
     key: MasterKey,
     journal: &Journal,
     disk: &mut D,
-) -> Result<Rebuild, RecordsFault>
+) -> Result<Rebuild, JournalStop>
     ensures rebuilt { IfOk result (λ rebuilt. IsRebuiltFrom (λ payloads. IsJournalOf payloads journal.now (D.content disk.old) (D.images disk.old)) rebuilt) }
     ensures key { IfOk result (λ rebuilt. rebuilt.key ≡ key) }
     ensures mark { IfOk result (λ rebuilt. rebuilt.mark ≡ mark_of (keyed_fn K.prf K.pad) key) }
     ensures hash_keys { IfOk result (λ rebuilt. hash_numbers rebuilt.hash_keys ≡ numbers_of_key (plain_key (keyed_fn K.prf K.pad) key 13)) }
 
     // Why it isn't, over a disk that tells its content.
-    ensures wrong { result ≡ Err RecordsFault.WrongKey → (payloads : List (List ℕ)) → IsJournalOf payloads journal.now (D.content disk.old) (D.images disk.old) →
+    ensures wrong { result ≡ Err JournalStop.WrongKey → (payloads : List (List ℕ)) → IsJournalOf payloads journal.now (D.content disk.old) (D.images disk.old) →
         OpensElsewhere (mark_of (keyed_fn K.prf K.pad) key) (take 1 payloads) }
     ensures wrong_refused { (payloads : List (List ℕ)) → IsJournalOf payloads journal.now (D.content disk.old) (D.images disk.old) →
-        OpensElsewhere (mark_of (keyed_fn K.prf K.pad) key) (take 1 payloads) → EndsFor RecordsFault.Disk RecordsFault.Memory RecordsFault.WrongKey result }
-    ensures bad { (number : ℕ) → result ≡ Err (RecordsFault.BadRecord number) → (payloads : List (List ℕ)) → IsJournalOf payloads journal.now (D.content disk.old) (D.images disk.old) →
+        OpensElsewhere (mark_of (keyed_fn K.prf K.pad) key) (take 1 payloads) → EndsFor JournalStop.WrongKey result }
+    ensures bad { (number : ℕ) → result ≡ Err (JournalStop.BadRecord number) → (payloads : List (List ℕ)) → IsJournalOf payloads journal.now (D.content disk.old) (D.images disk.old) →
         IsBadUnder (mark_of (keyed_fn K.prf K.pad) key) payloads number }
     ensures bad_refused { (payloads : List (List ℕ)) (number : ℕ) → IsJournalOf payloads journal.now (D.content disk.old) (D.images disk.old) →
-        IsBadUnder (mark_of (keyed_fn K.prf K.pad) key) payloads number → EndsFor RecordsFault.Disk RecordsFault.Memory (RecordsFault.BadRecord number) result }
+        IsBadUnder (mark_of (keyed_fn K.prf K.pad) key) payloads number → EndsFor (JournalStop.BadRecord number) result }
     ensures accepted { (payloads : List (List ℕ)) (run : Run) → IsJournalOf payloads journal.now (D.content disk.old) (D.images disk.old) →
-        Opens (mark_of (keyed_fn K.prf K.pad) key) payloads run → GoesOn RecordsFault.Disk RecordsFault.Memory result }
-    ensures no_journal { (payloads : List (List ℕ)) → IsJournalOf payloads journal.now (D.content disk.old) (D.images disk.old) → result ≢ Err RecordsFault.NoJournal }
+        Opens (mark_of (keyed_fn K.prf K.pad) key) payloads run → GoesOn result }
+    ensures no_journal { (payloads : List (List ℕ)) → IsJournalOf payloads journal.now (D.content disk.old) (D.images disk.old) → result ≢ Err JournalStop.NoJournal }
+    ensures never_has_records { result ≢ Err JournalStop.HasRecords }
 
     // The disk stays.
     ensures holds { (payloads : List (List ℕ)) → IsJournalOf payloads journal.now (D.content disk.old) (D.images disk.old) → IsJournalOf payloads journal.now (D.content disk.new) (D.images disk.new) }
@@ -134,8 +139,8 @@ pub fn rebuild<K: Keyed, D: Disk>(
 
     // The count of faults.
     ensures later { D.faults disk.old ≤ D.faults disk.new }
-    ensures failed { result ≡ Err RecordsFault.Disk → Rose (D.faults disk.old) (D.faults disk.new) }
-    ensures steady { result ≢ Err RecordsFault.Disk → D.faults disk.new ≡ D.faults disk.old }
+    ensures failed { result ≡ Err JournalStop.Disk → Rose (D.faults disk.old) (D.faults disk.new) }
+    ensures steady { result ≢ Err JournalStop.Disk → D.faults disk.new ≡ D.faults disk.old }
 {
     let mut rebuilt = Rebuild::new(keyed, key);
     match take_all(alloc, journal, disk, &mut rebuilt) {

@@ -14,6 +14,5 @@ mod faults;
 mod journal_rebuild;
 mod journal_start;
 
-pub use faults::{BeginFault, RecordsFault, ReopenFault};
 pub use journal_rebuild::rebuild;
 pub use journal_start::{begin, reopen};

@@ -1,5 +1,5 @@
 -- What a record makes of the history that those before it open to.
-use Rattle.std.proofs.Common.{◌≡◌, ◌≢◌, ℕ, ◌+◌, ◌-◌, ◌^◌, ◌<◌, ◌≤◌, Bool, true, false, not, ◌&&◌, ◌||◌, nat_lt, List, [], ◌∷◌, ◌++◌, length, Option, None, Some, is_some, refl, sym, ap, subst, ◌∙◌, arith}
+use Rattle.std.proofs.Common.{◌≡◌, ◌≢◌, ℕ, ◌+◌, ◌-◌, ◌^◌, ◌<◌, ◌≤◌, Bool, true, false, not, ◌&&◌, ◌||◌, nat_lt, List, [], ◌∷◌, ◌++◌, length, Option, None, Some, is_some, refl, sym, ap, subst, ◌∙◌, inr, arith}
 use Rattle.std.specs.Prelude.{Result, Ok, Err, IfSome, IsOkUnless, IsSome, OnErr, OnOk, bytes_eq, if◌then◌else◌}
 use Rattle.std.specs.List.{list_all}
 use Rattle.std.proofs.lemmas.Bool.{and_from, and_parts, lt-ltb, ltb-true, true≢false}
@@ -21,7 +21,7 @@ use Rattle.client_registry.specs.Sized.{is_accepted, update_frames}
 use Rattle.client_records.proofs.OpeningLaws.{bad_last, not_elsewhere, not_nowhere, nowhere_or_elsewhere, nowhere-first_setup, nowhere-first_update, nowhere-no_record, nowhere-setup, nowhere-update, opens_more, opens_setup}
 use Rattle.client_records.specs.Openings.{IsBadRecord, IsUpdateRecord, Opens, OpensElsewhere, OpensNowhere, OpensTo, with_update}
 use Rattle.client_records.specs.Records.{RecordText, Adds, Deletes, SetsUp, IsNoRecord, IsRecordOf}
-use Rattle.client_rebuild.specs.Rebuilds.{IsAcceptedSetup, IsTaken, Rebuilds, Takes, TakesFirst, TakesLater, records_in, said}
+use Rattle.client_rebuild.specs.Rebuilds.{IsAcceptedSetup, IsTaken, Rebuilds, Takes, TakesFirst, TakesLater, TakesMemoryAfter, records_in, said}
 use Rattle.client_rebuild.specs.Recalls.{IsFollowed, IsSameLast, Recalls, RecallsIn, accepts_after, facts_of_last, frames_of_last, hash_keys_of, records_of_last, setup_in}
 use Rattle.client_rebuild.specs.Updates.{AreCounted, command_of, fits}
 use Rattle.client_rebuild.specs.declared.fault.RebuildFault.{RebuildFault}
@@ -248,13 +248,18 @@ module _ (keys : ℕ × ℕ) (mark : List ℕ) (payloads : List (List ℕ)) (pay
           hashed = same.hashed ∙ was.hashed;
         }
 
+    opened_with : (c : Command) → said text ≡ Some c → accepts_after l c ≡ true → Opens mark (payloads ++ payload ∷ []) (with_update (set_up keys mark payloads l was).run c)
+    opened_with c says ok =
+        let at = set_up keys mark payloads l was in
+        let free = accepts-recalled l at.run c at.recalls ok in
+        opens_more mark payloads payload at.run c at.opened (is_update_record payload text c is says) free.0 free.1
+
     followed : (c : Command) (next : Last) → said text ≡ Some c → accepts_after l c ≡ true → IsFollowed l c next → IsTaken keys mark (payloads ++ payload ∷ []) (Some next)
     followed c next says ok more =
         let at = set_up keys mark payloads l was in
-        let free = accepts-recalled l at.run c at.recalls ok in
         record {
           history = Some (with_update at.run c);
-          opened = opens_more mark payloads payload at.run c at.opened (is_update_record payload text c is says) free.0 free.1;
+          opened = opened_with c says ok;
           recalls = more.recalls at.run at.recalls;
           records = omega (arith, more.records, was.records, length-append payloads (payload ∷ []));
           hashed = more.hashed ∙ was.hashed;
@@ -276,7 +281,9 @@ module _ (keys : ℕ × ℕ) (mark : List ℕ) (payloads : List (List ℕ)) (pay
     later_taken next (Ok done) takes = followed takes.0 next takes.1 takes.2 takes.3
     later_taken next (Err (BadRecord n)) takes = (takes.0 ∙ was.records, later_nowhere text refl takes.1, same_taken next takes.2)
     later_taken next (Err WrongKey) takes = absurd takes
-    later_taken next (Err NoMemory) takes = same_taken next takes
+    later_taken next (Err NoMemory) takes =
+        let at = set_up keys mark payloads l was in
+        (inr (Some (with_update at.run takes.0), opened_with takes.0 takes.1 takes.2), same_taken next takes.3)
 
 -- What is answered.
 
@@ -309,7 +316,11 @@ module _ {A : Type 0} (keys : ℕ × ℕ) (mark : List ℕ) (payloads : List (Li
         by (Ok done) t = tt
         by (Err (BadRecord n)) t = to payloads t.2
         by (Err WrongKey) t = to payloads t.1
-        by (Err NoMemory) t = to payloads t
+        by (Err NoMemory) t = to payloads t.1
+
+  pub takes_memory : r ≡ Err NoMemory → TakesMemoryAfter mark payloads payload
+  takes_memory is =
+      let memory : Takes {A = A} keys mark payloads payload next (Err NoMemory) = subst (λ (q : Result A RebuildFault). Takes keys mark payloads payload next q) is takes in memory.0
 
   pub takes_bad : (last : Option Last) → IsTaken keys mark payloads last → (n : ℕ) → r ≡ Err (BadRecord n) → (n ≡ length payloads) × IsBadRecord (payloads ++ payload ∷ []) n
   takes_bad last was n is =

@@ -7,7 +7,7 @@ ghost use Rattle.client_registry.specs.Run.{Run};
 ghost use Rattle.keyed_fn.specs.KeyedFn.{keyed_fn};
 ghost use Rattle.keyed_fn.specs.KeyFormulas.{mark_of, plain_key};
 ghost use Rattle.word_keys.specs.HashNumbers.{numbers_of_key};
-ghost use Rattle.client_rebuild.specs.Rebuilds.{Rebuilds, Takes, records_in};
+ghost use Rattle.client_rebuild.specs.Rebuilds.{Rebuilds, Takes, TakesMemoryAfter, records_in};
 
 use crate::fault::RebuildFault;
 use crate::last::Last;
@@ -31,7 +31,8 @@ pub struct Rebuild {
 
 impl Rebuild {
     // Promise P119 (caller): A rebuild takes a record if and only if the records with it open to a history under the key; else the fault is named.
-    //   clauses: mark, none; assumes: earlier calls; not: That no values of a command collide. Out of memory may come in place of each.
+    //   clauses: mark, none; assumes: earlier calls; not: That no values of a command collide. Out of memory may come in place of each, but only once a document of the record has begun,
+    //     or for a record that is accepted.
     /// No record yet, under this master key. It takes no memory.
     pub fn new<K: Keyed>(keyed: &K, key: MasterKey) -> Rebuild
         ensures key { result.key ≡ key }
@@ -40,8 +41,8 @@ impl Rebuild {
         ensures none { Rebuilds [] result }
     {
         let master = key.prepare(keyed);
-        let mark = master.mark(keyed);
-        let hash_keys = master.hash_keys(keyed);
+        let mark = master.mark();
+        let hash_keys = master.hash_keys();
         Rebuild {
             key,
             mark,
@@ -95,12 +96,13 @@ impl Rebuild {
         }
     }
 
-    // Promise P119, also here; clauses: taken, before, bad, wrong, opens, nowhere, elsewhere
+    // Promise P119, also here; clauses: taken, before, bad, wrong, opens, nowhere, elsewhere, memory
     /// Takes the next record, all of these bytes.
     ///
     /// Errors: `BadRecord(number)` exactly where the bytes are no record that is accepted after those taken, whose count is the
     /// number; else `WrongKey` exactly where they are the record of a setup under another key's mark; `NoMemory`, which may come
-    /// in place of both. After an error the records taken are as before.
+    /// in place of both while a document of the record is read, and else only for a record that is accepted. After an error the
+    /// records taken are as before.
     pub fn take(&mut self, alloc: Global, payload: &[u8]) -> Result<(), RebuildFault>
         ensures key { self.new.key ≡ self.old.key }
         ensures mark { self.new.mark ≡ self.old.mark }
@@ -116,6 +118,7 @@ impl Rebuild {
         ensures opens { (payloads : List (List ℕ)) (run : Run) → Rebuilds payloads self.old → Opens self.old.mark (payloads ++ payload.now ∷ []) run → IsOkUnless result RebuildFault.NoMemory }
         ensures nowhere { (payloads : List (List ℕ)) → Rebuilds payloads self.old → OpensNowhere (payloads ++ payload.now ∷ []) → result ≢ Err RebuildFault.NoMemory → result ≡ Err (RebuildFault.BadRecord (length payloads)) }
         ensures elsewhere { (payloads : List (List ℕ)) → Rebuilds payloads self.old → OpensElsewhere self.old.mark (payloads ++ payload.now ∷ []) → result ≢ Err RebuildFault.NoMemory → result ≡ Err RebuildFault.WrongKey }
+        ensures memory { (payloads : List (List ℕ)) → Rebuilds payloads self.old → result ≡ Err RebuildFault.NoMemory → TakesMemoryAfter self.old.mark payloads payload.now }
     {
         self.take_next(alloc, payload)
     }

@@ -14,7 +14,7 @@ use crate::last::Last;
 use crate::recorded_setup::RecordedSetup;
 use crate::update::Update;
 use client_records::Record;
-use client_registry::{Docs, Size, size_of};
+use client_registry::{Docs, Size, Sizes, size_of};
 
 /// What the first record makes, under the key of this mark.
 pub(crate) fn take_first(mark: &[u8; 16], next: Record) -> Result<Last, RebuildFault>
@@ -43,7 +43,12 @@ fn accepted_setup(docs: Docs, b: u16, big: u16, pad: u16) -> Result<RecordedSetu
     ensures same { IfOk result (λ setup. (setup.docs ≡ docs) × (setup.b ≡ b) × (setup.big ≡ big) × (setup.pad ≡ pad)) }
     ensures refused { IfErr result (λ fault. (fault ≡ RebuildFault.BadRecord 0) × IsSome (size_refusal (setup_with docs.documents b big pad))) }
 {
-    let Ok(size) = size_of(&docs, b as u64, big as u64, pad as u64) else {
+    let sizes = Sizes {
+        b: b as u64,
+        big: big as u64,
+        pad: pad as u64,
+    };
+    let Ok(size) = size_of(&docs, sizes) else {
         return Err(RebuildFault::BadRecord(0));
     };
     Ok(RecordedSetup {

@@ -1,5 +1,6 @@
 pub mod Once
 pub mod Absent
+pub mod MemoryLaws
 pub mod Setups
 pub mod RecordOnce
 pub mod Sizes

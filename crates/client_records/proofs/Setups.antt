@@ -4,9 +4,10 @@ use Rattle.std.specs.Int.{w16, to_be_bytes}
 use Rattle.std.proofs.lemmas.Bool.{eqb-false}
 use Rattle.std.proofs.lemmas.List.{length-append}
 use Rattle.client_registry.specs.Document.{Document}
+use Rattle.client_registry.specs.DocumentRule.{IsDocument}
 use Rattle.client_registry.specs.Documents.{IsCollected}
 use Rattle.client_registry.specs.Setup.{Setup, setup_of, setup_with}
-use Rattle.client_records.specs.Records.{SetsUp, Adds, Deletes, documents_field, setup_record, old_setup_record, IsNoRecord, IsRecordOf, IsSetupText}
+use Rattle.client_records.specs.Records.{SetsUp, Adds, Deletes, document_field, documents_field, setup_record, old_setup_record, IsNoRecord, IsRecordOf, IsSetupText}
 use Rattle.client_records.specs.ReaderFaults.{IsNotWhole}
 use Rattle.client_records.proofs.Once.{cut_once}
 
@@ -55,6 +56,16 @@ module _ (bytes : List ℕ) where
       ]
   none_without_q none (Adds d) is = differ 0x11 0x12 _ _ is.spelled refl
   none_without_q none (Deletes id) is = differ 0x11 0x13 _ _ is.spelled refl
+
+  -- a record that begins with 12 is an addition
+  pub no_addition : IsNotWhole document_field IsDocument bytes → IsNoRecord (0x12 ∷ bytes)
+  no_addition none (SetsUp mark s) is =
+      elim is.spelled [
+        | inl e ↦ differ 0x12 0x14 _ _ (e ∙ setup_record-tail mark s) refl
+        | inr old ↦ differ 0x12 0x11 _ _ (old.1 ∙ old_setup_record-tail mark s) refl
+      ]
+  no_addition none (Adds d) is = none d is.limits (ap (drop 1) is.spelled)
+  no_addition none (Deletes id) is = differ 0x12 0x13 _ _ is.spelled refl
 
   -- too few bytes
   pub no_setup_short : length bytes < 26 → IsNoRecord (0x14 ∷ bytes)

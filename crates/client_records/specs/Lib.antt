@@ -1,4 +1,5 @@
 pub mod Records
+pub mod TakenMemory
 pub mod RecordView
 pub mod Faults
 pub mod ReaderFaults

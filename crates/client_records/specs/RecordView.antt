@@ -3,6 +3,7 @@ use Rattle.std.specs.Prelude.{◌≡◌, ℕ, List, Result, Ok, Err}
 use Rattle.client_registry.specs.IdNumber.{id_number}
 use Rattle.client_registry.specs.Setup.{setup_with}
 use Rattle.client_records.specs.Records.{RecordText, SetsUp, Adds, Deletes, IsRecordOf, IsNoRecord}
+use Rattle.client_records.specs.TakenMemory.{TakesMemory}
 use Rattle.client_records.specs.declared.fault.ReadFault.{ReadFault}
 use Rattle.client_records.specs.declared.fault.ReadFault.TheVariants.{BadRecord, NoMemory}
 use Rattle.client_records.specs.declared.client_record.Record.{Record}
@@ -20,8 +21,9 @@ HasKeys keys (Setup mark docs b big pad) = docs.keys ≡ keys
 HasKeys keys (Add doc) = Unit {0}
 HasKeys keys (Delete id) = Unit {0}
 
--- what reading bytes as a record answers: what they say, or that they say nothing; or memory is wanting
+-- the answer to bytes that are to be a record: what they say, or that they say nothing; or it is out of memory, at bytes for
+-- which memory is taken
 abbrev pub ReadsRecord : ℕ × ℕ → List ℕ → Result Record ReadFault → Type 0
 ReadsRecord keys payload (Ok r) = IsRecordOf payload (record_text r) × HasKeys keys r
 ReadsRecord keys payload (Err BadRecord) = IsNoRecord payload
-ReadsRecord keys payload (Err NoMemory) = Unit {0}
+ReadsRecord keys payload (Err NoMemory) = TakesMemory payload

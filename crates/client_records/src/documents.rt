@@ -1,4 +1,4 @@
-ghost use Rattle.std.specs.Prelude.{◌≡◌, ◌≢◌, [], ◌∷◌, ◌++◌, None, map, IfErr, IfOk, OnErr, OnOk};
+ghost use Rattle.std.specs.Prelude.{◌≡◌, ◌≢◌, ◌≤◌, [], ◌∷◌, ◌++◌, None, map, vec_capacity, IfErr, IfOk, OnErr, OnOk};
 ghost use Rattle.std.specs.List.{flat_map};
 ghost use Rattle.client_registry.specs.DocumentRule.{doc_refusal, IsDocument};
 ghost use Rattle.client_registry.specs.Documents.{docs_refusal, IsCollected};
@@ -7,6 +7,7 @@ ghost use Rattle.client_registry.specs.IdNumber.{id_number};
 ghost use Rattle.client_registry.specs.WordBytes.{word_bytes};
 ghost use Rattle.client_records.specs.Records.{word_field, document_field, documents_field};
 ghost use Rattle.client_records.specs.ReaderFaults.{IsWord, AreDocuments, AreWords, IsNotInFront, IsNotWhole};
+ghost use Rattle.client_records.specs.TakenMemory.{BeginsCounted, BeginsDocument, BeginsDocuments};
 
 use crate::fault::ReadFault;
 use crate::unread::Unread;
@@ -25,29 +26,38 @@ fn read_word(unread: &mut Unread<'_>) -> Result<Word, ReadFault>
     Ok(Word::read(bytes)?)
 }
 
-/// So many words in front.
-fn read_words(alloc: Global, unread: &mut Unread<'_>, count: usize) -> Result<Vec<Word>, ReadFault>
+/// So many words in front, put into a vector that has room for them.
+fn read_words(
+    room: Vec<Word>,
+    unread: &mut Unread<'_>,
+    count: usize,
+) -> Result<Vec<Word>, ReadFault>
+    requires empty { room.items ≡ [] }
+    requires room { count ≤ vec_capacity room }
     ensures read { IfOk result (λ words. unread.old ≡ flat_map word_field (map word_bytes words.items) ++ unread.new) }
     ensures words { IfOk result (λ words. AreWords count (map word_bytes words.items)) }
     ensures none { result ≡ Err ReadFault.BadRecord → IsNotInFront (flat_map word_field) (AreWords count) unread.old }
+    ensures cause { IfErr result (λ e. e ≡ ReadFault.BadRecord) }
 {
-    let mut words = Vec::with_capacity(alloc, count)?;
+    let mut words = room;
     for _ in 0..count {
         words.push_reserved(read_word(unread)?);
     }
     Ok(words)
 }
 
-/// The document in front.
+/// The document in front. Memory is taken once its identifier and its number of words are read, and then for all words.
 fn read_document(alloc: Global, unread: &mut Unread<'_>) -> Result<Doc, ReadFault>
     ensures read { IfOk result (λ doc. unread.old ≡ document_field doc ++ unread.new) }
     ensures valid { IfOk result (λ doc. IsDocument doc) }
     ensures none { result ≡ Err ReadFault.BadRecord → IsNotInFront document_field IsDocument unread.old }
+    ensures memory { result ≡ Err ReadFault.NoMemory → BeginsDocument unread.old }
 {
     let number = unread.read_u64()?;
     let id = DocId::new(number)?;
     let count = unread.read_u16()?;
-    let words = read_words(alloc, unread, count as usize)?;
+    let room = Vec::with_capacity(alloc, count as usize)?;
+    let words = read_words(room, unread, count as usize)?;
     let doc = document_of(alloc, id, words)?;
     Ok(doc)
 }
@@ -66,6 +76,7 @@ pub(crate) fn read_whole_document(alloc: Global, mut unread: Unread<'_>) -> Resu
     ensures read { IfOk result (λ doc. unread.entry ≡ document_field doc) }
     ensures valid { IfOk result (λ doc. IsDocument doc) }
     ensures none { result ≡ Err ReadFault.BadRecord → IsNotWhole document_field IsDocument unread.entry }
+    ensures memory { result ≡ Err ReadFault.NoMemory → BeginsDocument unread.entry }
 {
     let doc = read_document(alloc, &mut unread)?;
     unread.read_end()?;
@@ -83,6 +94,7 @@ fn read_documents(
     ensures documents { IfOk result (λ docs. AreDocuments count docs.documents) }
     ensures keys { IfOk result (λ docs. docs.keys ≡ hash_numbers keys) }
     ensures none { result ≡ Err ReadFault.BadRecord → IsNotInFront (flat_map document_field) (AreDocuments count) unread.old }
+    ensures memory { result ≡ Err ReadFault.NoMemory → BeginsDocuments count unread.old }
 {
     let mut docs = Docs::new(alloc, keys);
     while docs.len() < count as usize {
@@ -92,11 +104,12 @@ fn read_documents(
     Ok(docs)
 }
 
-/// Adds the document to those of a setup. `BadRecord` comes only where it is refused.
+/// Adds the document to those of a setup. `BadRecord` comes exactly where it is refused, which is found before memory is taken.
 fn collect(docs: &mut Docs, doc: Doc) -> Result<(), ReadFault>
     ensures ok { OnOk result (docs.new.documents ≡ docs.old.documents ++ doc ∷ []) }
     ensures keys { docs.new.keys ≡ docs.old.keys }
     ensures refused { result ≡ Err ReadFault.BadRecord → docs_refusal docs.old.documents doc ≢ None }
+    ensures memory { result ≡ Err ReadFault.NoMemory → docs_refusal docs.old.documents doc ≡ None }
 {
     docs.push(doc)?;
     Ok(())
@@ -112,6 +125,7 @@ pub(crate) fn read_whole_documents(
     ensures valid { IfOk result (λ docs. IsCollected docs.documents) }
     ensures keys { IfOk result (λ docs. docs.keys ≡ hash_numbers keys) }
     ensures none { result ≡ Err ReadFault.BadRecord → IsNotWhole documents_field IsCollected unread.entry }
+    ensures memory { result ≡ Err ReadFault.NoMemory → BeginsCounted unread.entry }
 {
     let count = unread.read_u32()?;
     let docs = read_documents(alloc, keys, &mut unread, count)?;

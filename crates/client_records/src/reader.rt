@@ -2,6 +2,7 @@ ghost use Rattle.std.specs.Prelude.{◌≡◌, ◌≢◌, ◌∷◌, ℕ, IfOk, 
 ghost use Rattle.client_registry.specs.HashNumbers.{hash_numbers};
 ghost use Rattle.client_records.specs.Records.{RecordText, IsRecordOf, IsNoRecord};
 ghost use Rattle.client_records.specs.RecordView.{record_text, HasKeys, ReadsRecord};
+ghost use Rattle.client_records.specs.TakenMemory.{TakesMemory};
 
 use crate::client_record::Record;
 use crate::documents::{read_whole_document, read_whole_documents};
@@ -83,12 +84,12 @@ fn record_of(alloc: Global, keys: HashKeys, payload: &[u8]) -> Result<Record, Re
     }
 }
 
-// Promise P118, also here; clauses: found, only, none, keys
+// Promise P118, also here; clauses: found, only, none, keys, memory
 /// The record that all of the bytes are. The documents of a setup are to be hashed under these keys.
 ///
 /// Words, documents and the documents of a setup keep their limits in it; b, B and Q may be any numbers. Errors:
-/// `BadRecord` where the bytes are no record; `NoMemory` where there is no memory for its words and documents, which may
-/// come in place of both.
+/// `BadRecord` where the bytes are no record; `NoMemory` where there is no memory for its words and documents. Out of memory may
+/// come in place of both, but only once a document has begun: whatever is wrong before its words is reported as `BadRecord`.
 pub fn read_record(alloc: Global, keys: HashKeys, payload: &[u8]) -> Result<Record, ReadFault>
     // What is read is what the bytes say, and nothing else is what they say.
     ensures found { IfOk result (λ r. IsRecordOf payload.now (record_text r)) }
@@ -97,6 +98,9 @@ pub fn read_record(alloc: Global, keys: HashKeys, payload: &[u8]) -> Result<Reco
 
     // A setup's documents are hashed under the keys.
     ensures keys { IfOk result (λ r. HasKeys (hash_numbers keys) r) }
+
+    // Out of memory only where a document begins.
+    ensures memory { result ≡ Err ReadFault.NoMemory → TakesMemory payload.now }
 {
     record_of(alloc, keys, payload)
 }

@@ -12,7 +12,8 @@ use client_registry::{Doc, DocId, Docs};
 use std::alloc::AllocError;
 
 // Promise P118 (caller): A client's record has exactly its defined bytes, and bytes are read as the one record they are, or as none.
-//   clauses: ok, err, most; not: That a record may follow those before it, or that its mark is a key's (P119). Out of memory may come in place of reading.
+//   clauses: ok, err, most; not: That a record may follow those before it, or that its mark is a key's (P119). Out of memory may come in place of reading a
+//     setup or an addition, but only once a document has begun.
 /// Appends the record of a setup of these documents under the key of this mark, with `b` numbers in a cell and `big` in
 /// a block, filled up to multiples of `pad`. Without memory the bytes are as before.
 ///

@@ -46,7 +46,7 @@ impl Docs {
     ghost use Rattle.client_registry.specs.WordBytes.{word_bytes};
 
     // Promise P59 (caller): Documents and registries keep the two hash keys that `Docs::new` received, through every push, addition and deletion.
-    //   clauses: keys; not: That these keys are the master key's (P97 gives those).
+    //   clauses: keys; assumes: earlier calls; not: That these keys are the master key's (P97 gives those).
     /// No document. Words and identifiers are to be hashed under these keys.
     pub fn new(alloc: Global, keys: HashKeys) -> Docs
         ensures none { result.documents ≡ [] }

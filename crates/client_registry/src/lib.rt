@@ -19,6 +19,7 @@ mod listed;
 mod numbered;
 mod registry;
 mod size;
+mod sizes;
 mod updates;
 mod word;
 mod word_numbers;
@@ -33,4 +34,5 @@ pub use limits::{MAX_DOCUMENTS, MAX_INDEX_BYTES, MAX_PAIRS, MAX_WORD_BYTES, MAX_
 pub use numbered::Numbered;
 pub use registry::Registry;
 pub use size::{Size, size_of};
+pub use sizes::Sizes;
 pub use word::Word;

@@ -7,6 +7,7 @@ ghost use Rattle.client_registry.specs.Setup.{setup_of, setup_with, setup_words}
 use crate::collected::Docs;
 use crate::faults::SizeFault;
 use crate::limits::MAX_INDEX_BYTES;
+use crate::sizes::Sizes;
 use two_level::Shape;
 
 /// How large an index is.
@@ -28,25 +29,29 @@ pub struct Size {
 
 // Promise P71 (caller): The size of a setup is its index's, with and without dummies, or the first cause why there is none.
 //   clauses: shape, pad, words, blocks, padded_words, padded_blocks, refused, accepted
-/// The size of the index of these documents, with `b` numbers in a cell and `big` numbers in a block, filled with
-/// dummies up to multiples of `pad`.
+/// The size of the index of these documents with these parameters: with m words and a blocks, and m2 and a2 the next
+/// multiples of Q (zero stays zero), it has m2·(17 + 8·b) + a2·8·B bytes, at most 2^28.
 ///
-/// With m words and a blocks, and m2 and a2 the next multiples of `pad` (zero stays zero), an index has
-/// m2·(17 + 8·b) + a2·8·big bytes, at most 2^28. Errors, the first that stands: `BadParameter { which: 0, value: b }`
-/// where `b` is outside 1 to 64; `BadParameter { which: 1, value: big }` where `big` is outside 1 to 256;
-/// `BadParameter { which: 2, value: pad }` where `pad` isn't a power of two from 1 to 4,096; `ListTooLong { word, n }`
-/// for the least word number whose list, of n identifiers, has no plan; `TooManyBytes(count)`. It takes no memory.
-pub fn size_of(docs: &Docs, b: u64, big: u64, pad: u64) -> Result<Size, SizeFault>
-    ensures shape { IfOk result (λ size. size.shape ≡ record { b = b; big = big }) }
-    ensures pad { IfOk result (λ size. size.pad ≡ pad) }
-    ensures words { IfOk result (λ size. size.words ≡ length (setup_words (setup_with docs.now.documents b big pad))) }
-    ensures blocks { IfOk result (λ size. size.blocks ≡ counts.blocks_of (setup_with docs.now.documents b big pad)) }
-    ensures padded_words { IfOk result (λ size. size.padded_words ≡ counts.padded_words (setup_with docs.now.documents b big pad)) }
-    ensures padded_blocks { IfOk result (λ size. size.padded_blocks ≡ counts.padded_blocks (setup_with docs.now.documents b big pad)) }
-    ensures refused { IfSome (counts.size_refusal (setup_with docs.now.documents b big pad)) (λ fault. result ≡ Err fault) }
-    ensures accepted { counts.size_refusal (setup_with docs.now.documents b big pad) ≡ None → IsOk result }
+/// Errors, the first that applies:
+/// - `BadParameter { which: 0, value: b }` if b is outside 1 to 64;
+/// - `BadParameter { which: 1, value: B }` if B is outside 1 to 256;
+/// - `BadParameter { which: 2, value: Q }` if Q isn't a power of two from 1 to 4,096;
+/// - `ListTooLong { word, n }` for the least word number whose list, of n identifiers, has no plan;
+/// - `TooManyBytes(count)`.
+///
+/// It takes no memory.
+pub fn size_of(docs: &Docs, sizes: Sizes) -> Result<Size, SizeFault>
+    ensures shape { IfOk result (λ size. size.shape ≡ record { b = sizes.b; big = sizes.big }) }
+    ensures pad { IfOk result (λ size. size.pad ≡ sizes.pad) }
+    ensures words { IfOk result (λ size. size.words ≡ length (setup_words (setup_with docs.now.documents sizes.b sizes.big sizes.pad))) }
+    ensures blocks { IfOk result (λ size. size.blocks ≡ counts.blocks_of (setup_with docs.now.documents sizes.b sizes.big sizes.pad)) }
+    ensures padded_words { IfOk result (λ size. size.padded_words ≡ counts.padded_words (setup_with docs.now.documents sizes.b sizes.big sizes.pad)) }
+    ensures padded_blocks { IfOk result (λ size. size.padded_blocks ≡ counts.padded_blocks (setup_with docs.now.documents sizes.b sizes.big sizes.pad)) }
+    ensures refused { IfSome (counts.size_refusal (setup_with docs.now.documents sizes.b sizes.big sizes.pad)) (λ fault. result ≡ Err fault) }
+    ensures accepted { counts.size_refusal (setup_with docs.now.documents sizes.b sizes.big sizes.pad) ≡ None → IsOk result }
 {
-    let shape = shape_of(b, big, pad)?;
+    let Sizes { b, big, pad } = sizes;
+    let shape = shape_of(sizes)?;
     let words = docs.words() as u64;
     let blocks = count_blocks(docs, shape)?;
     let padded_words = padded(pad, words);
@@ -65,20 +70,20 @@ pub fn size_of(docs: &Docs, b: u64, big: u64, pad: u64) -> Result<Size, SizeFaul
     })
 }
 
-/// The shape of b and `big`, where these and `pad` are within their limits, or the first that isn't.
-fn shape_of(b: u64, big: u64, pad: u64) -> Result<Shape, SizeFault>
-    ensures shape { IfOk result (λ shape. shape ≡ record { b = b; big = big }) }
-    ensures limits { IfOk result (λ _. (b ≤ 64) × (big ≤ 256)) }
-    ensures pad { IfOk result (λ _. counts.is_pad pad ≡ true) }
-    ensures refused { result_err result ≡ counts.parameter_refusal (setup_with [] b big pad) }
+/// The shape of these parameters if all three are within their limits, else the first that isn't.
+fn shape_of(sizes: Sizes) -> Result<Shape, SizeFault>
+    ensures shape { IfOk result (λ shape. shape ≡ record { b = sizes.b; big = sizes.big }) }
+    ensures limits { IfOk result (λ _. (sizes.b ≤ 64) × (sizes.big ≤ 256)) }
+    ensures pad { IfOk result (λ _. counts.is_pad sizes.pad ≡ true) }
+    ensures refused { result_err result ≡ counts.parameter_refusal (setup_with [] sizes.b sizes.big sizes.pad) }
 {
-    let shape = Shape::new(b, big)?;
-    if is_pad(pad) {
+    let shape = Shape::new(sizes.b, sizes.big)?;
+    if is_pad(sizes.pad) {
         Ok(shape)
     } else {
         Err(SizeFault::BadParameter {
             which: 2,
-            value: pad,
+            value: sizes.pad,
         })
     }
 }

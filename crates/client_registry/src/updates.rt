@@ -59,7 +59,7 @@ impl Registry {
     // Promise P59, also here; clauses: keys
     // Promise P60, also here; clauses: ok, history, words
     // Promise P61 (caller): An addition is refused if and only if its identifier is live, a deletion if and only if it isn't; a refusal changes nothing.
-    //   clauses: already, accepted, room, err; not: An addition whose memory wasn't reserved may run out of memory; a deletion takes none.
+    //   clauses: already, accepted, room, err; assumes: earlier calls; not: An addition whose memory wasn't reserved may run out of memory; a deletion takes none.
     /// Adds a document. None of its words whose pair would be new is at its last counter.
     ///
     /// Errors: `AlreadyLive(id)` exactly where a document of this identifier is live; else `NoMemory` where there is no

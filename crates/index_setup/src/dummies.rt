@@ -19,8 +19,7 @@ use word_keys::{PadSlot, PreparedMaster, seal};
 /// Appends the labels of the first `count` dummy entries. Without dummies it costs no key.
 pub(crate) fn push_dummy_labels<K: Keyed>(
     labels: &mut Vec<Tagged>,
-    keyed: &K,
-    master: &PreparedMaster<K>,
+    master: &PreparedMaster<'_, K>,
     count: u32,
 ) -> Result<(), AllocError>
     requires { vec_len labels.old + count < 2 ^ 32 }
@@ -29,9 +28,9 @@ pub(crate) fn push_dummy_labels<K: Keyed>(
     if count == 0 {
         return Ok(());
     }
-    let key = master.dummy_key(keyed);
+    let key = master.dummy_key();
     for i in 0..count {
-        let tag = key.label(keyed, i);
+        let tag = key.label(master.keyed(), i);
         let position = labels.len() as u32;
         labels.push(Tagged { tag, position })?;
     }
@@ -41,8 +40,7 @@ pub(crate) fn push_dummy_labels<K: Keyed>(
 /// Appends the tags of the first `count` dummy blocks. Without dummies it costs no key.
 pub(crate) fn push_dummy_tags<K: Keyed>(
     tags: &mut Vec<Tagged>,
-    keyed: &K,
-    master: &PreparedMaster<K>,
+    master: &PreparedMaster<'_, K>,
     count: u32,
 ) -> Result<(), AllocError>
     requires { vec_len tags.old + count < 2 ^ 32 }
@@ -51,9 +49,9 @@ pub(crate) fn push_dummy_tags<K: Keyed>(
     if count == 0 {
         return Ok(());
     }
-    let key = master.dummy_key(keyed);
+    let key = master.dummy_key();
     for j in 0..count {
-        let tag = key.tag(keyed, j);
+        let tag = key.tag(master.keyed(), j);
         let position = tags.len() as u32;
         tags.push(Tagged { tag, position })?;
     }
@@ -63,8 +61,7 @@ pub(crate) fn push_dummy_tags<K: Keyed>(
 /// Writes the dummy entries at their places, in the order of their numbers, each under the label that stands at its place.
 /// `labels` are by rising label. Without dummies it costs no key.
 pub(crate) fn write_dummy_entries<K: Keyed>(
-    keyed: &K,
-    master: &PreparedMaster<K>,
+    master: &PreparedMaster<'_, K>,
     shape: Shape,
     labels: &[Tagged],
     places: &[u32],
@@ -78,13 +75,13 @@ pub(crate) fn write_dummy_entries<K: Keyed>(
     if places.is_empty() {
         return;
     }
-    let key = master.dummy_key(keyed);
+    let key = master.dummy_key();
     let size = entry_size(shape);
     for (i, place) in places.iter().enumerate() {
         let at = *place as usize * size;
         let label = &labels[*place as usize].tag;
         let entry = &mut entries[at..at + size];
-        write_dummy_entry(keyed, key.cell_slot(i as u32), label, entry);
+        write_dummy_entry(master.keyed(), key.cell_slot(i as u32), label, entry);
     }
 }
 
@@ -100,8 +97,7 @@ fn write_dummy_entry<K: Keyed>(keyed: &K, pad: PadSlot, label: &[u8; 16], out: &
 
 /// Writes the dummy blocks at their places, in the order of their numbers. Without dummies it costs no key.
 pub(crate) fn write_dummy_blocks<K: Keyed>(
-    keyed: &K,
-    master: &PreparedMaster<K>,
+    master: &PreparedMaster<'_, K>,
     shape: Shape,
     places: &[u32],
     array: &mut [u8],
@@ -113,11 +109,15 @@ pub(crate) fn write_dummy_blocks<K: Keyed>(
     if places.is_empty() {
         return;
     }
-    let key = master.dummy_key(keyed);
+    let key = master.dummy_key();
     let size = shape.block_size();
     for (j, place) in places.iter().enumerate() {
         let at = *place as usize * size;
-        seal_zeros(keyed, key.block_slot(j as u32), &mut array[at..at + size]);
+        seal_zeros(
+            master.keyed(),
+            key.block_slot(j as u32),
+            &mut array[at..at + size],
+        );
     }
 }
 

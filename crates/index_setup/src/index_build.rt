@@ -21,7 +21,7 @@ use crate::index::Index;
 use crate::labels::{blocks_in, labels_of, tags_of};
 use crate::lists::lists_of;
 use crate::order::ranks;
-use client_registry::{Docs, Size, size_of};
+use client_registry::{Docs, Size, Sizes, size_of};
 use client_tag_order::{Tagged, by_tag, first_clash};
 use keyed_fn::Keyed;
 use std::alloc::{AllocError, Global};
@@ -33,47 +33,43 @@ use word_keys::{MasterKey, PreparedMaster};
 //   clauses: entries, array, words, blocks, b, big; not: That labels and cells look random, which is assumed of the two functions.
 // Promise P51 (caller): A setup with two equal labels or tags is refused with the first such pair; out of memory is the only other answer.
 //   clauses: clash, built, accepted; assumes: accepted setup
-/// Builds the index of the documents with b numbers per cell and `big` numbers per block, filled with dummies up to
-/// multiples of `pad`. With m words and a blocks it has m2 entries and a2 blocks, which are the next multiples of `pad`; zero
-/// stays zero.
+/// Builds the index of the documents with these parameters. With m words and a blocks it has m2 entries and a2 blocks, which are
+/// the next multiples of Q; zero stays zero.
 ///
-/// Errors: `BuildFault`, the first cause that stands. No document, word or key is changed.
+/// Errors: the first cause of `BuildFault` that applies. No document, word or key is changed.
 pub fn build<K: Keyed>(
     alloc: Global,
     keyed: &K,
     key: &MasterKey,
     docs: &Docs,
-    b: u64,
-    big: u64,
-    pad: u64,
+    sizes: Sizes,
 ) -> Result<Index, BuildFault>
     // Which error: a refusal by size takes no memory, so none hides it; a clash is named, or memory is wanting.
-    ensures refused { IfSome (size_refusal (setup_with docs.now.documents b big pad)) (λ fault. result ≡ Err (refused_by_size fault)) }
-    ensures clash { size_refusal (setup_with docs.now.documents b big pad) ≡ None → result ≢ Err BuildFault.NoMemory → IfSome (clash_refusal (keyed_fn K.prf K.pad) key.now (setup_with docs.now.documents b big pad)) (λ fault. result ≡ Err fault) }
-    ensures built { build_refusal (keyed_fn K.prf K.pad) key.now (setup_with docs.now.documents b big pad) ≡ None → IsOkUnless result BuildFault.NoMemory }
-    ensures accepted { IfOk result (λ _. build_refusal (keyed_fn K.prf K.pad) key.now (setup_with docs.now.documents b big pad) ≡ None) }
+    ensures refused { IfSome (size_refusal (setup_with docs.now.documents sizes.b sizes.big sizes.pad)) (λ fault. result ≡ Err (refused_by_size fault)) }
+    ensures clash { size_refusal (setup_with docs.now.documents sizes.b sizes.big sizes.pad) ≡ None → result ≢ Err BuildFault.NoMemory → IfSome (clash_refusal (keyed_fn K.prf K.pad) key.now (setup_with docs.now.documents sizes.b sizes.big sizes.pad)) (λ fault. result ≡ Err fault) }
+    ensures built { build_refusal (keyed_fn K.prf K.pad) key.now (setup_with docs.now.documents sizes.b sizes.big sizes.pad) ≡ None → IsOkUnless result BuildFault.NoMemory }
+    ensures accepted { IfOk result (λ _. build_refusal (keyed_fn K.prf K.pad) key.now (setup_with docs.now.documents sizes.b sizes.big sizes.pad) ≡ None) }
 
     // The index is the one of the definitions.
-    ensures entries { IfOk result (λ index. index.entries ≡ dictionary_bytes (keyed_fn K.prf K.pad) key.now (setup_with docs.now.documents b big pad)) }
-    ensures array { IfOk result (λ index. index.array ≡ array_bytes (keyed_fn K.prf K.pad) key.now (setup_with docs.now.documents b big pad)) }
-    ensures words { IfOk result (λ index. index.words ≡ padded_words (setup_with docs.now.documents b big pad)) }
-    ensures blocks { IfOk result (λ index. index.blocks ≡ padded_blocks (setup_with docs.now.documents b big pad)) }
+    ensures entries { IfOk result (λ index. index.entries ≡ dictionary_bytes (keyed_fn K.prf K.pad) key.now (setup_with docs.now.documents sizes.b sizes.big sizes.pad)) }
+    ensures array { IfOk result (λ index. index.array ≡ array_bytes (keyed_fn K.prf K.pad) key.now (setup_with docs.now.documents sizes.b sizes.big sizes.pad)) }
+    ensures words { IfOk result (λ index. index.words ≡ padded_words (setup_with docs.now.documents sizes.b sizes.big sizes.pad)) }
+    ensures blocks { IfOk result (λ index. index.blocks ≡ padded_blocks (setup_with docs.now.documents sizes.b sizes.big sizes.pad)) }
     ensures own_words { IfOk result (λ index. index.own_words ≡ length (words_of docs.now.documents)) }
-    ensures own_blocks { IfOk result (λ index. index.own_blocks ≡ blocks_of (setup_with docs.now.documents b big pad)) }
-    ensures b { IfOk result (λ index. index.b ≡ b) }
-    ensures big { IfOk result (λ index. index.big ≡ big) }
-    ensures pad { IfOk result (λ index. index.pad ≡ pad) }
+    ensures own_blocks { IfOk result (λ index. index.own_blocks ≡ blocks_of (setup_with docs.now.documents sizes.b sizes.big sizes.pad)) }
+    ensures b { IfOk result (λ index. index.b ≡ sizes.b) }
+    ensures big { IfOk result (λ index. index.big ≡ sizes.big) }
+    ensures pad { IfOk result (λ index. index.pad ≡ sizes.pad) }
 {
-    let size = size_of(docs, b, big, pad)?;
+    let size = size_of(docs, sizes)?;
     let master = key.prepare(keyed);
-    build_sized(alloc, keyed, &master, docs, &size)
+    build_sized(alloc, &master, docs, &size)
 }
 
 /// The index of this size. Errors: the first two equal labels, else the first two equal places; `NoMemory`.
 fn build_sized<K: Keyed>(
     alloc: Global,
-    keyed: &K,
-    master: &PreparedMaster<K>,
+    master: &PreparedMaster<'_, K>,
     docs: &Docs,
     size: &Size,
 ) -> Result<Index, BuildFault>
@@ -83,20 +79,12 @@ fn build_sized<K: Keyed>(
     ensures array { IfOk result (λ index. index.array ≡ array_bytes (keyed_fn K.prf K.pad) master.now (setup_sized docs.now.documents size.now)) }
     ensures size { IfOk result (λ index. HasSize index size.now) }
 {
-    let labels = match distinct_labels(alloc, keyed, master, docs, size) {
+    let labels = match distinct_labels(alloc, master, docs, size) {
         Ok(labels) => labels,
         Err(fault) => return Err(fault),
     };
-    match distinct_ranks(alloc, keyed, master, docs, size) {
-        Ok(block_ranks) => Ok(write_index(
-            alloc,
-            keyed,
-            master,
-            docs,
-            size,
-            &labels,
-            &block_ranks,
-        )?),
+    match distinct_ranks(alloc, master, docs, size) {
+        Ok(block_ranks) => Ok(write_index(alloc, master, docs, size, &labels, &block_ranks)?),
         Err(fault) => Err(fault),
     }
 }
@@ -105,8 +93,7 @@ fn build_sized<K: Keyed>(
 /// exactly where two are equal; `NoMemory`.
 fn distinct_labels<K: Keyed>(
     alloc: Global,
-    keyed: &K,
-    master: &PreparedMaster<K>,
+    master: &PreparedMaster<'_, K>,
     docs: &Docs,
     size: &Size,
 ) -> Result<Vec<Tagged>, BuildFault>
@@ -114,7 +101,7 @@ fn distinct_labels<K: Keyed>(
     ensures order { IfOk result (λ order. IsOrderOf (index_labels (keyed_fn K.prf K.pad) master.now (setup_sized docs.now.documents size.now)) order.items) }
     ensures clash { result ≢ Err BuildFault.NoMemory → result_err result ≡ option_map (λ entries. BuildFault.LabelClash entries.0 entries.1) (label_clash (keyed_fn K.prf K.pad) master.now (setup_sized docs.now.documents size.now)) }
 {
-    let labels = label_order(alloc, keyed, master, docs, size)?;
+    let labels = label_order(alloc, master, docs, size)?;
     match labels_differ(&labels) {
         Ok(()) => Ok(labels),
         Err(fault) => Err(fault),
@@ -124,8 +111,7 @@ fn distinct_labels<K: Keyed>(
 /// The place of each block of an index of this size; all differ. Errors: `PlaceClash` exactly where two are equal; `NoMemory`.
 fn distinct_ranks<K: Keyed>(
     alloc: Global,
-    keyed: &K,
-    master: &PreparedMaster<K>,
+    master: &PreparedMaster<'_, K>,
     docs: &Docs,
     size: &Size,
 ) -> Result<Vec<u32>, BuildFault>
@@ -133,7 +119,7 @@ fn distinct_ranks<K: Keyed>(
     ensures ranks { IfOk result (λ ranks. ranks.items ≡ setup_ranks (keyed_fn K.prf K.pad) master.now (setup_sized docs.now.documents size.now)) }
     ensures clash { result ≢ Err BuildFault.NoMemory → result_err result ≡ option_map (λ blocks. BuildFault.PlaceClash blocks.0 blocks.1) (place_clash (keyed_fn K.prf K.pad) master.now (setup_sized docs.now.documents size.now)) }
 {
-    let tags = place_order(alloc, keyed, master, docs, size)?;
+    let tags = place_order(alloc, master, docs, size)?;
     match places_differ(&tags) {
         Ok(()) => Ok(ranks(alloc, &tags)?),
         Err(fault) => Err(fault),
@@ -143,15 +129,14 @@ fn distinct_ranks<K: Keyed>(
 /// The labels of the entries with their positions, by rising label, of an index of this size.
 fn label_order<K: Keyed>(
     alloc: Global,
-    keyed: &K,
-    master: &PreparedMaster<K>,
+    master: &PreparedMaster<'_, K>,
     docs: &Docs,
     size: &Size,
 ) -> Result<Vec<Tagged>, AllocError>
     requires { IsSizeOf docs.now.documents size.now }
     ensures { IfOk result (λ order. IsOrderOf (index_labels (keyed_fn K.prf K.pad) master.now (setup_sized docs.now.documents size.now)) order.items) }
 {
-    by_tag(labels_of(alloc, keyed, master, docs, size)?)
+    by_tag(labels_of(alloc, master, docs, size)?)
 }
 
 // Promise P52 (inside): Searching sorted labels or tags for equal ones takes no memory and finds a pair if and only if there is one.
@@ -170,15 +155,14 @@ fn labels_differ(labels: &[Tagged]) -> Result<(), BuildFault>
 /// The place tags of the blocks with their positions, by rising tag, of an index of this size.
 fn place_order<K: Keyed>(
     alloc: Global,
-    keyed: &K,
-    master: &PreparedMaster<K>,
+    master: &PreparedMaster<'_, K>,
     docs: &Docs,
     size: &Size,
 ) -> Result<Vec<Tagged>, AllocError>
     requires { IsSizeOf docs.now.documents size.now }
     ensures { IfOk result (λ order. IsOrderOf (index_tags (keyed_fn K.prf K.pad) master.now (setup_sized docs.now.documents size.now)) order.items) }
 {
-    by_tag(tags_of(alloc, keyed, master, docs, size)?)
+    by_tag(tags_of(alloc, master, docs, size)?)
 }
 
 // Promise P52, also here; clauses: ensures
@@ -196,8 +180,7 @@ fn places_differ(tags: &[Tagged]) -> Result<(), BuildFault>
 /// the place of each block.
 fn write_index<K: Keyed>(
     alloc: Global,
-    keyed: &K,
-    master: &PreparedMaster<K>,
+    master: &PreparedMaster<'_, K>,
     docs: &Docs,
     size: &Size,
     labels: &[Tagged],
@@ -220,7 +203,7 @@ fn write_index<K: Keyed>(
         ids: &ids,
         block_ranks,
     };
-    write_texts(keyed, master, docs, size, from, &mut entries, &mut array);
+    write_texts(master, docs, size, from, &mut entries, &mut array);
     Ok(Index::new(size, entries, array))
 }
 
@@ -253,8 +236,7 @@ struct Sources<'a> {
 
 /// Writes each entry and each block in its place: those of the words, then the dummies.
 fn write_texts<K: Keyed>(
-    keyed: &K,
-    master: &PreparedMaster<K>,
+    master: &PreparedMaster<'_, K>,
     docs: &Docs,
     size: &Size,
     from: Sources<'_>,
@@ -271,15 +253,14 @@ fn write_texts<K: Keyed>(
     let shape = size.shape;
     let (_, entry_places) = from.entry_ranks.split_at(size.words as usize);
     let (_, block_places) = from.block_ranks.split_at(size.blocks as usize);
-    write_lists(keyed, master, docs, size, from, entries, array);
-    write_dummy_entries(keyed, master, shape, from.labels, entry_places, entries);
-    write_dummy_blocks(keyed, master, shape, block_places, array);
+    write_lists(master, docs, size, from, entries, array);
+    write_dummy_entries(master, shape, from.labels, entry_places, entries);
+    write_dummy_blocks(master, shape, block_places, array);
 }
 
 /// Writes the entry and the blocks of each word in their places, and no dummies.
 fn write_lists<K: Keyed>(
-    keyed: &K,
-    master: &PreparedMaster<K>,
+    master: &PreparedMaster<'_, K>,
     docs: &Docs,
     size: &Size,
     from: Sources<'_>,
@@ -300,12 +281,12 @@ fn write_lists<K: Keyed>(
         let n = docs.list_len(w);
         let (list, later_ids) = ids.split_at(n as usize);
         let (places, later_ranks) = ranks.split_at(blocks_in(n, shape) as usize);
-        let mut pads = master.list_pads(keyed, docs.word(w));
+        let mut pads = master.list_pads(docs.word(w));
         let place = from.entry_ranks[w] as usize;
         let at = place * entry_size(shape);
         let entry = &mut entries[at..at + entry_size(shape)];
         write_entry(
-            keyed,
+            master.keyed(),
             pads.next(),
             &from.labels[place].tag,
             list,
@@ -313,7 +294,7 @@ fn write_lists<K: Keyed>(
             shape,
             entry,
         );
-        write_blocks(keyed, &mut pads, list, places, shape, array);
+        write_blocks(master.keyed(), &mut pads, list, places, shape, array);
         ids = later_ids;
         ranks = later_ranks;
     }

@@ -19,8 +19,7 @@ use word_keys::{PlaceTags, PreparedMaster};
 /// The label of each word, by word number, then those of the dummies. `size` is that of the documents' index.
 pub(crate) fn labels_of<K: Keyed>(
     alloc: Global,
-    keyed: &K,
-    master: &PreparedMaster<K>,
+    master: &PreparedMaster<'_, K>,
     docs: &Docs,
     size: &Size,
 ) -> Result<Vec<Tagged>, AllocError>
@@ -29,11 +28,11 @@ pub(crate) fn labels_of<K: Keyed>(
 {
     let mut labels = Vec::with_capacity(alloc, size.padded_words as usize)?;
     for w in 0..docs.words() {
-        let tag = master.list_label(keyed, docs.word(w));
+        let tag = master.list_label(docs.word(w));
         let position = w as u32;
         labels.push(Tagged { tag, position })?;
     }
-    push_dummy_labels(&mut labels, keyed, master, size.padded_words - size.words)?;
+    push_dummy_labels(&mut labels, master, size.padded_words - size.words)?;
     Ok(labels)
 }
 
@@ -41,8 +40,7 @@ pub(crate) fn labels_of<K: Keyed>(
 /// documents' index.
 pub(crate) fn tags_of<K: Keyed>(
     alloc: Global,
-    keyed: &K,
-    master: &PreparedMaster<K>,
+    master: &PreparedMaster<'_, K>,
     docs: &Docs,
     size: &Size,
 ) -> Result<Vec<Tagged>, AllocError>
@@ -52,17 +50,16 @@ pub(crate) fn tags_of<K: Keyed>(
     let mut tags = Vec::with_capacity(alloc, size.padded_blocks as usize)?;
     for w in 0..docs.words() {
         let count = blocks_in(docs.list_len(w), size.shape);
-        push_tags(&mut tags, keyed, master, docs.word(w), count)?;
+        push_tags(&mut tags, master, docs.word(w), count)?;
     }
-    push_dummy_tags(&mut tags, keyed, master, size.padded_blocks - size.blocks)?;
+    push_dummy_tags(&mut tags, master, size.padded_blocks - size.blocks)?;
     Ok(tags)
 }
 
 /// Appends the tags of the `count` blocks of a word's list. A word without blocks costs no key.
 fn push_tags<K: Keyed>(
     tags: &mut Vec<Tagged>,
-    keyed: &K,
-    master: &PreparedMaster<K>,
+    master: &PreparedMaster<'_, K>,
     word: &Word,
     count: u32,
 ) -> Result<(), AllocError>
@@ -72,22 +69,21 @@ fn push_tags<K: Keyed>(
     if count == 0 {
         return Ok(());
     }
-    let key = master.place_key(keyed, word).tags(keyed);
-    push_under(tags, keyed, &key, count)
+    let key = master.place_key(word).tags(master.keyed());
+    push_under(tags, &key, count)
 }
 
 /// Appends the tags of the first `count` blocks of a list under its key.
 fn push_under<K: Keyed>(
     tags: &mut Vec<Tagged>,
-    keyed: &K,
-    key: &PlaceTags<K>,
+    key: &PlaceTags<'_, K>,
     count: u32,
 ) -> Result<(), AllocError>
     requires { vec_len tags.old + count < 2 ^ 32 }
     ensures { OnOk result (tags.new.items ≡ tags.old.items ++ tagged_from (vec_len tags.old) (map (place_tag (keyed_fn K.prf K.pad) key.now) (range_with_len 0 count))) }
 {
     for i in 0..count {
-        let tag = key.tag(keyed, i);
+        let tag = key.tag(i);
         let position = tags.len() as u32;
         tags.push(Tagged { tag, position })?;
     }

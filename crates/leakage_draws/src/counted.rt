@@ -2,6 +2,7 @@ ghost use Rattle.std.specs.Prelude.{◌≡◌, ◌+◌, ◌<◌, ◌%◌, ◌^�
 ghost use Rattle.client_registry.specs.Acceptance.{size_refusal};
 ghost use Rattle.client_registry.specs.Run.{at_first};
 ghost use Rattle.client_registry.specs.Sized.{run_words};
+ghost use Rattle.leakage_history.specs.HashedRun.{run_of};
 ghost use Rattle.leakage_draws.specs.Given.{given};
 ghost use Rattle.leakage_draws.specs.SheetOf.{IsSheetOf};
 ghost use Rattle.def_comparison.specs.Sums.{sums};
@@ -70,7 +71,7 @@ fn bytes_of(frames: &[Items<u8>]) -> Result<u64, AllocError>
 pub fn count(alloc: Global, history: &History, sheet: &Sheet) -> Result<Counted, AllocError>
     requires accepted { size_refusal history.now.setup ≡ None }
     requires numbered { length history.now.later + 1 < 2 ^ 32 }
-    ensures { IfOk result (λ counted. (t : Table) → IsSheetOf sheet.now (run_words history.now) (used.names at_first history.now) t → record { frames = counted.frames; bytes = counted.bytes; values = counted.values } ≡ sums t at_first history.now) }
+    ensures { IfOk result (λ counted. (t : Table) → IsSheetOf sheet.now (run_words (run_of history.now)) (used.names at_first (run_of history.now)) t → record { frames = counted.frames; bytes = counted.bytes; values = counted.values } ≡ sums t at_first (run_of history.now)) }
 {
     let frames = wire_frames(alloc, history, sheet)?;
     let names = used_names(alloc, history)?;

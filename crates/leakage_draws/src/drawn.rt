@@ -3,6 +3,7 @@ ghost use Rattle.client_registry.specs.Acceptance.{size_refusal};
 ghost use Rattle.client_registry.specs.Run.{at_first};
 ghost use Rattle.client_registry.specs.Sized.{run_words};
 ghost use Rattle.leakage_history.specs.Commands.{command_of};
+ghost use Rattle.leakage_history.specs.HashedRun.{run_of};
 ghost use Rattle.leakage_values.specs.Numbered.{numbered_drawing};
 ghost use Rattle.leakage_draws.specs.Clears.{clear_by};
 ghost use Rattle.leakage_draws.specs.Given.{draw_given, sheet_table};
@@ -100,8 +101,8 @@ fn setup_draws(
     drawings: &[Drawing],
 ) -> Result<Items<Draw>, AllocError>
     requires accepted { size_refusal history.now.setup ≡ None }
-    requires drawings { drawings.now ≡ map (numbered_drawing (run_words history.now)) (drawings_of_setup 0 history.now.setup) }
-    ensures { IfOk result (λ draws. map draw_view draws ≡ map (draw (sheet_table sheet.now (run_words history.now)) (ranks_of (labels_in (sheet_table sheet.now (run_words history.now)) (block_positions 0 history.now.setup)))) (drawings_of_setup 0 history.now.setup)) }
+    requires drawings { drawings.now ≡ map (numbered_drawing (run_words (run_of history.now))) (drawings_of_setup 0 history.now.setup) }
+    ensures { IfOk result (λ draws. map draw_view draws ≡ map (draw (sheet_table sheet.now (run_words (run_of history.now))) (ranks_of (labels_in (sheet_table sheet.now (run_words (run_of history.now))) (block_positions 0 history.now.setup)))) (drawings_of_setup 0 history.now.setup)) }
 {
     let ranks = block_ranks(alloc, sheet, drawings)?;
     let clears = plaintexts(alloc, history, &ranks)?;
@@ -123,8 +124,8 @@ pub fn draws(
     sheet: &Sheet,
 ) -> Result<Items<Items<Draw>>, AllocError>
     requires { size_refusal history.now.setup ≡ None }
-    ensures own { IfOk result (λ all. map (map draw_view) all ≡ model.draws (sheet_table sheet.now (run_words history.now)) at_first history.now) }
-    ensures agreed { IfOk result (λ all. (t : Table) → IsSheetOf sheet.now (run_words history.now) (used.names at_first history.now) t → map (map draw_view) all ≡ model.draws t at_first history.now) }
+    ensures own { IfOk result (λ all. map (map draw_view) all ≡ model.draws (sheet_table sheet.now (run_words (run_of history.now))) at_first (run_of history.now)) }
+    ensures agreed { IfOk result (λ all. (t : Table) → IsSheetOf sheet.now (run_words (run_of history.now)) (used.names at_first (run_of history.now)) t → map (map draw_view) all ≡ model.draws t at_first (run_of history.now)) }
 {
     let drawings = drawings(alloc, history)?;
     let (first, later) = drawings.as_slice().split_at(1);

@@ -3,6 +3,7 @@ ghost use Rattle.std.specs.List.{filter};
 ghost use Rattle.client_registry.specs.Acceptance.{size_refusal};
 ghost use Rattle.client_registry.specs.Run.{at_first};
 ghost use Rattle.client_registry.specs.Sized.{run_words};
+ghost use Rattle.leakage_history.specs.HashedRun.{run_of};
 ghost use Rattle.leakage_draws.specs.Given.{sheet_table};
 ghost use Rattle.leakage_draws.specs.SheetOf.{IsSheetOf};
 ghost use Rattle.leakage_draws.specs.Sides.{is_sent};
@@ -64,8 +65,8 @@ pub fn wire_frames(
 ) -> Result<Items<Items<u8>>, AllocError>
     requires sized { size_refusal history.now.setup ≡ None }
     requires numbered { length history.now.later + 1 < 2 ^ 32 }
-    ensures own { IfOk result (λ frames. frames ≡ map frame_bytes (session_frames (sheet_table sheet.now (run_words history.now)) at_first history.now)) }
-    ensures agreed { IfOk result (λ frames. (t : Table) → IsSheetOf sheet.now (run_words history.now) (used.names at_first history.now) t → frames ≡ map frame_bytes (session_frames t at_first history.now)) }
+    ensures own { IfOk result (λ frames. frames ≡ map frame_bytes (session_frames (sheet_table sheet.now (run_words (run_of history.now))) at_first (run_of history.now))) }
+    ensures agreed { IfOk result (λ frames. (t : Table) → IsSheetOf sheet.now (run_words (run_of history.now)) (used.names at_first (run_of history.now)) t → frames ≡ map frame_bytes (session_frames t at_first (run_of history.now))) }
 {
     // Its contract says that each command is accepted after those before it.
     let _commands = history.commands();

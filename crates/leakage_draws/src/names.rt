@@ -2,6 +2,7 @@ ghost use Rattle.std.specs.Prelude.{◌≡◌, ◌++◌, IfOk, None, OnOk, flat_
 ghost use Rattle.client_registry.specs.Acceptance.{size_refusal};
 ghost use Rattle.client_registry.specs.Run.{at_first};
 ghost use Rattle.client_registry.specs.Sized.{run_words};
+ghost use Rattle.leakage_history.specs.HashedRun.{run_of};
 ghost use Rattle.leakage_values.specs.Numbered.{numbered};
 ghost use Rattle.def_comparison.specs.UsedNames as used;
 ghost use Rattle.def_relabelling.specs.ByTexts as texts;
@@ -35,7 +36,7 @@ fn push_lists(names: &mut Items<Name>, lists: &[Items<Name>]) -> Result<(), Allo
 /// All names that a history draws, command by command.
 pub(crate) fn names_drawn(alloc: Global, history: &History) -> Result<Items<Name>, AllocError>
     requires { size_refusal history.now.setup ≡ None }
-    ensures { IfOk result (λ names. names ≡ map (numbered (run_words history.now)) (texts.drawn_names at_first history.now)) }
+    ensures { IfOk result (λ names. names ≡ map (numbered (run_words (run_of history.now))) (texts.drawn_names at_first (run_of history.now))) }
 {
     let lists = drawn_names(alloc, history)?;
     let mut names = Items::new(alloc);
@@ -49,8 +50,8 @@ pub(crate) fn names_used(
     history: &History,
     drawn: Items<Name>,
 ) -> Result<Items<Name>, AllocError>
-    requires { drawn ≡ map (numbered (run_words history.now)) (texts.drawn_names at_first history.now) }
-    ensures { IfOk result (λ names. names ≡ map (numbered (run_words history.now)) (used.all_names at_first history.now)) }
+    requires { drawn ≡ map (numbered (run_words (run_of history.now))) (texts.drawn_names at_first (run_of history.now)) }
+    ensures { IfOk result (λ names. names ≡ map (numbered (run_words (run_of history.now))) (used.all_names at_first (run_of history.now))) }
 {
     let lists = probed_names(alloc, history)?;
     let mut names = drawn;

@@ -1,3 +1,4 @@
 pub mod Commands
+pub mod HashedRun
 pub mod Refusal
 pub mod HistoryView

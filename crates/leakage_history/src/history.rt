@@ -7,6 +7,7 @@ ghost use Rattle.client_registry.specs.Run.{Run};
 ghost use Rattle.client_registry.specs.Setup.{Setup};
 ghost use Rattle.client_registry.specs.Sized.{IsSizedCommand};
 ghost use Rattle.leakage_history.specs.Commands.{command_of};
+ghost use Rattle.leakage_history.specs.HashedRun.{run_of};
 ghost use Rattle.leakage_history.specs.Refusal.{is_accepted_by, push_refusal};
 
 use crate::command::Command;
@@ -31,22 +32,24 @@ pub struct History {
 }
 
 impl Model for History {
-    ghost use Rattle.client_registry.specs.Run.{Run};
+    ghost use Rattle.leakage_history.specs.HashedRun.{HashedRun};
 
-    ghost Value = { Run };
+    ghost Value = { HashedRun };
 
-    ghost use Rattle.leakage_history.specs.HistoryView.{IsRegistered, run_of};
+    ghost use Rattle.leakage_history.specs.HistoryView.{IsRegistered, history_of};
 
-    ghost view = { run_of };
+    ghost view = { history_of };
 
     ghost invariant = { IsRegistered };
 }
 
 impl History {
+    ghost use Rattle.client_registry.specs.HashNumbers.{hash_numbers};
     ghost use Rattle.client_registry.specs.Registered.{known_words};
     ghost use Rattle.client_registry.specs.Setup.{setup_with, setup_words};
     ghost use Rattle.leakage_history.specs.Refusal.{AreAccepted};
 
+    // Promise P59, also here; clauses: ensures
     // Promise P72 (caller): A history takes a command if and only if it is accepted after the earlier ones; a refusal changes nothing.
     //   clauses: ensures; not: That its parameters make an index. Out of memory may come in place of taking it.
     /// The history of a setup of these documents alone, with `b` numbers in a cell and `big` in a block, filled with dummies up
@@ -60,7 +63,7 @@ impl History {
         big: u16,
         pad: u16,
     ) -> Result<History, AllocError>
-        ensures { IfOk result (λ h. h ≡ record { setup = setup_with docs.documents b big pad; later = [] }) }
+        ensures { IfOk result (λ h. h ≡ record { setup = setup_with docs.documents b big pad; later = []; keys = hash_numbers keys }) }
     {
         // Its contract says that the documents keep their limits.
         let _limits = docs.words();
@@ -83,10 +86,10 @@ impl History {
     /// from 0, of a word of an addition whose pair would be new and that has no counter left. With none of these, `NoMemory`
     /// where there is no memory. After an error the history is as before, and the command is dropped.
     pub fn push(&mut self, command: Command) -> Result<(), HistoryFault>
-        ensures ok { OnOk result (self.new ≡ record { setup = self.old.setup; later = self.old.later ++ command_of command ∷ [] }) }
+        ensures ok { OnOk result (self.new ≡ record { setup = self.old.setup; later = self.old.later ++ command_of command ∷ []; keys = self.old.keys }) }
         ensures err { OnErr result (self.new ≡ self.old) }
-        ensures refused { IfSome (push_refusal self.old (command_of command)) (λ fault. result ≡ Err fault) }
-        ensures accepted { push_refusal self.old (command_of command) ≡ None → IsOkUnless result HistoryFault.NoMemory }
+        ensures refused { IfSome (push_refusal (run_of self.old) (command_of command)) (λ fault. result ≡ Err fault) }
+        ensures accepted { push_refusal (run_of self.old) (command_of command) ≡ None → IsOkUnless result HistoryFault.NoMemory }
     {
         if let Some(fault) = self.refusal(&command) {
             return Err(fault);
@@ -104,9 +107,9 @@ impl History {
     }
 
     // Promise P72, also here; clauses: refusal
-    /// Why a command isn't accepted after the others; none says that only memory may be wanting.
+    /// Why a command isn't accepted after the others; with none, [`History::push`] takes it or is out of memory.
     pub fn refusal(&self, command: &Command) -> Option<HistoryFault>
-        ensures refusal { result ≡ push_refusal self.now (command_of command.now) }
+        ensures refusal { result ≡ push_refusal (run_of self.now) (command_of command.now) }
         ensures valid { IsSizedCommand (command_of command.now) }
     {
         match &self.registry {
@@ -119,7 +122,7 @@ impl History {
     /// How many commands, the setup included.
     pub fn len(&self) -> usize
         ensures len { result ≡ length self.now.later + 1 }
-        ensures valid { AreAccepted self.now }
+        ensures valid { AreAccepted (run_of self.now) }
     {
         self.commands.len() + 1
     }
@@ -128,7 +131,7 @@ impl History {
     /// The commands after the setup, in their order.
     pub fn commands(&self) -> &[Command]
         ensures commands { map command_of result.now ≡ self.now.later }
-        ensures valid { AreAccepted self.now }
+        ensures valid { AreAccepted (run_of self.now) }
     {
         self.commands.as_slice()
     }
@@ -161,23 +164,29 @@ impl History {
         self.pad
     }
 
+    // Promise P59, also here; clauses: ensures
     /// The keys under which its tables hash.
-    pub fn keys(&self) -> HashKeys {
+    pub fn keys(&self) -> HashKeys
+        ensures { hash_numbers result ≡ self.now.keys }
+    {
         self.keys
     }
 
+    // Promise P59, also here; clauses: keys
     // Promise P76, also here; clauses: setup, words
-    /// A registry that was told the setup alone: [`register`] tells it a command after the others.
+    /// A registry that was told the setup alone: [`register`] tells it a command after the others. It hashes under the keys of the
+    /// history.
     pub fn begun_registry(&self, alloc: Global) -> Result<Registry, AllocError>
         ensures setup { IfOk result (λ registry. Represents registry self.now.setup []) }
         ensures words { IfOk result (λ registry. known_words registry ≡ setup_words self.now.setup) }
+        ensures keys { IfOk result (λ registry. registry.keys ≡ self.now.keys) }
     {
         Ok(Registry::from_docs(copy_docs(alloc, &self.docs, self.keys)?))
     }
 }
 
-/// Takes a command behind the others, and tells a registry of those that it is accepted. All memory is taken first, so that nothing fails
-/// once something has changed.
+/// Takes a command after the others, and tells it to their registry. All memory is taken first, so that nothing fails once something has
+/// changed.
 fn take(
     registry: &mut Registry,
     commands: &mut Vec<Command>,

@@ -3,6 +3,7 @@ ghost use Rattle.client_registry.specs.Documents.{all_words, first_seen};
 ghost use Rattle.client_registry.specs.Sized.{run_words, words_named};
 ghost use Rattle.client_registry.specs.WordBytes.{word_bytes};
 ghost use Rattle.leakage_history.specs.Commands.{command_of};
+ghost use Rattle.leakage_history.specs.HashedRun.{run_of};
 
 use crate::command::Command;
 use crate::history::History;
@@ -32,7 +33,7 @@ impl RunWords {
     //   clauses: ensures; assumes: earlier calls
     /// The words of this history, hashed under its keys.
     pub fn of(alloc: Global, history: &History) -> Result<RunWords, AllocError>
-        ensures { IfOk result (λ words. words ≡ run_words history.now) }
+        ensures { IfOk result (λ words. words ≡ run_words (run_of history.now)) }
     {
         let mut words = IndexSet::with_hasher(alloc, history.keys());
         insert_setup(&mut words, history.docs())?;

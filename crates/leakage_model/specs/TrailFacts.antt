@@ -2,9 +2,11 @@
 use Rattle.std.specs.Prelude.{◌≡◌, ℕ, ◌+◌, List, [], length, map, bytes_eq, None, unwrap_or, if◌then◌else◌}
 use Rattle.std.specs.List.{list_any}
 use Rattle.std.specs.Map.{lookup}
+use Rattle.indexmap.specs.IndexMap.{hasher_of}
 use Rattle.client_registry.specs.Command.{Command}
 use Rattle.client_registry.proofs.OrderLaws.{AreApart}
 use Rattle.client_registry.specs.Document.{Document}
+use Rattle.client_registry.specs.HashNumbers.{hash_numbers}
 use Rattle.client_registry.specs.Live.{live}
 use Rattle.client_registry.specs.Registered.{Represents}
 use Rattle.client_registry.specs.Setup.{Setup, setup_of}
@@ -32,6 +34,11 @@ pub record Follows (t : Trail) (s : Setup) (past : List Command) : Type 0 where
   pub next : t.next ≡ length past + 1
   -- live documents have different identifiers
   pub apart : AreApart (map (λ d. d.id) (live s.documents past))
+
+-- both tables of a trail hash under these two numbers
+pub record HashesUnder (t : Trail) (keys : ℕ × ℕ) : Type 0 where
+  pub words : hash_numbers (hasher_of t.words) ≡ keys
+  pub registry : t.registry.keys ≡ keys
 
 -- these entries tell of each word where the setup of these documents holds it, and nothing else
 abbrev pub IsPlaced : List (Word × WordFacts) → List Document → Shape → Type 0

@@ -9,6 +9,7 @@ ghost use Rattle.client_registry.specs.Run.{at_first};
 ghost use Rattle.client_registry.specs.Setup.{Setup};
 ghost use Rattle.client_registry.specs.WordBytes.{word_bytes};
 ghost use Rattle.leakage_history.specs.Commands.{command_of};
+ghost use Rattle.leakage_history.specs.HashedRun.{run_of};
 ghost use Rattle.leakage_history.specs.Refusal.{is_accepted_by};
 ghost use Rattle.leakage_model.specs.TrailFacts.{Follows};
 ghost use Rattle.leakage_frames.specs.Views.{leak_view, word_view};
@@ -155,7 +156,7 @@ fn leak_commands(
 fn leak_into(alloc: Global, history: &History, leaks: &mut Items<Leak>) -> Result<(), AllocError>
     requires sized { size_refusal history.now.setup ≡ None }
     requires numbered { length history.now.later + 1 < 2 ^ 32 }
-    ensures { OnOk result (map leak_view leaks.new ≡ map leak_view leaks.old ++ leakage.leak at_first history.now) }
+    ensures { OnOk result (map leak_view leaks.new ≡ map leak_view leaks.old ++ leakage.leak at_first (run_of history.now)) }
 {
     leaks.push(setup_leak(history))?;
     if history.commands().is_empty() {
@@ -179,7 +180,7 @@ fn leak_into(alloc: Global, history: &History, leaks: &mut Items<Leak>) -> Resul
 pub fn leak(alloc: Global, history: &History) -> Result<Items<Leak>, AllocError>
     requires sized { size_refusal history.now.setup ≡ None }
     requires numbered { length history.now.later + 1 < 2 ^ 32 }
-    ensures { IfOk result (λ leaks. map leak_view leaks ≡ leakage.leak at_first history.now) }
+    ensures { IfOk result (λ leaks. map leak_view leaks ≡ leakage.leak at_first (run_of history.now)) }
 {
     let mut leaks = Items::new(alloc);
     match leak_into(alloc, history, &mut leaks) {

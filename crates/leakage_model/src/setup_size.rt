@@ -1,7 +1,7 @@
 ghost use Rattle.std.specs.Prelude.{◌≡◌, None};
 ghost use Rattle.client_registry.specs.Acceptance.{blocks_of, padded_blocks, padded_words, size_refusal};
 
-use client_registry::{Size, size_of};
+use client_registry::{Size, Sizes, size_of};
 use leakage_history::History;
 
 /// The size of the index of a history's setup.
@@ -15,7 +15,7 @@ pub(crate) fn size_of_setup(history: &History) -> Size
     let b = u64::from(history.b());
     let big = u64::from(history.big());
     let pad = u64::from(history.pad());
-    match size_of(history.docs(), b, big, pad) {
+    match size_of(history.docs(), Sizes { b, big, pad }) {
         Ok(size) => size,
         Err(_) => unreachable!(),
     }

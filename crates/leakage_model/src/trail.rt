@@ -9,7 +9,7 @@ ghost use Rattle.client_registry.specs.Setup.{Setup};
 ghost use Rattle.client_registry.specs.WordBytes.{word_bytes};
 ghost use Rattle.leakage_history.specs.Commands.{command_of};
 ghost use Rattle.leakage_history.specs.Refusal.{is_accepted_by};
-ghost use Rattle.leakage_model.specs.TrailFacts.{Follows};
+ghost use Rattle.leakage_model.specs.TrailFacts.{Follows, HashesUnder};
 ghost use Rattle.leakage_frames.specs.Views.{origin_view, word_view};
 ghost use Rattle.def_leakage.specs.Firsts.{first_search, number_origin};
 ghost use Rattle.def_leakage.specs.CommandLeaks.{word_added, word_deleted};
@@ -34,12 +34,14 @@ pub struct Trail {
 }
 
 impl Trail {
+    // Promise P59, also here; clauses: hashed
     // Promise P43 (caller): A trail gives, after the commands it took, a word's first search, its listed pairs, their numbers' origins, and a command's leakage.
-    //   clauses: ensures; assumes: earlier calls, kept limits; not: A trail after it ran out of memory.
-    /// The trail of the setup of a history alone, which has an index.
+    //   clauses: follows; assumes: earlier calls, kept limits; not: A trail after it ran out of memory.
+    /// The trail of the setup of a history alone, which has an index. Its tables hash under the keys of the history.
     pub fn begin(alloc: Global, history: &History) -> Result<Trail, AllocError>
         requires { size_refusal history.now.setup ≡ None }
-        ensures { IfOk result (λ trail. Follows trail history.now.setup []) }
+        ensures follows { IfOk result (λ trail. Follows trail history.now.setup []) }
+        ensures hashed { IfOk result (λ trail. HashesUnder trail history.now.keys) }
     {
         let size = size_of_setup(history);
         let docs = history.docs();

@@ -1,4 +1,5 @@
 ghost use Rattle.std.specs.Prelude.{◌≡◌, ◌+◌, ◌<◌, ◌≤◌, ◌^◌, ℕ, [], IfOk, List, OnOk, Some, length, slice_get};
+ghost use Rattle.indexmap.specs.IndexMap.{hasher_of};
 ghost use Rattle.two_level.specs.Plan as layout;
 ghost use Rattle.client_registry.specs.Acceptance.{blocks_of};
 ghost use Rattle.client_registry.specs.Document.{Document};
@@ -18,7 +19,8 @@ use two_level::Shape;
 
 /// The setup holds the word there.
 fn place_word(words: &mut Table, word: &Word, home: HomeAt) -> Result<(), AllocError>
-    ensures { OnOk result (ChangesAt words.old.entries words.new.entries (word_bytes word.now) (placed_at (home_view home))) }
+    ensures placed { OnOk result (ChangesAt words.old.entries words.new.entries (word_bytes word.now) (placed_at (home_view home))) }
+    ensures hasher { OnOk result (hasher_of words.new ≡ hasher_of words.old) }
 {
     let place = place_in(words, word)?;
     let trail = &mut words[place];
@@ -42,6 +44,7 @@ pub(crate) fn place_words(words: &mut Table, docs: &Docs, shape: Shape) -> Resul
     requires empty { words.old.entries ≡ [] }
     requires fits { blocks_of (setup_of docs.now.documents shape.b shape.big) < 2 ^ 32 }
     ensures placed { OnOk result (IsPlaced words.new.entries docs.now.documents shape) }
+    ensures hasher { OnOk result (hasher_of words.new ≡ hasher_of words.old) }
     ensures collected { IsCollected docs.now.documents }
 {
     let mut first: u32 = 0;
@@ -61,7 +64,8 @@ pub(crate) fn place_words(words: &mut Table, docs: &Docs, shape: Shape) -> Resul
 /// A document of the setup with this identifier holds the word.
 fn set_up_word(words: &mut Table, word: &Word, id: DocId) -> Result<(), AllocError>
     requires { length (facts_in words.old.entries (word_bytes word.now)).listed < 2 ^ 32 }
-    ensures { OnOk result (ChangesAt words.old.entries words.new.entries (word_bytes word.now) (set_up_with (id_number id))) }
+    ensures held { OnOk result (ChangesAt words.old.entries words.new.entries (word_bytes word.now) (set_up_with (id_number id))) }
+    ensures hasher { OnOk result (hasher_of words.new ≡ hasher_of words.old) }
 {
     let place = place_in(words, word)?;
     let trail = &mut words[place];
@@ -72,7 +76,8 @@ fn set_up_word(words: &mut Table, word: &Word, id: DocId) -> Result<(), AllocErr
 fn set_up_document(words: &mut Table, docs: &Docs, i: usize) -> Result<(), AllocError>
     requires within { i < length docs.now.documents }
     requires few { (w : List ℕ) → length (facts_in words.old.entries w).listed < 2 ^ 32 }
-    ensures { (d : Document) → slice_get docs.now.documents i ≡ Some d → OnOk result (ChangesEach words.old.entries words.new.entries d.words (λ _. set_up_with d.id)) }
+    ensures held { (d : Document) → slice_get docs.now.documents i ≡ Some d → OnOk result (ChangesEach words.old.entries words.new.entries d.words (λ _. set_up_with d.id)) }
+    ensures hasher { OnOk result (hasher_of words.new ≡ hasher_of words.old) }
 {
     let doc = docs.get(i);
     for number in doc.numbers {
@@ -88,7 +93,8 @@ pub(crate) fn set_up_documents(
     shape: Shape,
 ) -> Result<(), AllocError>
     requires { IsPlaced words.old.entries docs.now.documents shape }
-    ensures { OnOk result (Tells words.new.entries (setup_of docs.now.documents shape.b shape.big) []) }
+    ensures told { OnOk result (Tells words.new.entries (setup_of docs.now.documents shape.b shape.big) []) }
+    ensures hasher { OnOk result (hasher_of words.new ≡ hasher_of words.old) }
 {
     for i in 0..docs.len() {
         set_up_document(words, docs, i)?;

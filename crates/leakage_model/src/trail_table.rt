@@ -1,6 +1,6 @@
 ghost use Rattle.std.specs.Prelude.{◌≡◌, ◌+◌, ◌<◌, ◌^◌, ◌++◌, ◌∷◌, [], ℕ, All, IfOk, List, OnOk, Some, bytes_eq, length, map, position, unwrap_or};
 ghost use Rattle.std.specs.List.{IsDistinct};
-ghost use Rattle.indexmap.specs.IndexMap.{index_map_len};
+ghost use Rattle.indexmap.specs.IndexMap.{hasher_of, index_map_len};
 ghost use Rattle.client_registry.proofs.OrderLaws.{AreApart};
 ghost use Rattle.client_registry.specs.Command.{Command as Meant};
 ghost use Rattle.client_registry.specs.IdNumber.{id_number};
@@ -30,6 +30,7 @@ pub(crate) fn place_in(words: &mut Table, word: &Word) -> Result<usize, AllocErr
     ensures same { (w : List ℕ) → facts_in words.new.entries w ≡ facts_in words.old.entries w }
     ensures place { IfOk result (λ place. position (bytes_eq (word_bytes word.now)) (map (λ e. word_bytes e.0) words.new.entries) ≡ Some place) }
     ensures within { IfOk result (λ place. place < index_map_len words.new) }
+    ensures hasher { OnOk result (hasher_of words.new ≡ hasher_of words.old) }
 {
     if let Some(place) = words.get_index_of(word) {
         return Ok(place);

@@ -2,7 +2,7 @@ ghost use Rattle.std.specs.Prelude.{◌≡◌, None};
 ghost use Rattle.client_registry.specs.Acceptance.{size_refusal};
 ghost use Rattle.index_setup.specs.SizeOf.{IsSizeOf, setup_sized};
 
-use client_registry::{Size, size_of};
+use client_registry::{Size, Sizes, size_of};
 use leakage_history::History;
 
 /// The size of the index of a history's setup.
@@ -14,7 +14,7 @@ pub(crate) fn setup_size(history: &History) -> Size
     let b = u64::from(history.b());
     let big = u64::from(history.big());
     let pad = u64::from(history.pad());
-    match size_of(history.docs(), b, big, pad) {
+    match size_of(history.docs(), Sizes { b, big, pad }) {
         Ok(size) => size,
         Err(_) => unreachable!(),
     }

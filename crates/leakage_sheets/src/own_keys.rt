@@ -26,12 +26,12 @@ impl Model for OwnKeys {
 
 impl OwnKeys {
     /// Those of this word.
-    pub(crate) fn of<K: Keyed>(keyed: &K, master: &PreparedMaster<K>, word: &Word) -> OwnKeys
+    pub(crate) fn of<K: Keyed>(master: &PreparedMaster<'_, K>, word: &Word) -> OwnKeys
         ensures { result ≡ own_keys (keyed_fn K.prf K.pad) master.now (word_bytes word.now) }
     {
         OwnKeys {
-            token: master.token(keyed, word),
-            place: master.place_key(keyed, word),
+            token: master.token(word),
+            place: master.place_key(word),
         }
     }
 }

@@ -2,6 +2,7 @@ ghost use Rattle.std.specs.Prelude.{◌≡◌, ◌<◌, ◌^◌, ◌++◌, ◌�
 ghost use Rattle.client_registry.specs.Acceptance.{size_refusal};
 ghost use Rattle.client_registry.specs.Run.{at_first};
 ghost use Rattle.client_registry.specs.Sized.{run_words};
+ghost use Rattle.leakage_history.specs.HashedRun.{run_of};
 ghost use Rattle.leakage_values.specs.NamesOnce.{Marks};
 ghost use Rattle.leakage_values.specs.Numbered.{numbered};
 ghost use Rattle.keyed_fn.specs.KeyedFn.{keyed_fn};
@@ -30,8 +31,8 @@ fn held_keys<K: Keyed>(
     history: &History,
 ) -> Result<HeldKeys, AllocError>
     requires { size_refusal history.now.setup ≡ None }
-    ensures few { IfOk result (λ keys. length (run_words history.now) < 2 ^ 32) }
-    ensures values { IfOk result (λ keys. (n : Name) → value_by_keys (keyed_fn K.prf K.pad) keys.shape keys.words keys.dummies n ≡ value_by_number (keyed_fn K.prf K.pad) history.now.setup.shape key.now (run_words history.now) n) }
+    ensures few { IfOk result (λ keys. length (run_words (run_of history.now)) < 2 ^ 32) }
+    ensures values { IfOk result (λ keys. (n : Name) → value_by_keys (keyed_fn K.prf K.pad) keys.shape keys.words keys.dummies n ≡ value_by_number (keyed_fn K.prf K.pad) history.now.setup.shape key.now (run_words (run_of history.now)) n) }
 {
     let words = RunWords::of(alloc, history)?;
     if words.len() > u32::MAX as usize {
@@ -39,8 +40,8 @@ fn held_keys<K: Keyed>(
     }
     let master = key.prepare(keyed);
     Ok(HeldKeys {
-        words: keys_of(alloc, keyed, &master, &words)?,
-        dummies: master.dummy_key(keyed),
+        words: keys_of(alloc, &master, &words)?,
+        dummies: master.dummy_key(),
         shape: Shape::within(history.b(), history.big()),
     })
 }
@@ -89,8 +90,8 @@ pub fn sheet_of<K: Keyed>(
     history: &History,
 ) -> Result<Sheet, AllocError>
     requires { size_refusal history.now.setup ≡ None }
-    ensures values { IfOk result (λ sheet. (n : Meant) → Contains (used.names at_first history.now) n → value_at sheet (numbered (run_words history.now) n) ≡ Some (table_of (keyed_fn K.prf K.pad) (λ epoch. key.now) history.now n)) }
-    ensures names { IfOk result (λ sheet. Marks sheet (map (numbered (run_words history.now)) (used.names at_first history.now))) }
+    ensures values { IfOk result (λ sheet. (n : Meant) → Contains (used.names at_first (run_of history.now)) n → value_at sheet (numbered (run_words (run_of history.now)) n) ≡ Some (table_of (keyed_fn K.prf K.pad) (λ epoch. key.now) (run_of history.now) n)) }
+    ensures names { IfOk result (λ sheet. Marks sheet (map (numbered (run_words (run_of history.now))) (used.names at_first (run_of history.now)))) }
 {
     let keys = held_keys(alloc, keyed, key, history)?;
     let names = used_names(alloc, history)?;

@@ -18,15 +18,14 @@ use word_keys::{PlaceKey, PreparedMaster};
 /// The keys of each of these words, in their order.
 pub(crate) fn keys_of<K: Keyed>(
     alloc: Global,
-    keyed: &K,
-    master: &PreparedMaster<K>,
+    master: &PreparedMaster<'_, K>,
     words: &RunWords,
 ) -> Result<Items<OwnKeys>, AllocError>
     ensures { IfOk result (λ keys. keys ≡ map (own_keys (keyed_fn K.prf K.pad) master.now) words.now) }
 {
     let mut keys = Items::new(alloc);
     for number in 0..words.len() {
-        keys.push(OwnKeys::of(keyed, master, words.word(number)))?;
+        keys.push(OwnKeys::of(master, words.word(number)))?;
     }
     Ok(keys)
 }

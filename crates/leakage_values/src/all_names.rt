@@ -2,6 +2,7 @@ ghost use Rattle.std.specs.Prelude.{◌≡◌, None, IfOk, OnOk, flat_map, map};
 ghost use Rattle.client_registry.specs.Acceptance.{size_refusal};
 ghost use Rattle.client_registry.specs.Run.{at_first};
 ghost use Rattle.client_registry.specs.Sized.{run_words};
+ghost use Rattle.leakage_history.specs.HashedRun.{run_of};
 ghost use Rattle.leakage_values.specs.NamesOnce.{Marks, with_name, with_names};
 ghost use Rattle.leakage_values.specs.Numbered.{numbered};
 ghost use Rattle.def_comparison.specs.UsedNames as used;
@@ -59,7 +60,7 @@ fn push_lists(
 /// up for it, each at its first place alone. Error: where there is no memory, or no number of 32 bits for a word.
 pub fn used_names(alloc: Global, history: &History) -> Result<Items<Name>, AllocError>
     requires { size_refusal history.now.setup ≡ None }
-    ensures { IfOk result (λ names. names ≡ map (numbered (run_words history.now)) (used.names at_first history.now)) }
+    ensures { IfOk result (λ names. names ≡ map (numbered (run_words (run_of history.now))) (used.names at_first (run_of history.now))) }
 {
     let drawn = drawn_names(alloc, history)?;
     let probed = probed_names(alloc, history)?;

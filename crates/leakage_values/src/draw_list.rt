@@ -7,6 +7,7 @@ ghost use Rattle.client_registry.specs.Setup.{Setup};
 ghost use Rattle.client_registry.specs.Sized.{run_words};
 ghost use Rattle.leakage_history.specs.Commands.{command_of};
 ghost use Rattle.leakage_history.specs.Refusal.{is_accepted_by};
+ghost use Rattle.leakage_history.specs.HashedRun.{run_of};
 ghost use Rattle.leakage_values.specs.Numbered.{numbered_drawing};
 ghost use Rattle.leakage_values.specs.Replayed.{Follows, HasApart};
 ghost use Rattle.def_leakage.specs.DrawnValues as model;
@@ -45,7 +46,7 @@ fn drawings_by_number(
 ) -> Result<Items<Items<Drawing>>, AllocError>
     requires accepted { size_refusal history.now.setup ≡ None }
     requires few { length words.now < 2 ^ 32 }
-    ensures { IfOk result (λ all. all ≡ map (map (numbered_drawing words.now)) (model.drawings at_first history.now)) }
+    ensures { IfOk result (λ all. all ≡ map (map (numbered_drawing words.now)) (model.drawings at_first (run_of history.now))) }
 {
     let mut all = Items::new(alloc);
     all.push(setup_drawings(alloc, history, words)?)?;
@@ -74,7 +75,7 @@ fn drawings_by_number(
 /// searched before. Error: where there is no memory, or no number of 32 bits for a word.
 pub fn drawings(alloc: Global, history: &History) -> Result<Items<Items<Drawing>>, AllocError>
     requires { size_refusal history.now.setup ≡ None }
-    ensures { IfOk result (λ all. all ≡ map (map (numbered_drawing (run_words history.now))) (model.drawings at_first history.now)) }
+    ensures { IfOk result (λ all. all ≡ map (map (numbered_drawing (run_words (run_of history.now)))) (model.drawings at_first (run_of history.now))) }
 {
     let words = RunWords::of(alloc, history)?;
     if words.len() > u32::MAX as usize {

@@ -2,6 +2,7 @@ ghost use Rattle.std.specs.Prelude.{◌≡◌, ◌++◌, None, IfOk, OnOk, flat_
 ghost use Rattle.client_registry.specs.Acceptance.{size_refusal};
 ghost use Rattle.client_registry.specs.Run.{at_first};
 ghost use Rattle.client_registry.specs.Sized.{run_words};
+ghost use Rattle.leakage_history.specs.HashedRun.{run_of};
 ghost use Rattle.leakage_values.specs.DrawnNames.{names_in_code};
 ghost use Rattle.leakage_values.specs.Numbered.{numbered};
 ghost use Rattle.sse_model.specs.Drawn.{drawn};
@@ -42,7 +43,7 @@ fn names_of(alloc: Global, drawings: &[Drawing]) -> Result<Items<Name>, AllocErr
 /// block its label or tag, then its pad. No two of them are the same. Error: as for [`drawings`].
 pub fn drawn_names(alloc: Global, history: &History) -> Result<Items<Items<Name>>, AllocError>
     requires { size_refusal history.now.setup ≡ None }
-    ensures { IfOk result (λ all. all ≡ map (map (numbered (run_words history.now))) (drawn at_first history.now)) }
+    ensures { IfOk result (λ all. all ≡ map (map (numbered (run_words (run_of history.now)))) (drawn at_first (run_of history.now))) }
 {
     let drawings = drawings(alloc, history)?;
     let mut all = Items::new(alloc);

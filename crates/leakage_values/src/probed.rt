@@ -9,6 +9,7 @@ ghost use Rattle.client_registry.specs.Sized.{run_words};
 ghost use Rattle.client_registry.specs.WordBytes.{word_bytes};
 ghost use Rattle.leakage_history.specs.Commands.{command_of};
 ghost use Rattle.leakage_history.specs.Refusal.{is_accepted_by};
+ghost use Rattle.leakage_history.specs.HashedRun.{run_of};
 ghost use Rattle.leakage_values.specs.Listed.{IsListing, ids_in};
 ghost use Rattle.leakage_values.specs.Numbered.{number_of_word, numbered};
 ghost use Rattle.leakage_values.specs.ProbedNames.{probed_by_number};
@@ -104,7 +105,7 @@ fn probed_by_words(
     words: &RunWords,
 ) -> Result<Items<Items<Name>>, AllocError>
     requires { length words.now < 2 ^ 32 }
-    ensures { IfOk result (λ all. all ≡ map (map (numbered words.now)) (probed at_first history.now)) }
+    ensures { IfOk result (λ all. all ≡ map (map (numbered words.now)) (probed at_first (run_of history.now))) }
 {
     let mut all = Items::new(alloc);
     all.push(Items::new(alloc))?;
@@ -124,7 +125,7 @@ fn probed_by_words(
 /// list, those of its additions up to the first that is missing, and the revocation number of each pair that is listed with it, in
 /// the order in which they were; for any other command none. Error: where there is no memory, or no number of 32 bits for a word.
 pub fn probed_names(alloc: Global, history: &History) -> Result<Items<Items<Name>>, AllocError>
-    ensures { IfOk result (λ all. all ≡ map (map (numbered (run_words history.now))) (probed at_first history.now)) }
+    ensures { IfOk result (λ all. all ≡ map (map (numbered (run_words (run_of history.now)))) (probed at_first (run_of history.now))) }
 {
     let words = RunWords::of(alloc, history)?;
     if words.len() > u32::MAX as usize {

@@ -10,7 +10,7 @@ ghost use Rattle.two_level.specs.Plan.{block_count, plan};
 
 use crate::drawn::Drawing;
 use crate::numbered_names::{name, number_of};
-use client_registry::{Docs, size_of};
+use client_registry::{Docs, Sizes, size_of};
 use leakage_history::{History, RunWords};
 use leakage_names::{NO_WORD, NameKind};
 use sse_frames::Items;
@@ -142,7 +142,12 @@ pub(crate) fn setup_drawings(
 {
     let docs = history.docs();
     let (b, big, pad) = (history.b(), history.big(), history.pad());
-    let Ok(size) = size_of(docs, u64::from(b), u64::from(big), u64::from(pad)) else {
+    let sizes = Sizes {
+        b: u64::from(b),
+        big: u64::from(big),
+        pad: u64::from(pad),
+    };
+    let Ok(size) = size_of(docs, sizes) else {
         unreachable!()
     };
     let mut drawings = Items::new(alloc);

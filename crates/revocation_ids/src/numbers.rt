@@ -34,7 +34,7 @@ impl Numbers {
     }
 
     // Promise P65 (caller): Revocation numbers are those of the key formula, sorted by rising bytes, each with its position.
-    //   clauses: ok
+    //   clauses: ok; assumes: sizes in bounds
     /// Appends an identifier's number under a word's key. Where there is no memory, nothing has changed.
     pub fn push<K: Keyed>(
         &mut self,

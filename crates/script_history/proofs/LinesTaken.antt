@@ -18,7 +18,8 @@ use Rattle.sse_script.specs.declared.refusal.Refusal.{Refusal}
 use Rattle.sse_script.specs.declared.refusal.Refusal.TheVariants.{HistoryFull}
 use Rattle.script_history.specs.Numbered.{run_after}
 use Rattle.script_history.specs.Reads.{is_full, number_refusal, numbered, read_outcome, refusal_in}
-use Rattle.script_history.specs.Stages.{IsAt, ComesTo, IsSetUp, collected_after}
+use Rattle.script_history.specs.Stages.{IsAt, ComesTo, IsSetUp, collected_after, keys_at}
+use Rattle.script_history.specs.Turns.{hashed_at}
 use Rattle.script_history.specs.declared.stage.Stage.{Stage}
 use Rattle.script_history.specs.declared.stage.Stage.TheVariants.{Collecting, Built}
 
@@ -95,6 +96,13 @@ module _ (place : Place) (e : place.history ≡ None) where
   pub refused-before : (request : Request) (refusal : Refusal) (stage : Stage) → before_setup place.documents request ≡ Refuses refusal → IsAt stage place → ComesTo place (read_outcome place request) stage (Some refusal)
   refused-before request refusal stage is at =
       subst (λ o. ComesTo place o stage (Some refusal)) (sym (before request ∙ is)) (record { refusal = refl; stands = at })
+
+-- Hash numbers.
+
+-- the history of a stage hashes as the stage does
+pub hashed_at-keys : (stage : Stage) (numbers : ℕ × ℕ) → keys_at stage ≡ numbers → IfSome (hashed_at stage) (λ h. h.keys ≡ numbers)
+hashed_at-keys (Collecting docs) numbers same = tt
+hashed_at-keys (Built history) numbers same = same
 
 -- Good answers.
 

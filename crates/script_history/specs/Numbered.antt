@@ -5,6 +5,7 @@ use Rattle.client_registry.specs.Command.{Command, Add, Delete, Search, is_updat
 use Rattle.client_registry.specs.Histories.{is_live_in}
 use Rattle.client_registry.specs.Run.{Run}
 use Rattle.client_registry.specs.Sized.{IsSized, run_words, update_frames}
+use Rattle.leakage_history.specs.HashedRun.{run_of}
 use Rattle.leakage_history.specs.declared.fault.HistoryFault.{HistoryFault}
 use Rattle.leakage_history.specs.declared.fault.HistoryFault.TheVariants as faults
 use Rattle.def_script_meaning.specs.Refused.{counter_refusal, frame_refusal}
@@ -47,6 +48,6 @@ update_refusal run c = if is_update c then frame_refusal (Some run) else None
 -- what is so of a history that is numbered: it keeps all limits, its update frames are counted, and it has no more different
 -- words than are named
 pub record IsNumbered (h : Inside) : Type 0 where
-  pub sized : IsSized h.history
-  pub frames : h.frames ≡ update_frames h.history
-  pub named : length (run_words h.history) ≤ h.named
+  pub sized : IsSized (run_of h.history)
+  pub frames : h.frames ≡ update_frames (run_of h.history)
+  pub named : length (run_words (run_of h.history)) ≤ h.named

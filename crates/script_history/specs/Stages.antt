@@ -1,14 +1,17 @@
 -- The place of a reading in its script, and the effect of a line there.
-use Rattle.std.specs.Prelude.{◌≡◌, ℕ, List, [], ◌∷◌, ◌++◌, Option, None, Some}
+use Rattle.std.specs.Prelude.{◌≡◌, ◌≢◌, ℕ, List, [], ◌∷◌, ◌++◌, Option, None, Some}
 use Rattle.std.specs.Option.{option_or}
+use Rattle.client_registry.specs.Acceptance.{size_refusal}
 use Rattle.client_registry.specs.Command.{Add, Delete, Search}
 use Rattle.client_registry.specs.Document.{Document}
 use Rattle.client_registry.specs.Run.{Run}
-use Rattle.client_registry.specs.Setup.{Setup}
+use Rattle.client_registry.specs.Setup.{Setup, setup_with}
+use Rattle.leakage_history.specs.HashedRun.{run_of}
 use Rattle.script_documents.specs.Refused.{bad_word}
 use Rattle.def_script_meaning.specs.Lines.{Request}
 use Rattle.def_script_meaning.specs.Outcome.{Place, Outcome, after}
 use Rattle.def_script_meaning.specs.Refused.{add_refusal, delete_refusal}
+use Rattle.sse_script.specs.Lines.{Line, Doc, SetupLine, AddLine, Del, Find}
 use Rattle.sse_script.specs.declared.refusal.Refusal.{Refusal}
 use Rattle.script_history.specs.Reads.{number_refusal, read_outcome, refusal_in}
 use Rattle.script_history.specs.declared.stage.Stage.{Stage}
@@ -17,7 +20,22 @@ use Rattle.script_history.specs.declared.stage.Stage.TheVariants.{Collecting, Bu
 -- the code's reading collects the documents of a place, and after the setup it has the place's history
 abbrev pub IsAt : Stage → Place → Type 0
 IsAt (Collecting docs) place = (docs.documents ≡ place.documents) × (place.history ≡ None)
-IsAt (Built history) place = place.history ≡ Some history
+IsAt (Built history) place = place.history ≡ Some (run_of history)
+
+-- the two numbers under which a stage hashes
+abbrev pub keys_at : Stage → ℕ × ℕ
+keys_at (Collecting docs) = docs.keys
+keys_at (Built history) = history.keys
+
+-- a reading may be out of memory in this line: no refusal stands that is found without memory, as those of the stage, of the
+-- identifier zero, of a setup's size, of a bad word, and of a deletion
+abbrev pub MayStop : Stage → Line → Type 0
+MayStop (Collecting docs) (Doc id words) = id ≢ 0
+MayStop (Collecting docs) (SetupLine b big pad) = size_refusal (setup_with docs.documents b big pad) ≡ None
+MayStop (Built history) (AddLine id words) = id ≢ 0
+MayStop (Built history) (Del id) = delete_refusal (Some (run_of history)) id ≡ None
+MayStop (Built history) (Find word) = bad_word 0 (word ∷ []) ≡ None
+MayStop _ _ = ⊥
 
 -- a line comes to this: its refusal is found where it has one, and the reading stands after it
 pub record ComesTo (place : Place) (result : Outcome) (next : Stage) (found : Option Refusal) : Type 0 where
@@ -51,6 +69,6 @@ collected_after (Some refusal) docs d = docs
 
 -- the stage after a setup that was refused or accepted
 abbrev pub IsSetUp : Option Refusal → List Document → Setup → Stage → Type 0
-IsSetUp None docs s (Built history) = history ≡ record { setup = s; later = [] }
+IsSetUp None docs s (Built history) = run_of history ≡ record { setup = s; later = [] }
 IsSetUp (Some refusal) docs s (Collecting collected) = collected.documents ≡ docs
 IsSetUp _ docs s _ = ⊥

@@ -1,7 +1,8 @@
 -- One turn of the loop that reads a script's lines, and the place of the reading after it.
-use Rattle.std.specs.Prelude.{◌≡◌, ◌⊎◌, ℕ, ◌+◌, Bool, true, false, ◌||◌, List, Option, None, Some, Result, Ok, Err}
+use Rattle.std.specs.Prelude.{◌≡◌, ◌⊎◌, ℕ, ◌+◌, ◌<◌, Bool, true, false, ◌||◌, List, Option, None, Some, Result, Ok, Err, option_map}
 use Rattle.std.specs.Io.KnownBytes.{append_known}
 use Rattle.client_registry.specs.Run.{History}
+use Rattle.leakage_history.specs.HashedRun.{HashedRun, run_of}
 use Rattle.script_run_texts.specs.Causes.{SourceCause}
 use Rattle.script_run_texts.specs.Stops.{stop_cause}
 use Rattle.script_run_texts.specs.declared.stop_cause.StopCause.{StopCause}
@@ -43,9 +44,13 @@ pub record IsThere (start : Moment) (next : Progress) (number : ℕ) (left : Opt
   pub rest : (last : Option (List ℕ)) (end : ReadEnd) → ReadsOn (moment place (number + 1) left next.refused printed) last end → ReadsOn start last end
 
 -- the history of a stage: none before the setup
+abbrev pub hashed_at : Stage → Option HashedRun
+hashed_at (Collecting docs) = None
+hashed_at (Built history) = Some history
+
+-- the same without the numbers under which it hashes
 abbrev pub history_at : Stage → History
-history_at (Collecting docs) = None
-history_at (Built history) = Some history
+history_at stage = option_map run_of (hashed_at stage)
 
 -- how the reading of these lines ended, under this key, where one more line would have this number
 abbrev pub end_at : (key : List ℕ) (next : ℕ) → Result Last StopCause → ReadEnd
@@ -81,6 +86,16 @@ abbrev pub OnLine : Turn → Type 0 → Type 0
 OnLine (Next next) P = P
 OnLine (End last) P = last.at_twin ≡ true → P
 
+-- a line was read: the next number is one more, and fewer bytes are to come
+pub record HasAdvanced (number to_come next left : ℕ) : Type 0 where
+  pub counted : next ≡ number + 1
+  pub less : left < to_come
+
+-- the stage after a turn
+abbrev pub stage_after : Turn → Stage
+stage_after (Next next) = next.stage
+stage_after (End last) = last.progress.stage
+
 -- whether the line that was read is the one between two scripts, at which a turn ends
 abbrev pub IsTurnAt : (is_twin : Bool) → Turn → Type 0
 IsTurnAt is_twin (Next next) = is_twin ≡ false
@@ -93,10 +108,10 @@ PartsOn (End last) old new remaining = EndsPart last.at_twin old new remaining (
 
 -- how the reading of a script ended
 abbrev pub reading_end : Result ReadScript StopCause → ReadEnd
-reading_end (Ok read) = Whole read.key read.history read.refused read.next
+reading_end (Ok read) = Whole read.key (option_map run_of read.history) read.refused read.next
 reading_end (Err stop) = Stopped (stop_cause stop)
 
 -- and how that of the first of two did
 abbrev pub first_end : Result FirstScript StopCause → ReadEnd
-first_end (Ok first) = Whole first.script.key first.script.history first.script.refused first.script.next
+first_end (Ok first) = Whole first.script.key (option_map run_of first.script.history) first.script.refused first.script.next
 first_end (Err stop) = Stopped (stop_cause stop)

@@ -1,5 +1,6 @@
 ghost use Rattle.std.specs.Prelude.{◌≡◌, ◌≤◌, ◌<◌, ◌+◌, ◌^◌, ◌||◌, ◌∷◌, ℕ, List, Option, Some, Err, IfErr, IfOk, OnOk, is_some, option_map, true};
 ghost use Rattle.std.specs.Io.KnownBytes.{append_known};
+ghost use Rattle.client_registry.specs.HashNumbers.{hash_numbers};
 ghost use Rattle.script_run_texts.specs.Causes.{KeepsSink, KeepsSource, SourceCause};
 ghost use Rattle.script_run_texts.specs.LineWords.{words_in};
 ghost use Rattle.script_run_texts.specs.Stops.{stop_cause};
@@ -10,8 +11,8 @@ ghost use Rattle.def_script_meaning.specs.Outcome.{Place};
 ghost use Rattle.sse_script.specs.TextLines.{bytes_to_come, lines_left};
 ghost use Rattle.sse_script.specs.Views.{line_view};
 ghost use Rattle.script_history.specs.Reads.{refused_text, Stopped, StopsPrinting};
-ghost use Rattle.script_history.specs.Stages.{IsAt};
-ghost use Rattle.script_history.specs.Turns.{ComesThrough, IsElsewhere, IsTurnAt, LeadsOn, LeadsTo, OnLine, PartsOn, ReadsOn, end_at, moment};
+ghost use Rattle.script_history.specs.Stages.{IsAt, keys_at};
+ghost use Rattle.script_history.specs.Turns.{ComesThrough, HasAdvanced, IsElsewhere, IsTurnAt, LeadsOn, LeadsTo, OnLine, PartsOn, ReadsOn, end_at, moment, stage_after};
 ghost use Rattle.script_history.specs.TwoScripts.{EndsPart, first_left};
 
 use crate::stage::Stage;
@@ -60,6 +61,7 @@ pub(crate) fn read_lines<S: Source, W: Sink>(
         ReadsOn (moment place (input.old.number + 1) (first_left (lines_left input.old.pending (S.remaining source.old))) progress.refused (W.written sink.old)) (W.written sink.new) (end_at place.key input.new.number result) }
     ensures ended { IfOk result (λ last. EndsPart last.at_twin (lines_left input.old.pending (S.remaining source.old)) (lines_left input.new.pending (S.remaining source.new)) (S.remaining source.new)
         (input.new.number + bytes_to_come input.new.pending (S.handed_out source.new) ≤ 2 ^ 63)) }
+    ensures hashed { keys_at progress.stage ≡ hash_numbers keys → IfOk result (λ last. keys_at last.progress.stage ≡ hash_numbers keys) }
     ensures source { KeepsSource SourceCause (S.faults source.old) (S.faults source.new) result }
     ensures sink { KeepsSink (W.faults sink.old) (W.faults sink.new) (W.shortages sink.old) (W.shortages sink.new) result }
 {
@@ -84,9 +86,8 @@ fn take_turn<S: Source, W: Sink>(
     ensures turns { (place : Place) → IsAt progress.stage place →
         LeadsTo (moment place (input.old.number + 1) (first_left (lines_left input.old.pending (S.remaining source.old))) progress.refused (W.written sink.old)) input.new.number (first_left (lines_left input.new.pending (S.remaining source.new))) (W.written sink.new) result }
     ensures parts { IfOk result (λ turn. PartsOn turn (lines_left input.old.pending (S.remaining source.old)) (lines_left input.new.pending (S.remaining source.new)) (S.remaining source.new)) }
-    ensures counted { IfOk result (λ turn. OnLine turn (input.new.number ≡ input.old.number + 1)) }
-    ensures less { IfOk result (λ turn. OnLine turn (
-        bytes_to_come input.new.pending (S.handed_out source.new) < bytes_to_come input.old.pending (S.handed_out source.old))) }
+    ensures advanced { IfOk result (λ turn. OnLine turn (HasAdvanced input.old.number (bytes_to_come input.old.pending (S.handed_out source.old)) input.new.number (bytes_to_come input.new.pending (S.handed_out source.new)))) }
+    ensures hashed { keys_at progress.stage ≡ hash_numbers keys → IfOk result (λ turn. keys_at (stage_after turn) ≡ hash_numbers keys) }
     ensures source { KeepsSource SourceCause (S.faults source.old) (S.faults source.new) result }
     ensures sink { KeepsSink (W.faults sink.old) (W.faults sink.new) (W.shortages sink.old) (W.shortages sink.new) result }
 {
@@ -111,6 +112,7 @@ fn turn_at_line<W: Sink>(
     ensures leads { (place : Place) (behind : Option (List (List ℕ))) → IsAt progress.stage place →
         LeadsTo (moment place input.now.number (first_left (option_map (λ lines. input.now.line ∷ lines) behind)) progress.refused (W.written sink.old)) input.now.number (first_left behind) (W.written sink.new) result }
     ensures at { IfOk result (IsTurnAt (is_twin_line input.now.line)) }
+    ensures hashed { keys_at progress.stage ≡ hash_numbers keys → IfOk result (λ turn. keys_at (stage_after turn) ≡ hash_numbers keys) }
     ensures sink { KeepsSink (W.faults sink.old) (W.faults sink.new) (W.shortages sink.old) (W.shortages sink.new) result }
     ensures elsewhere { IfErr result IsElsewhere }
 {
@@ -144,6 +146,7 @@ fn take_read<W: Sink>(
 ) -> Result<Progress, StopCause>
     ensures leads { (place : Place) (behind : Option (List (List ℕ))) → IsAt progress.stage place →
         LeadsOn (moment place input.now.number (option_map (λ lines. input.now.line ∷ lines) behind) progress.refused (W.written sink.old)) input.now.number behind (W.written sink.new) result }
+    ensures hashed { keys_at progress.stage ≡ hash_numbers keys → IfOk result (λ next. keys_at next.stage ≡ hash_numbers keys) }
     ensures sink { KeepsSink (W.faults sink.old) (W.faults sink.new) (W.shortages sink.old) (W.shortages sink.new) result }
     ensures elsewhere { IfErr result IsElsewhere }
 {
@@ -165,6 +168,7 @@ fn take<W: Sink>(
     requires words { words_in (line_view line) ≤ 2 ^ 19 }
     ensures leads { (place : Place) (text : List ℕ) (behind : Option (List (List ℕ))) → IsAt progress.stage place → line_in text ≡ Some (line_read (line_view line.entry)) →
         LeadsOn (moment place number (option_map (λ lines. text ∷ lines) behind) progress.refused (W.written sink.old)) number behind (W.written sink.new) result }
+    ensures hashed { keys_at progress.stage ≡ hash_numbers keys → IfOk result (λ next. keys_at next.stage ≡ hash_numbers keys) }
     ensures sink { KeepsSink (W.faults sink.old) (W.faults sink.new) (W.shortages sink.old) (W.shortages sink.new) result }
     ensures elsewhere { IfErr result IsElsewhere }
 {
@@ -194,6 +198,7 @@ fn take_command<W: Sink>(
     requires words { words_in (line_view line) ≤ 2 ^ 19 }
     ensures comes { (request : Request) → line_read (line_view line.entry) ≡ requests.Command request → (place : Place) → IsAt progress.stage place →
         ComesThrough place request progress.refused (W.written sink.old) (W.written sink.new) result }
+    ensures hashed { keys_at progress.stage ≡ hash_numbers keys → IfOk result (λ next. keys_at next.stage ≡ hash_numbers keys) }
     ensures sink { KeepsSink (W.faults sink.old) (W.faults sink.new) (W.shortages sink.old) (W.shortages sink.new) result }
     ensures elsewhere { IfErr result IsElsewhere }
 {

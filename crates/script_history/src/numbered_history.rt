@@ -3,8 +3,10 @@ ghost use Rattle.std.specs.Int.{div_ceil};
 ghost use Rattle.client_registry.specs.Acceptance as counts;
 ghost use Rattle.client_registry.specs.Command.{is_update};
 ghost use Rattle.client_registry.specs.Setup.{setup_with, setup_words};
+ghost use Rattle.client_registry.specs.HashNumbers.{hash_numbers};
 ghost use Rattle.client_registry.specs.Sized.{IsSized, IsSizedCommand, words_named};
 ghost use Rattle.leakage_history.specs.Commands.{command_of};
+ghost use Rattle.leakage_history.specs.HashedRun.{run_of};
 ghost use Rattle.leakage_history.specs.Refusal.{push_refusal};
 ghost use Rattle.script_history.specs.Numbered.{fault_refusal, with_command};
 ghost use Rattle.script_history.specs.Reads.{number_refusal};
@@ -26,9 +28,9 @@ pub struct NumberedHistory {
 }
 
 impl Model for NumberedHistory {
-    ghost use Rattle.client_registry.specs.Run.{Run};
+    ghost use Rattle.leakage_history.specs.HashedRun.{HashedRun};
 
-    ghost Value = { Run };
+    ghost Value = { HashedRun };
 
     ghost use Rattle.script_history.specs.Numbered.{IsNumbered};
 
@@ -53,7 +55,7 @@ impl NumberedHistory {
         requires words { size.now.words ≡ length (setup_words (setup_with docs.documents size.now.shape.b size.now.shape.big size.now.pad)) }
         requires padded_words { size.now.padded_words ≡ counts.padded_words (setup_with docs.documents size.now.shape.b size.now.shape.big size.now.pad) }
         requires padded_blocks { size.now.padded_blocks ≡ counts.padded_blocks (setup_with docs.documents size.now.shape.b size.now.shape.big size.now.pad) }
-        ensures { IfOk result (λ h. h ≡ record { setup = setup_with docs.documents size.now.shape.b size.now.shape.big size.now.pad; later = [] }) }
+        ensures { IfOk result (λ h. h ≡ record { setup = setup_with docs.documents size.now.shape.b size.now.shape.big size.now.pad; later = []; keys = hash_numbers keys }) }
     {
         // Its contract says that the documents keep their limits.
         let _limits = docs.words();
@@ -67,11 +69,16 @@ impl NumberedHistory {
         })
     }
 
-    // Promise P73, also here; clauses: found, after
+    // Promise P59, also here; clauses: keys
+    // Promise P73, also here; clauses: found, after, may_stop
     /// Takes a command after the others, or tells why it is refused, and then the history is as before.
+    ///
+    /// Error: out of memory, which comes only if nothing refuses the command but that its words can't be numbered.
     pub fn push(&mut self, command: Command) -> Result<Option<Refusal>, AllocError>
-        ensures found { IfOk result (λ found. found ≡ command_refusal self.old (command_of command)) }
-        ensures after { IfOk result (λ found. self.new ≡ run_after found self.old (command_of command)) }
+        ensures found { IfOk result (λ found. found ≡ command_refusal (run_of self.old) (command_of command)) }
+        ensures after { IfOk result (λ found. run_of self.new ≡ run_after found (run_of self.old) (command_of command)) }
+        ensures may_stop { OnErr result (accept_refusal (run_of self.old) (command_of command) ≡ None) }
+        ensures keys { self.new.keys ≡ self.old.keys }
     {
         if let Some(refusal) = self.refusal(&command) {
             return Ok(Some(refusal));
@@ -85,11 +92,12 @@ impl NumberedHistory {
 
     /// Takes a command that isn't refused.
     fn push_accepted(&mut self, command: Command) -> Result<(), AllocError>
-        requires accepted { accept_refusal self.old (command_of command) ≡ None }
+        requires accepted { accept_refusal (run_of self.old) (command_of command) ≡ None }
         requires valid { IsSizedCommand (command_of command) }
         requires few { length self.old.later + 2 < 2 ^ 32 }
-        ensures taken { OnOk result (self.new ≡ with_command self.old (command_of command)) }
-        ensures numbered { OnOk result (number_refusal (Some self.old) (command_of command ∷ []) ≡ None) }
+        ensures taken { OnOk result (run_of self.new ≡ with_command (run_of self.old) (command_of command)) }
+        ensures numbered { OnOk result (number_refusal (Some (run_of self.old)) (command_of command ∷ []) ≡ None) }
+        ensures keys { self.new.keys ≡ self.old.keys }
     {
         // So many words aren't counted: which of them are different takes a table of 2^32 words.
         let Some(named) = self.named.checked_add(count_words(&command)) else {
@@ -104,7 +112,7 @@ impl NumberedHistory {
 
     /// Why a command isn't accepted after the others, or has no number for its update frame.
     fn refusal(&self, command: &Command) -> Option<Refusal>
-        ensures refusal { result ≡ accept_refusal self.now (command_of command.now) }
+        ensures refusal { result ≡ accept_refusal (run_of self.now) (command_of command.now) }
         ensures valid { IsSizedCommand (command_of command.now) }
     {
         match self.history.refusal(command) {
@@ -115,7 +123,7 @@ impl NumberedHistory {
 
     /// Why an update isn't taken that is accepted.
     fn update_refusal(&self, command: &Command) -> Option<Refusal>
-        ensures { result ≡ refused_update self.now (command_of command.now) }
+        ensures { result ≡ refused_update (run_of self.now) (command_of command.now) }
     {
         if count_frames(command) > u32::MAX - self.frames {
             return Some(Refusal::HistoryFull);
@@ -127,7 +135,7 @@ impl NumberedHistory {
     /// The history alone.
     pub fn into_history(self) -> History
         ensures same { result ≡ self }
-        ensures sized { IsSized self }
+        ensures sized { IsSized (run_of self) }
     {
         let NumberedHistory { history, .. } = self;
         history
@@ -136,9 +144,10 @@ impl NumberedHistory {
 
 /// Takes a command that is accepted.
 fn push_known(history: &mut History, command: Command) -> Result<(), AllocError>
-    requires { push_refusal history.old (command_of command) ≡ None }
-    ensures taken { OnOk result (history.new ≡ with_command history.old (command_of command)) }
+    requires { push_refusal (run_of history.old) (command_of command) ≡ None }
+    ensures taken { OnOk result (run_of history.new ≡ with_command (run_of history.old) (command_of command)) }
     ensures kept { OnErr result (history.new ≡ history.old) }
+    ensures keys { history.new.keys ≡ history.old.keys }
 {
     match history.push(command) {
         Ok(()) => Ok(()),

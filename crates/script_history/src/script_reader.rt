@@ -1,13 +1,18 @@
 ghost use Rattle.std.specs.Prelude.{◌≡◌, ◌≤◌, ◌+◌, ◌^◌, ℕ, List, None, Option, Some, IfErr, IfOk, IfSome, OnOk, false};
 ghost use Rattle.std.specs.Io.KnownBytes.{IsAtEnd};
+ghost use Rattle.client_registry.specs.HashNumbers.{hash_numbers};
 ghost use Rattle.client_registry.specs.Sized.{IsSized};
+ghost use Rattle.keyed_fn.specs.KeyFormulas.{plain_key};
+ghost use Rattle.keyed_fn.specs.KeyedFn.{keyed_fn};
+ghost use Rattle.leakage_history.specs.HashedRun.{run_of};
 ghost use Rattle.script_run_texts.specs.Causes.{InputCause, KeepsSink, KeepsSource, SourceCause};
 ghost use Rattle.script_run_texts.specs.Stops.{input_cause};
 ghost use Rattle.def_script_meaning.specs.Outcome.{opened};
 ghost use Rattle.sse_script.specs.TextLines.{bytes_to_come, lines_left};
 ghost use Rattle.script_history.specs.Reads.{ReadEnd, ReadsFirstFrom, ReadsFrom, Stopped};
-ghost use Rattle.script_history.specs.Turns.{first_end, history_at, reading_end};
+ghost use Rattle.script_history.specs.Turns.{first_end, hashed_at, reading_end};
 ghost use Rattle.script_history.specs.TwoScripts.{EndsPart, behind_left, first_left};
+ghost use Rattle.word_keys.specs.HashNumbers.{numbers_of_key};
 
 use crate::lines::{Last, Progress, read_lines};
 use crate::stage::Stage;
@@ -43,7 +48,7 @@ pub struct FirstScript {
 }
 
 // Promise P75 (caller): A script is read to its key and history and only its refusals are printed, or reading stops at the first cause.
-//   clauses: reads, sized, at_end, source, sink; assumes: observable devices
+//   clauses: reads, sized, hashed, at_end, source, sink; assumes: observable devices
 /// Reads a script up to the end of the source: its key line, then its lines, of which the refusals are printed as a run prints them,
 /// and nothing else is. The keyed function only hashes its words and identifiers.
 ///
@@ -58,7 +63,8 @@ pub fn read_history<K: Keyed, S: Source, W: Sink>(
 ) -> Result<ReadScript, StopCause>
     requires few { input.old.number + bytes_to_come input.old.pending (S.handed_out source.old) ≤ 2 ^ 63 }
     ensures reads { ReadsFirstFrom (input.old.number + 1) (lines_left input.old.pending (S.remaining source.old)) (W.written sink.old) (W.written sink.new) (reading_end result) }
-    ensures sized { IfOk result (λ read. IfSome read.history IsSized) }
+    ensures sized { IfOk result (λ read. IfSome read.history (λ h. IsSized (run_of h))) }
+    ensures hashed { IfOk result (λ read. IfSome read.history (λ h. h.keys ≡ numbers_of_key (plain_key (keyed_fn K.prf K.pad) read.key 13))) }
     ensures at_end { OnOk result (IsAtEnd (S.remaining source.new)) }
     ensures source { KeepsSource SourceCause (S.faults source.old) (S.faults source.new) result }
     ensures sink { KeepsSink (W.faults sink.old) (W.faults sink.new) (W.shortages sink.old) (W.shortages sink.new) result }
@@ -76,6 +82,7 @@ pub fn read_history<K: Keyed, S: Source, W: Sink>(
 }
 
 // Promise P29, also here; clauses: reads, ended, numbered
+// Promise P75, also here; clauses: hashed
 /// Reads the first of two scripts: as [`read_history`], but up to the first line `twin`, behind which the source and the input
 /// are ready for the second.
 pub fn read_first<K: Keyed, S: Source, W: Sink>(
@@ -90,7 +97,8 @@ pub fn read_first<K: Keyed, S: Source, W: Sink>(
     ensures ended { IfOk result (λ first. EndsPart first.at_twin (lines_left input.old.pending (S.remaining source.old)) (lines_left input.new.pending (S.remaining source.new)) (S.remaining source.new)
         (input.new.number + bytes_to_come input.new.pending (S.handed_out source.new) ≤ 2 ^ 63)) }
     ensures numbered { IfOk result (λ first. first.script.next ≡ input.new.number) }
-    ensures sized { IfOk result (λ first. IfSome first.script.history IsSized) }
+    ensures sized { IfOk result (λ first. IfSome first.script.history (λ h. IsSized (run_of h))) }
+    ensures hashed { IfOk result (λ first. IfSome first.script.history (λ h. h.keys ≡ numbers_of_key (plain_key (keyed_fn K.prf K.pad) first.script.key 13))) }
     ensures source { KeepsSource SourceCause (S.faults source.old) (S.faults source.new) result }
     ensures sink { KeepsSink (W.faults sink.old) (W.faults sink.new) (W.shortages sink.old) (W.shortages sink.new) result }
 {
@@ -106,19 +114,22 @@ pub fn read_first<K: Keyed, S: Source, W: Sink>(
     }
 }
 
-/// The keys under which a reading hashes its words and identifiers.
-fn hash_keys<K: Keyed>(keyed: &K, key: &MasterKey) -> HashKeys {
-    key.prepare(keyed).hash_keys(keyed)
+// Promise P97, also here; clauses: ensures
+/// The keys under which a reading hashes its words and identifiers: those of the client of this key.
+fn hash_keys<K: Keyed>(keyed: &K, key: &MasterKey) -> HashKeys
+    ensures { hash_numbers result ≡ numbers_of_key (plain_key (keyed_fn K.prf K.pad) key.now 13) }
+{
+    key.prepare(keyed).hash_keys()
 }
 
 /// What was read, where one more line of the script would have this number.
 fn first_script(key: MasterKey, last: Last, next: u64) -> FirstScript
     ensures key { result.script.key ≡ key }
-    ensures history { result.script.history ≡ history_at last.progress.stage }
+    ensures history { result.script.history ≡ hashed_at last.progress.stage }
     ensures refused { result.script.refused ≡ last.progress.refused }
     ensures next { result.script.next ≡ next }
     ensures at_twin { result.at_twin ≡ last.at_twin }
-    ensures sized { IfSome result.script.history IsSized }
+    ensures sized { IfSome result.script.history (λ h. IsSized (run_of h)) }
 {
     let Last { progress, at_twin } = last;
     let Progress { stage, refused } = progress;

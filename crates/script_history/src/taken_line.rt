@@ -1,33 +1,36 @@
-ghost use Rattle.std.specs.Prelude.{◌≡◌, ◌≤◌, ◌^◌, IfOk, IsSome, length};
+ghost use Rattle.std.specs.Prelude.{◌≡◌, ◌≢◌, ◌≤◌, ◌^◌, ◌∷◌, [], IfOk, IsSome, None, OnErr, Some, length};
 ghost use Rattle.script_documents.specs.LineDocument.{document};
 ghost use Rattle.script_documents.specs.LineFaults.{SaysRefusal};
-ghost use Rattle.script_documents.specs.Refused.{collect_refusal};
+ghost use Rattle.script_documents.specs.Refused.{bad_word, collect_refusal};
 ghost use Rattle.script_run_texts.specs.LineWords.{words_in};
 ghost use Rattle.def_script_meaning.specs.Lines as requests;
 ghost use Rattle.def_script_meaning.specs.Lines.{Request, line_read};
-ghost use Rattle.def_script_meaning.specs.Refused.{index_refusal, size_refused};
+ghost use Rattle.def_script_meaning.specs.Refused.{delete_refusal, index_refusal, size_refused};
 ghost use Rattle.sse_script.specs.Views.{line_view};
 ghost use Rattle.sse_script.specs.declared.refusal.Refusal.{Refusal as Reason};
 ghost use Rattle.std.specs.declared.option.Option.{Option};
+ghost use Rattle.client_registry.specs.Acceptance.{size_refusal};
 ghost use Rattle.client_registry.specs.Command.{Add, Delete, Search};
+ghost use Rattle.client_registry.specs.HashNumbers.{hash_numbers};
 ghost use Rattle.client_registry.specs.Setup.{setup_with};
+ghost use Rattle.leakage_history.specs.HashedRun.{run_of};
 ghost use Rattle.script_history.specs.Numbered.{run_after};
-ghost use Rattle.script_history.specs.Stages.{IsSetUp, Takes, TakesAfter, collected_after, read_add_refusal, read_delete_refusal, read_find_refusal};
+ghost use Rattle.script_history.specs.Stages.{IsSetUp, MayStop, Takes, TakesAfter, collected_after, keys_at, read_add_refusal, read_delete_refusal, read_find_refusal};
 
 use crate::numbered_history::NumberedHistory;
 use crate::stage::Stage;
-use client_registry::{DocId, Docs, HashKeys, SizeFault, size_of};
+use client_registry::{DocId, Docs, HashKeys, SizeFault, Sizes, size_of};
 use leakage_history::Command;
 use script_documents::{LineFault, add_document, document_of, word_of};
 use sse_script::{Fields, Line, Refusal};
 use std::alloc::{AllocError, Global};
 
 // Promise P74 (inside): Reading a script, a line is refused for the same cause as in a run, or as full; otherwise it is taken.
-//   clauses: takes; not: Out of memory may come in place of each.
+//   clauses: takes, may_stop, hashed; not: The words of a document that is collected or added, and its later refusals: there memory may run out instead.
 /// Takes a line of a script after its key line, or tells why it is refused, and then the stage is as before. Its tables hash under
 /// these keys. A line without fields, and a key line, change nothing.
 ///
-/// Error: memory is wanting; the stage is lost then.
+/// Error: out of memory, which never comes in place of a refusal that is found without memory (`MayStop`); the stage is lost then.
 pub fn take_line(
     alloc: Global,
     keys: HashKeys,
@@ -36,6 +39,8 @@ pub fn take_line(
 ) -> Result<(Stage, Option<Refusal>), AllocError>
     requires words { words_in (line_view line) ≤ 2 ^ 19 }
     ensures takes { IfOk result (λ done. (request : Request) → line_read (line_view line.entry) ≡ requests.Command request → Takes stage request done.0 done.1) }
+    ensures may_stop { OnErr result (MayStop stage (line_view line.entry)) }
+    ensures hashed { keys_at stage ≡ hash_numbers keys → IfOk result (λ done. keys_at done.0 ≡ hash_numbers keys) }
 {
     match stage {
         Stage::Collecting(docs) => before_setup(alloc, keys, docs, line),
@@ -52,6 +57,8 @@ fn before_setup(
 ) -> Result<(Stage, Option<Refusal>), AllocError>
     requires words { words_in (line_view line) ≤ 2 ^ 19 }
     ensures takes { IfOk result (λ done. (request : Request) → line_read (line_view line.entry) ≡ requests.Command request → Takes (Stage.Collecting docs) request done.0 done.1) }
+    ensures may_stop { OnErr result (MayStop (Stage.Collecting docs) (line_view line.entry)) }
+    ensures hashed { docs.keys ≡ hash_numbers keys → IfOk result (λ done. keys_at done.0 ≡ hash_numbers keys) }
 {
     match line {
         Line::Empty | Line::Key(_) => Ok((Stage::Collecting(docs), None)),
@@ -59,7 +66,7 @@ fn before_setup(
             let found = collect(alloc, &mut docs, id, words)?;
             Ok((Stage::Collecting(docs), found))
         }
-        Line::Setup { b, big, pad } => set_up(alloc, keys, docs, b, big, pad),
+        Line::Setup { b, big, pad } => set_up(alloc, keys, docs, Sizes { b, big, pad }),
         Line::Add { .. } | Line::Del { .. } | Line::Find { .. } => {
             Ok((Stage::Collecting(docs), Some(Refusal::NotSetUp)))
         }
@@ -74,6 +81,8 @@ fn after_setup(
 ) -> Result<(Stage, Option<Refusal>), AllocError>
     requires words { words_in (line_view line) ≤ 2 ^ 19 }
     ensures takes { IfOk result (λ done. (request : Request) → line_read (line_view line.entry) ≡ requests.Command request → Takes (Stage.Built history) request done.0 done.1) }
+    ensures may_stop { OnErr result (MayStop (Stage.Built history) (line_view line.entry)) }
+    ensures hashed { IfOk result (λ done. keys_at done.0 ≡ history.keys) }
 {
     let found = command_of_line(alloc, &mut history, line)?;
     Ok((Stage::Built(history), found))
@@ -86,7 +95,9 @@ fn command_of_line(
     line: Line<'_>,
 ) -> Result<Option<Refusal>, AllocError>
     requires words { words_in (line_view line) ≤ 2 ^ 19 }
-    ensures takes { IfOk result (λ found. (request : Request) → line_read (line_view line.entry) ≡ requests.Command request → TakesAfter history.old request history.new found) }
+    ensures takes { IfOk result (λ found. (request : Request) → line_read (line_view line.entry) ≡ requests.Command request → TakesAfter (run_of history.old) request (run_of history.new) found) }
+    ensures may_stop { OnErr result (MayStop (Stage.Built history.old) (line_view line.entry)) }
+    ensures keys { history.new.keys ≡ history.old.keys }
 {
     match line {
         Line::Empty | Line::Key(_) => Ok(None),
@@ -107,6 +118,8 @@ fn collect(
     requires { length fields ≤ 2 ^ 19 }
     ensures found { IfOk result (λ found. found ≡ collect_refusal docs.old.documents (document id fields.entry)) }
     ensures after { IfOk result (λ found. docs.new.documents ≡ collected_after found docs.old.documents (document id fields.entry)) }
+    ensures may_stop { OnErr result (id ≢ 0) }
+    ensures keys { docs.new.keys ≡ docs.old.keys }
 {
     match add_document(alloc, docs, id, fields) {
         Ok(()) => Ok(None),
@@ -114,19 +127,19 @@ fn collect(
     }
 }
 
-/// Begins the history of the documents, or tells why there is no index of them with these numbers.
+/// Begins the history of the documents, or tells why there is no index of them with these sizes.
 fn set_up(
     alloc: Global,
     keys: HashKeys,
     docs: Docs,
-    b: u64,
-    big: u64,
-    pad: u64,
+    sizes: Sizes,
 ) -> Result<(Stage, Option<Refusal>), AllocError>
-    ensures found { IfOk result (λ done. done.1 ≡ index_refusal docs.documents b big pad) }
-    ensures after { IfOk result (λ done. IsSetUp done.1 docs.documents (setup_with docs.documents b big pad) done.0) }
+    ensures found { IfOk result (λ done. done.1 ≡ index_refusal docs.documents sizes.b sizes.big sizes.pad) }
+    ensures after { IfOk result (λ done. IsSetUp done.1 docs.documents (setup_with docs.documents sizes.b sizes.big sizes.pad) done.0) }
+    ensures may_stop { OnErr result (size_refusal (setup_with docs.documents sizes.b sizes.big sizes.pad) ≡ None) }
+    ensures hashed { docs.keys ≡ hash_numbers keys → IfOk result (λ done. keys_at done.0 ≡ hash_numbers keys) }
 {
-    match size_of(&docs, b, big, pad) {
+    match size_of(&docs, sizes) {
         Ok(size) => {
             let history = NumberedHistory::begin(alloc, docs, keys, &size)?;
             Ok((Stage::Built(history), None))
@@ -143,8 +156,10 @@ fn add(
     fields: Fields<'_>,
 ) -> Result<Option<Refusal>, AllocError>
     requires { length fields ≤ 2 ^ 19 }
-    ensures found { IfOk result (λ found. found ≡ read_add_refusal history.old (document id fields.entry)) }
-    ensures after { IfOk result (λ found. history.new ≡ run_after found history.old (Add (document id fields.entry))) }
+    ensures found { IfOk result (λ found. found ≡ read_add_refusal (run_of history.old) (document id fields.entry)) }
+    ensures after { IfOk result (λ found. run_of history.new ≡ run_after found (run_of history.old) (Add (document id fields.entry))) }
+    ensures may_stop { OnErr result (id ≢ 0) }
+    ensures keys { history.new.keys ≡ history.old.keys }
 {
     match document_of(alloc, id, fields) {
         Ok(doc) => history.push(Command::Add(doc)),
@@ -154,8 +169,10 @@ fn add(
 
 /// Takes the deletion of a `del` line.
 fn delete(history: &mut NumberedHistory, id: u64) -> Result<Option<Refusal>, AllocError>
-    ensures found { IfOk result (λ found. found ≡ read_delete_refusal history.old id) }
-    ensures after { IfOk result (λ found. history.new ≡ run_after found history.old (Delete id)) }
+    ensures found { IfOk result (λ found. found ≡ read_delete_refusal (run_of history.old) id) }
+    ensures after { IfOk result (λ found. run_of history.new ≡ run_after found (run_of history.old) (Delete id)) }
+    ensures may_stop { OnErr result (delete_refusal (Some (run_of history.old)) id ≡ None) }
+    ensures keys { history.new.keys ≡ history.old.keys }
 {
     match DocId::new(id) {
         Ok(id) => history.push(Command::Delete(id)),
@@ -165,8 +182,10 @@ fn delete(history: &mut NumberedHistory, id: u64) -> Result<Option<Refusal>, All
 
 /// Takes the search of a `find` line.
 fn find(history: &mut NumberedHistory, field: &[u8]) -> Result<Option<Refusal>, AllocError>
-    ensures found { IfOk result (λ found. found ≡ read_find_refusal history.old field.now) }
-    ensures after { IfOk result (λ found. history.new ≡ run_after found history.old (Search field.now)) }
+    ensures found { IfOk result (λ found. found ≡ read_find_refusal (run_of history.old) field.now) }
+    ensures after { IfOk result (λ found. run_of history.new ≡ run_after found (run_of history.old) (Search field.now)) }
+    ensures may_stop { OnErr result (bad_word 0 (field.now ∷ []) ≡ None) }
+    ensures keys { history.new.keys ≡ history.old.keys }
 {
     match word_of(field, 0) {
         Ok(word) => history.push(Command::Search(word)),
@@ -178,6 +197,7 @@ fn find(history: &mut NumberedHistory, field: &[u8]) -> Result<Option<Refusal>, 
 fn refusal_of(fault: LineFault) -> Result<Option<Refusal>, AllocError>
     ensures says { (first : Option Reason) → SaysRefusal fault first → IfOk result (λ found. found ≡ first) }
     ensures some { IfOk result IsSome }
+    ensures memory { OnErr result (fault ≡ LineFault.NoMemory) }
 {
     match fault {
         LineFault::Refused(refusal) => Ok(Some(refusal)),

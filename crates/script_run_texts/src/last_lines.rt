@@ -27,7 +27,7 @@ pub fn finish<W: Sink>(sink: &mut W, stop: StopCause) -> u8
 }
 
 // Promise P123 (caller): If a run's journal isn't opened, its status and last line are those of the cause: 6, 7, 10 or 11.
-//   clauses: status, line, later, disk, memory, key, known; not: That the line is whole: a prefix may be printed if a count of the sink rose.
+//   clauses: status, line, later, disk, memory, key, known; assumes: observable devices; not: That the line is whole: a prefix may be printed if a count of the sink rose.
 /// Prints the last line of a run that ended in the opening of its journal, as far as the sink takes it, and answers the run's status:
 /// 6, 7, 10 or 11. It takes no memory.
 pub fn finish_unopened<W: Sink>(sink: &mut W, stop: JournalStop) -> u8

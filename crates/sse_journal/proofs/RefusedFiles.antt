@@ -42,10 +42,15 @@ refused (q ∷ qs) (p ∷ ps) rest g t are_q are_p bad not_set same =
     let both = framed_once q p (flat_map record_bytes qs ++ rest) (flat_map record_bytes ps ++ g ∷ t) (All-head IsPayload q qs are_q) (All-head IsPayload p ps are_p) (sym (append_assoc (framed q) (flat_map record_bytes qs) rest) ∙ ap (λ (l : List ℕ). drop 1 l) same ∙ append_assoc (framed p) (flat_map record_bytes ps) (g ∷ t)) in
     refused qs ps rest g t (All-tail IsPayload q qs are_q) (All-tail IsPayload p ps are_p) bad not_set both.1
 
+-- it isn't too short for one
+pub no_journal_long : (bytes : List ℕ) (place : ℕ) → IsNoJournalAt bytes place → length bytes < 9 → ⊥
+no_journal_long bytes place (inl other) short = absurd (omega (arith, other.1, short))
+no_journal_long bytes place (inr there) short = long_enough there.payloads there.rest there.bad (omega (arith, short, ap length there.are))
+
 pub no_journal_gives : (bytes : List ℕ) (place : ℕ) → IsNoJournalAt bytes place → (payloads : List (List ℕ)) → Gives payloads bytes → ⊥
-no_journal_gives bytes place (inl other) payloads (inl short) = absurd (omega (arith, other.1, short.0))
+no_journal_gives bytes place (inl other) payloads (inl short) = no_journal_long bytes place (inl other) short.0
 no_journal_gives bytes place (inl other) payloads (inr is) = other.2 (ap (λ (l : List ℕ). take 8 l) is.are ∙ begins_as payloads (is.commit ∷ is.tail))
-no_journal_gives bytes place (inr there) payloads (inl short) = long_enough there.payloads there.rest there.bad (omega (arith, short.0, ap length there.are))
+no_journal_gives bytes place (inr there) payloads (inl short) = no_journal_long bytes place (inr there) short.0
 no_journal_gives bytes place (inr there) payloads (inr is) = refused there.payloads payloads there.rest is.commit is.tail there.payloads_are is.payloads_are there.bad is.unset (sym (records_behind there.payloads there.rest) ∙ ap (λ (l : List ℕ). drop 8 l) (sym there.are ∙ is.are) ∙ records_behind payloads (is.commit ∷ is.tail))
 
 bad_end : (xs rest : List ℕ) → IsBad rest → xs ++ rest ≢ []

@@ -40,7 +40,7 @@ impl Journal {
     // Promise P116 (caller): `NotAJournal(place)` comes only if the file stops being a journal there, and leaves that file.
     //   clauses: no_journal, refused, accepted; assumes: observable devices; not: That it comes when the disk fails or memory runs out: then that is the answer.
     // Promise P124 (caller): A journal's calls answer that the disk failed only if its fault count rose, and with every other answer it stays.
-    //   clauses: later, failed, steady
+    //   clauses: later, failed, steady; assumes: earlier calls, sizes in bounds
     /// Starts the journal in the file of a disk. A file of less than nine bytes becomes one without records; of any
     /// other the records are counted, and what is behind them is cut: a record that an append didn't come to commit.
     ///
@@ -124,7 +124,7 @@ impl Journal {
     //   clauses: any_moment, not_counted; assumes: observable devices, disk model, earlier calls, sizes in bounds; not: Which of the two. That the end of the file is clean: `start` makes
     //     it so.
     // Promise P113 (caller): After a refused append a journal takes nothing more, and `broken` keeps the first refusal's cause.
-    //   clauses: broken, untouched, breaks, is_broken, stays, whole
+    //   clauses: broken, untouched, breaks, is_broken, stays, whole; assumes: earlier calls, sizes in bounds
     // Promise P124, also here; clauses: later, failed, steady
     /// Appends a record of 1 to 2^27 bytes for which there is room (`reserve`), by two writes with a sync after each.
     /// It takes no memory but what the disk takes.

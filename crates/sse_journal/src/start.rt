@@ -85,13 +85,15 @@ fn begins<D: Disk>(disk: &mut D) -> Result<bool, Failed>
     Ok(front == b"SSEJRNL1".as_slice())
 }
 
-/// Starts from a file that is durable as it reads: the place where its records end, and how many they are.
+/// Starts from a file that is durable as it reads: the place where its records end, and how many they are. Of a file that
+/// is no journal it never answers `NoMemory`: only repairs have the disk take memory, and such a file gets none.
 pub(crate) fn start_synced<D: Disk>(disk: &mut D) -> Result<(u64, u64), StartFault>
     ensures started { IfOk result (λ j. (bytes : List ℕ) → IsAllOf bytes (D.content disk.old) (D.images disk.old) → IsStarted bytes j.0 j.1 (D.content disk.new) (D.images disk.new)) }
     ensures limit { IfOk result (λ j. j.0 < 2 ^ 63) }
     ensures count { IfOk result (λ j. j.1 ≤ j.0) }
     ensures no_journal { (place : ℕ) → result ≡ Err (StartFault.NotAJournal place) → (bytes : List ℕ) → IsAllOf bytes (D.content disk.old) (D.images disk.old) → IsAllOf bytes (D.content disk.new) (D.images disk.new) }
     ensures no_journal_at { (place : ℕ) → result ≡ Err (StartFault.NotAJournal place) → (bytes : List ℕ) → IsAllOf bytes (D.content disk.old) (D.images disk.old) → IsNoJournalAt bytes place }
+    ensures not_memory { result ≡ Err StartFault.NoMemory → (bytes : List ℕ) (place : ℕ) → IsAllOf bytes (D.content disk.old) (D.images disk.old) → IsNoJournalAt bytes place → ⊥ }
     ensures any_moment { (bytes : List ℕ) → IsAllOf bytes (D.content disk.old) (D.images disk.old) → LeavesOnly D.moment D.left_since disk.old disk.new (GivesAs bytes) }
     ensures told { is_some (D.content disk.new) ≡ is_some (D.content disk.old) }
     ensures later { D.faults disk.old ≤ D.faults disk.new }

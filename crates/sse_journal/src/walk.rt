@@ -34,7 +34,8 @@ pub(crate) fn head_at<D: Disk>(disk: &mut D, at: u64, left: u64) -> Result<Head,
     Ok(look(front, left))
 }
 
-/// Walks over the records of a file of `size` bytes that begins as a journal does. It reads five bytes of each.
+/// Walks over the records of a file of `size` bytes that begins as a journal does. It reads five bytes of each, and takes
+/// no memory.
 pub(crate) fn walk<D: Disk>(disk: &mut D, size: u64) -> Result<Walked, StartFault>
     requires least { 9 ≤ size }
     requires most { size ≤ 2 ^ 63 }
@@ -43,6 +44,7 @@ pub(crate) fn walk<D: Disk>(disk: &mut D, size: u64) -> Result<Walked, StartFaul
     ensures count { IfOk result (λ w. w.records ≤ w.end) }
     ensures found { IfOk result (λ w. IfSome (D.content disk.old) (λ bytes. IsWalked bytes w.end w.records w.commit)) }
     ensures no_journal { (place : ℕ) → result ≡ Err (StartFault.NotAJournal place) → IfSome (D.content disk.old) (λ bytes. IsNoRecordAt bytes place) }
+    ensures never_memory { result ≢ Err StartFault.NoMemory }
     ensures kept { D.content disk.new ≡ D.content disk.old }
     ensures images_kept { NoOther (D.images disk.old) (D.images disk.new) }
     ensures quiet { LeavesOnly D.moment D.left_since disk.old disk.new (D.images disk.old) }

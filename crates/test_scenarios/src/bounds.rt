@@ -29,12 +29,10 @@ fn the_last_counter_is_4294967294(rt: HostRuntime) -> Result<(), Fail> {
     let a = Word::read(b"a").ok().ok_or("no word")?;
     let id = DocId::new(0x0102030405060708).ok().ok_or("no identifier")?;
     let five = DocId::new(5).ok().ok_or("no identifier")?;
-    let keys = MasterKey::new(MASTER)
-        .prepare(&Real)
-        .plus_keys(&Real, &archive);
+    let keys = MasterKey::new(MASTER).prepare(&Real).plus_keys(&archive);
     assert_eq!(rt; next_entry(&Real, &keys, 4294967294, id), Ok(LAST));
     assert_eq!(rt; next_entry(&Real, &keys, 4294967295, id), Err(CounterFull));
-    let toy = MasterKey::new([0; 32]).prepare(&Toy).plus_keys(&Toy, &a);
+    let toy = MasterKey::new([0; 32]).prepare(&Toy).plus_keys(&a);
     assert_eq!(rt; next_entry(&Toy, &toy, 0, five), Ok(TOY));
     Ok(())
 }

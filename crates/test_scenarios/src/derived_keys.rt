@@ -34,39 +34,27 @@ const ENCRYPTED: [[u8; 8]; 3] = [
 ];
 
 /// The values of a word, with the addition of this number, as they stand in the tables.
-fn values<K: Keyed>(
-    keyed: &K,
-    master: &PreparedMaster<K>,
-    word: &Word,
-    addition: u32,
-) -> [[u8; 16]; 6] {
-    let place_key = master.place_key(keyed, word);
+fn values<K: Keyed>(master: &PreparedMaster<'_, K>, word: &Word, addition: u32) -> [[u8; 16]; 6] {
+    let keyed = master.keyed();
+    let place_key = master.place_key(word);
     [
-        master.list_label(keyed, word),
-        master.plus_keys(keyed, word).label(keyed, addition),
-        master.revocation_key(keyed, word).number(keyed, u64::MAX),
+        master.list_label(word),
+        master.plus_keys(word).label(keyed, addition),
+        master.revocation_key(word).number(keyed, u64::MAX),
         place_key.tag(keyed, 65537),
-        place_key.tags(keyed).tag(keyed, 65537),
-        master.mark(keyed),
+        place_key.tags(keyed).tag(65537),
+        master.mark(),
     ]
 }
 
 /// The bytes 1 to 8, encrypted under the first two pads of a word's list and under the pad of the addition of this number.
-fn encrypted<K: Keyed>(
-    keyed: &K,
-    master: &PreparedMaster<K>,
-    word: &Word,
-    addition: u32,
-) -> [[u8; 8]; 3] {
+fn encrypted<K: Keyed>(master: &PreparedMaster<'_, K>, word: &Word, addition: u32) -> [[u8; 8]; 3] {
+    let keyed = master.keyed();
     let [mut cell, mut block, mut added] = [[1, 2, 3, 4, 5, 6, 7, 8]; 3];
-    let mut pads = master.list_pads(keyed, word);
+    let mut pads = master.list_pads(word);
     seal(pads.next(), keyed, &mut cell);
     seal(pads.next(), keyed, &mut block);
-    seal(
-        master.plus_keys(keyed, word).slot(addition),
-        keyed,
-        &mut added,
-    );
+    seal(master.plus_keys(word).slot(addition), keyed, &mut added);
     [cell, block, added]
 }
 
@@ -74,10 +62,11 @@ fn encrypted<K: Keyed>(
 #[test]
 fn keys_and_pads_of_a_word(rt: HostRuntime) -> Result<(), Fail> {
     let word = Word::read(b"archive").ok().ok_or("no word")?;
-    let master = MasterKey::new(*MASTER).prepare(&Real);
-    assert_eq!(rt; master.token(&Real, &word).to_bytes(), *TOKEN);
-    assert!(rt; master.hash_keys(&Real) == HashKeys::new(HASHING[0], HASHING[1]));
-    assert_eq!(rt; values(&Real, &master, &word, 4294967294), VALUES);
-    assert_eq!(rt; encrypted(&Real, &master, &word, 4294967294), ENCRYPTED);
+    let real = Real;
+    let master = MasterKey::new(*MASTER).prepare(&real);
+    assert_eq!(rt; master.token(&word).to_bytes(), *TOKEN);
+    assert!(rt; master.hash_keys() == HashKeys::new(HASHING[0], HASHING[1]));
+    assert_eq!(rt; values(&master, &word, 4294967294), VALUES);
+    assert_eq!(rt; encrypted(&master, &word, 4294967294), ENCRYPTED);
     Ok(())
 }

@@ -1,5 +1,6 @@
 ghost use Rattle.std.specs.Prelude.{◌≡◌, ◌≤◌, ◌+◌, ◌^◌, IfSome, true};
 ghost use Rattle.client_registry.specs.Sized.{IsSized};
+ghost use Rattle.leakage_history.specs.HashedRun.{run_of};
 ghost use Rattle.sse_script.specs.TextLines.{bytes_to_come};
 
 use crate::history_lines::push_history;
@@ -83,7 +84,7 @@ fn text_behind<K: Keyed, S: Source, W: Sink>(
     first: FirstScript,
 ) -> Result<String, StopCause>
     requires few { first.at_twin ≡ true → input.old.number + bytes_to_come input.old.pending (S.handed_out source.old) ≤ 2 ^ 63 }
-    requires sized { IfSome first.script.history IsSized }
+    requires sized { IfSome first.script.history (λ h. IsSized (run_of h)) }
 {
     let ended = if first.at_twin {
         text_of_two(alloc, keyed, source, refusals, input, &first.script)
@@ -96,7 +97,7 @@ fn text_behind<K: Keyed, S: Source, W: Sink>(
 
 /// What is told of a script that was read.
 fn text_of_one<K: Keyed>(alloc: Global, keyed: &K, read: &ReadScript) -> Result<String, StopCause>
-    requires { IfSome read.now.history IsSized }
+    requires { IfSome read.now.history (λ h. IsSized (run_of h)) }
 {
     let mut text = String::new(alloc);
     if let Some(history) = &read.history {
@@ -115,7 +116,7 @@ fn text_of_two<K: Keyed, S: Source, W: Sink>(
     first: &ReadScript,
 ) -> Result<String, StopCause>
     requires few { input.old.number + bytes_to_come input.old.pending (S.handed_out source.old) ≤ 2 ^ 63 }
-    requires sized { IfSome first.now.history IsSized }
+    requires sized { IfSome first.now.history (λ h. IsSized (run_of h)) }
 {
     match read_history(alloc, keyed, source, refusals, input) {
         Ok(second) => {
@@ -134,8 +135,8 @@ fn text_of_both<K: Keyed>(
     first: &ReadScript,
     second: &ReadScript,
 ) -> Result<String, StopCause>
-    requires sized { IfSome first.now.history IsSized }
-    requires sized_too { IfSome second.now.history IsSized }
+    requires sized { IfSome first.now.history (λ h. IsSized (run_of h)) }
+    requires sized_too { IfSome second.now.history (λ h. IsSized (run_of h)) }
 {
     let mut text = String::new(alloc);
     if let Some(one) = &first.history {

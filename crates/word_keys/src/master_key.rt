@@ -27,8 +27,8 @@ impl MasterKey {
         MasterKey { bytes }
     }
 
-    /// Prepares the key for the words of a command, or of many.
-    pub fn prepare<K: Keyed>(&self, keyed: &K) -> PreparedMaster<K>
+    /// Prepares the key for this keyed function, for the words of a command, or of many.
+    pub fn prepare<'a, K: Keyed>(&self, keyed: &'a K) -> PreparedMaster<'a, K>
         ensures { result ≡ self.now }
     {
         PreparedMaster::new(keyed, &self.bytes)

@@ -38,7 +38,7 @@ impl PlaceKey {
 
     // Promise P97, also here; clauses: ensures
     /// The tags of the list's blocks, prepared for many.
-    pub fn tags<K: Keyed>(&self, keyed: &K) -> PlaceTags<K>
+    pub fn tags<'a, K: Keyed>(&self, keyed: &'a K) -> PlaceTags<'a, K>
         ensures { result ≡ self.now }
     {
         PlaceTags::new(keyed, &self.bytes)

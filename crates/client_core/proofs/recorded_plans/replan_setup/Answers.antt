@@ -2,6 +2,7 @@ use Rattle.std.proofs.Common.{◌≡◌, ◌+◌, ℕ, List, [], None, ap, lengt
 use Rattle.std.proofs.lemmas.List.{length-map}
 use Rattle.std.specs.Prelude.{Ok, Err, option_map}
 use Rattle.client_registry.specs.Acceptance.{size_refusal}
+use Rattle.client_registry.specs.Collected.{Collected}
 use Rattle.client_registry.specs.Run.{Run, at_first}
 use Rattle.client_registry.specs.Setup.{setup_with}
 use Rattle.client_rebuild.specs.Recalls.{setup_in}
@@ -39,15 +40,15 @@ returns-in-Ok-clause-replans g c =
     let f = keyed_fn g.K.Keyed.prf g.K.Keyed.pad in
     let s = setup_in c.args.setup in
     let key = c.fresh-client.result.key in
-    let docs = c.args.setup.docs.documents in
     let keys : ℕ → List ℕ = λ epoch. key in
-    let run : ℕ × ℕ × ℕ → Run = λ p. record { setup = setup_with docs p.0 p.1 p.2; later = [] } in
+    let run : Collected × ℕ × ℕ × ℕ → Run = λ p. record { setup = setup_with p.0.documents p.1 p.2 p.3; later = [] } in
+    let docs = c.in-Ok.ensures.documents in
     let shape = c.in-Ok.ensures.shape in
     let pad = c.in-Ok.ensures.pad in
     let frames =
-    subst (λ (p : ℕ × ℕ × ℕ). c.in-Ok.planned.frames ≡ map frame_bytes (frames_of_setup (key_table f key (run p).setup) at_first (run p).setup)) (λ i. (sym shape.0 i, sym shape.1 i, sym pad i)) c.in-Ok.ensures.frames in
+    subst (λ (p : Collected × ℕ × ℕ × ℕ). c.in-Ok.planned.frames ≡ map frame_bytes (frames_of_setup (key_table f key (run p).setup) at_first (run p).setup)) (λ i. (sym docs i, sym shape.0 i, sym shape.1 i, sym pad i)) c.in-Ok.ensures.frames in
     let owes =
-    subst (λ (p : ℕ × ℕ × ℕ). Owes f keys at_first (run p) 0 c.commit.result.state) (λ i. (shape.0 i, shape.1 i, pad i)) (c.commit.ensures.owes f keys frames) in
+    subst (λ (p : Collected × ℕ × ℕ × ℕ). Owes f keys at_first (run p) 0 c.commit.result.state) (λ i. (docs i, shape.0 i, shape.1 i, pad i)) (c.commit.ensures.owes f keys frames) in
     let first : first_number c.skip.result.state ≡ c.args.next = omega (arith, c.skip.ensures.first, c.commit.ensures.first) in
     let zero : 0 + c.args.next ≡ c.args.next = omega arith in
     let none : clash_refusal f key s ≡ None = second_none (option_map refused_by_size (size_refusal s)) (clash_refusal f key s) c.in-Ok.ensures.accepted in
@@ -60,8 +61,8 @@ of_setup-requires g c =
     let plan = c.in-Err.ensures in
     means f c.fresh-client.result.key (setup_in c.args.setup) Planned c.args.setup.accepted c.in-Err.fault plan.clash plan.built
 
-pub returns-in-Err-clause-replans : goal.returns-in-Err-clause-replans
-returns-in-Err-clause-replans g c =
+pub returns-clause-replans : goal.returns-clause-replans
+returns-clause-replans g c =
     let f = keyed_fn g.K.Keyed.prf g.K.Keyed.pad in
     let plan = c.in-Err.ensures in
     subst (λ k. Replans f k (record { setup = setup_in c.args.setup; later = [] }) c.args.next (Err c.of_setup.result)) c.fresh-client.ensures

@@ -1,6 +1,6 @@
-use Rattle.std.proofs.Common.{◌≡◌, ℕ, List, ◌<◌, ◌-◌, ◌^◌, [], None, Some, length, map, not, sym, ap, subst, ◌∙◌, arith}
-use Rattle.std.specs.Prelude.{All, bytes_eq, option_map, slice_index_or}
-use Rattle.std.specs.List.{IsDistinct}
+use Rattle.std.proofs.Common.{◌≡◌, ℕ, List, ◌<◌, ◌-◌, ◌^◌, [], length, map, not, sym, ap, subst, ◌∙◌, arith}
+use Rattle.std.specs.Prelude.{All, IfOk, option_map, slice_index_or}
+use Rattle.std.specs.Option.{option_or}
 use Rattle.std.proofs.lemmas.List.{length-map}
 use Rattle.add_counters.specs.NewEntry.{entry_text}
 use Rattle.add_counters.specs.declared.entry.Entry.{Entry as Made}
@@ -12,7 +12,7 @@ use Rattle.keyed_fn.specs.KeyedFn.{keyed_fn}
 use Rattle.revocation_ids.specs.Places.{fresh_places, listed_places, word_at}
 use Rattle.revocation_ids.specs.declared.numbered_word.NumberedWord.{NumberedWord}
 use Rattle.sse_frames.proofs.Sorted.{length-by_bytes}
-use Rattle.sse_frames.specs.Frames.{AddFrame, Entry, Rises, frame_bytes}
+use Rattle.sse_frames.specs.Frames.{AddFrame, Entry, frame_bytes}
 use Rattle.sse_frames.specs.Order.{by_bytes}
 use Rattle.sse_model.specs.Compared.{equal_among}
 use Rattle.client_tag_order.specs.Tagged.{IsOrderOf}
@@ -20,8 +20,8 @@ use Rattle.client_tag_order.specs.declared.tagged.Tagged.{Tagged}
 use Rattle.client_core.specs.UpdateFaults.{equal_at, label_fault, number_fault}
 use Rattle.client_core.specs.UpdateTexts.{entries_added, next_entry_of, number_of, numbers_added}
 use Rattle.client_core.specs.declared.command_fault.CommandFault.TheVariants.{LabelClash, NumberClash}
-use Rattle.client_core.proofs.DifferLaws.{Rises-numbers}
-use Rattle.client_core.proofs.PlanLaws.{entries_are_added, fresh_counters, goes_to_numbers, labels_at, length-places, map-by_bytes, none_equal, numbers_are_added, numbers_at, stops_at_labels}
+use Rattle.client_core.proofs.DifferLaws.{Rises-numbers, Rises-sorted}
+use Rattle.client_core.proofs.PlanLaws.{entries_are_added, fault_of_both, fresh_counters, labels_at, length-places, map-by_bytes, neither_named, none_equal, numbers_are_added, numbers_at}
 use Rattle.client_core.proofs.update_plans.add_update.Goals as goal
 
 pub split-requires-clause-few : goal.split-requires-clause-few
@@ -42,16 +42,9 @@ labels_of-requires g c =
       length-places c.args.registry.now c.args.doc.now c.args.words.now c.requires.numbered.words_are,
       ap length (c.as_slice-fresh.ensures.value ∙ c.in_ok-parts.ensures.fresh ∙ ap (λ id. fresh_places c.args.registry.now id c.args.words.now) c.id.ensures),
       ap length (c.as_slice-listed.ensures.value ∙ c.in_ok-parts.ensures.listed ∙ ap (λ id. listed_places c.args.registry.now id c.args.words.now) c.id.ensures),
-      c.in_ok-entries.ensures.count,
-      ap length c.as_slice.ensures.value,
+      c.in_ok-made.ensures.count,
+      ap length c.as_slice-made.ensures.value,
     )
-
-pub label_clash-requires : goal.label_clash-requires
-label_clash-requires g c =
-    let label : Made → List ℕ = λ e. e.label in
-    let tags = map label c.as_slice.result.now in
-    let order : IsOrderOf tags c.as_slice-2.result.now = subst (IsOrderOf tags) (sym c.as_slice-2.ensures.value) (c.in_ok-labels-2.ensures.order tags c.in_ok-labels.ensures) in
-    (tags, order, length-map c.as_slice.result.now label ∙ ap length c.as_slice.ensures.value ∙ c.in_ok-entries.ensures.count)
 
 pub sorted-requires : goal.sorted-requires
 sorted-requires g c =
@@ -61,17 +54,31 @@ sorted-requires g c =
       length-places c.args.registry.now c.args.doc.now c.args.words.now c.requires.numbered.words_are,
       ap length (c.as_slice-fresh.ensures.value ∙ c.in_ok-parts.ensures.fresh ∙ ap (λ id. fresh_places c.args.registry.now id c.args.words.now) c.id.ensures),
       ap length (c.as_slice-listed.ensures.value ∙ c.in_ok-parts.ensures.listed ∙ ap (λ id. listed_places c.args.registry.now id c.args.words.now) c.id.ensures),
-      c.in_ok-entries.ensures.count,
+      c.in_ok-made.ensures.count,
       c.in_ok-numbers.ensures.count,
     )
 
-pub number_clash-requires : goal.number_clash-requires
-number_clash-requires g c =
-    let number_order : IsOrderOf c.in_ok-numbers.numbers c.as_slice-3.result.now = subst (IsOrderOf c.in_ok-numbers.numbers) (sym c.as_slice-3.ensures.value) c.in_ok-numbers-2.ensures.order in
+pub in_order-requires : goal.in_order-requires
+in_order-requires g c =
+    let label : Made → List ℕ = λ e. e.label in
+    let tags = map label c.as_slice-made.result.now in
+    let order : IsOrderOf tags c.as_slice-labels.result.now = subst (IsOrderOf tags) (sym c.as_slice-labels.ensures.value) (c.in_ok-labels-2.ensures.order tags c.in_ok-labels.ensures) in
+    order
+
+pub add_clash-clash-requires-clause-labels : goal.add_clash-clash-requires-clause-labels
+add_clash-clash-requires-clause-labels g c =
+    let label : Made → List ℕ = λ e. e.label in
+    let tags = map label c.as_slice-made.result.now in
+    let order : IsOrderOf tags c.as_slice-labels.result.now = subst (IsOrderOf tags) (sym c.as_slice-labels.ensures.value) (c.in_ok-labels-2.ensures.order tags c.in_ok-labels.ensures) in
+    (tags, order, length-map c.as_slice-made.result.now label ∙ ap length c.as_slice-made.ensures.value ∙ c.in_ok-made.ensures.count)
+
+pub add_clash-clash-requires-clause-numbers : goal.add_clash-clash-requires-clause-numbers
+add_clash-clash-requires-clause-numbers g c =
+    let number_order : IsOrderOf c.in_ok-numbers.numbers c.as_slice-numbers.result.now = subst (IsOrderOf c.in_ok-numbers.numbers) (sym c.as_slice-numbers.ensures.value) c.in_ok-numbers-2.ensures.order in
     (c.in_ok-numbers.numbers, number_order, c.in_ok-numbers.ensures.count)
 
-pub add_frame-requires-clause-count : goal.add_frame-requires-clause-count
-add_frame-requires-clause-count g c =
+pub checked_addition-requires-clause-count : goal.checked_addition-requires-clause-count
+checked_addition-requires-clause-count g c =
     let tag : Tagged → List ℕ = λ e. e.tag in
     omega (
       arith,
@@ -79,88 +86,33 @@ add_frame-requires-clause-count g c =
       length-places c.args.registry.now c.args.doc.now c.args.words.now c.requires.numbered.words_are,
       ap length (c.as_slice-fresh.ensures.value ∙ c.in_ok-parts.ensures.fresh ∙ ap (λ id. fresh_places c.args.registry.now id c.args.words.now) c.id.ensures),
       ap length (c.as_slice-listed.ensures.value ∙ c.in_ok-parts.ensures.listed ∙ ap (λ id. listed_places c.args.registry.now id c.args.words.now) c.id.ensures),
-      c.in_ok-entries.ensures.count,
-      ap length (c.as_slice-5.ensures.value ∙ c.in_ok-entries-2.ensures.sorted),
-      length-by_bytes (λ entry. entry.label) c.in_ok-entries.entries.items,
+      c.in_ok-made.ensures.count,
+      ap length c.as_slice-made.ensures.value,
+      ap length (c.as_slice.ensures.value ∙ c.in_ok-entries.ensures),
+      length-by_bytes (λ entry. entry.label) c.as_slice-made.result.now,
       c.in_ok-numbers.ensures.count,
-      ap length (c.as_slice-6.ensures.value ∙ c.in_ok-numbers-3.ensures ∙ ap (map tag) c.as_slice-4.ensures.value ∙ c.in_ok-numbers-2.ensures.numbers),
+      ap length (c.as_slice-2.ensures.value ∙ c.in_ok-sent.ensures ∙ ap (map tag) c.as_slice-numbers.ensures.value ∙ c.in_ok-numbers-2.ensures.numbers),
       length-by_bytes (λ number. number) c.in_ok-numbers.numbers,
     )
 
--- no two labels are equal, and in order they rise
-pub add_frame-requires-clause-rises : goal.add_frame-requires-clause-rises
-add_frame-requires-clause-rises g c =
-    let label : Made → List ℕ = λ e. e.label in
-    let tags = map label c.as_slice.result.now in
-    let order : IsOrderOf tags c.as_slice-2.result.now = subst (IsOrderOf tags) (sym c.as_slice-2.ensures.value) (c.in_ok-labels-2.ensures.order tags c.in_ok-labels.ensures) in
-    let none = none_equal c.as_slice-fresh.result.now tags (unmapped (λ two. LabelClash two.0 two.1) (equal_at c.as_slice-fresh.result.now tags) (sym (c.label_clash.ensures tags order) ∙ c.in_default.is)) in
-    let apart : IsDistinct bytes_eq (map label c.in_ok-entries.entries.items) = subst (λ es. IsDistinct bytes_eq (map label es)) c.as_slice.ensures.value (IsDistinct-first_clash tags none) in
-    subst (λ es. Rises (map label es)) (sym c.as_slice-5.ensures.value) (c.in_ok-entries-2.ensures.rises apart)
-
-pub add_frame-requires-clause-numbers_rise : goal.add_frame-requires-clause-numbers_rise
-add_frame-requires-clause-numbers_rise g c =
+-- where no two values are equal, both rise in order
+pub checked_addition-requires-clause-rise : goal.checked_addition-requires-clause-rise
+checked_addition-requires-clause-rise g c =
+    λ none.
     let tag : Tagged → List ℕ = λ e. e.tag in
-    let number_order : IsOrderOf c.in_ok-numbers.numbers c.as_slice-3.result.now = subst (IsOrderOf c.in_ok-numbers.numbers) (sym c.as_slice-3.ensures.value) c.in_ok-numbers-2.ensures.order in
-    let none = none_equal c.as_slice-listed.result.now c.in_ok-numbers.numbers (unmapped (λ two. NumberClash two.0 two.1) (equal_at c.as_slice-listed.result.now c.in_ok-numbers.numbers) (sym (c.number_clash.ensures c.in_ok-numbers.numbers number_order) ∙ c.in_default-number_clash.is)) in
-    Rises-numbers c.in_ok-numbers.numbers c.as_slice-6.result.now
-    (c.as_slice-6.ensures.value ∙ c.in_ok-numbers-3.ensures ∙ ap (map tag) c.as_slice-4.ensures.value ∙ c.in_ok-numbers-2.ensures.numbers) none
-
-pub returns-in-Some-clause-fault : goal.returns-in-Some-clause-fault
-returns-in-Some-clause-fault g c =
-    λ had some.
-    let f = keyed_fn g.K.Keyed.prf g.K.Keyed.pad in
-    let r = c.args.registry.now in
-    let d = c.args.doc.now in
-    let key = c.args.master.now in
-    let ns = c.args.words.now in
-    let are = c.requires.numbered.words_are in
-    let fresh = c.as_slice-fresh.ensures.value ∙ c.in_ok-parts.ensures.fresh ∙ ap (λ id. fresh_places r id ns) c.id.ensures in
-    let entry : ℕ → NumberedWord → Entry = λ id place. next_entry_of f key (facts r) id (word_at r place) in
-    let made : map entry_text c.in_ok-entries.entries.items ≡ map (entry d.id) (fresh_places r d.id ns) =
-    c.in_ok-entries.ensures.entries had ∙ ap (map (entry (id_number c.id-2.result))) fresh ∙ ap (λ id. map (entry id) (fresh_places r d.id ns)) c.id-2.ensures in
     let label : Made → List ℕ = λ e. e.label in
-    let tags = map label c.as_slice.result.now in
-    let order : IsOrderOf tags c.as_slice-2.result.now = subst (IsOrderOf tags) (sym c.as_slice-2.ensures.value) (c.in_ok-labels-2.ensures.order tags c.in_ok-labels.ensures) in
-    let labels = equal_among (λ w. not ((facts r).listed w d.id)) (λ w. (next_entry_of f key (facts r) d.id w).label) d.words in
-    let at_labels : c.label_clash.result ≡ option_map (λ two. LabelClash two.0 two.1) labels =
-    c.label_clash.ensures tags order ∙ ap (λ ps. label_fault ps tags) fresh
-    ∙ ap (λ es. label_fault (fresh_places r d.id ns) (map label es)) c.as_slice.ensures.value
-    ∙ ap (option_map (λ two. LabelClash two.0 two.1)) (labels_at r d ns are f key c.in_ok-entries.entries.items made) in
-    let numbers = equal_among (λ w. (facts r).listed w d.id) (number_of f key d.id) d.words in
-    stops_at_labels labels numbers c.in-Some.fault (sym c.in-Some.is ∙ at_labels)
-
-pub returns-in-Some-number_clash-clause-fault : goal.returns-in-Some-number_clash-clause-fault
-returns-in-Some-number_clash-clause-fault g c =
-    λ had some.
-    let f = keyed_fn g.K.Keyed.prf g.K.Keyed.pad in
-    let r = c.args.registry.now in
-    let d = c.args.doc.now in
-    let key = c.args.master.now in
-    let ns = c.args.words.now in
-    let are = c.requires.numbered.words_are in
-    let fresh = c.as_slice-fresh.ensures.value ∙ c.in_ok-parts.ensures.fresh ∙ ap (λ id. fresh_places r id ns) c.id.ensures in
-    let entry : ℕ → NumberedWord → Entry = λ id place. next_entry_of f key (facts r) id (word_at r place) in
-    let made : map entry_text c.in_ok-entries.entries.items ≡ map (entry d.id) (fresh_places r d.id ns) =
-    c.in_ok-entries.ensures.entries had ∙ ap (map (entry (id_number c.id-2.result))) fresh ∙ ap (λ id. map (entry id) (fresh_places r d.id ns)) c.id-2.ensures in
-    let label : Made → List ℕ = λ e. e.label in
-    let tags = map label c.as_slice.result.now in
-    let order : IsOrderOf tags c.as_slice-2.result.now = subst (IsOrderOf tags) (sym c.as_slice-2.ensures.value) (c.in_ok-labels-2.ensures.order tags c.in_ok-labels.ensures) in
-    let labels = equal_among (λ w. not ((facts r).listed w d.id)) (λ w. (next_entry_of f key (facts r) d.id w).label) d.words in
-    let at_labels : c.label_clash.result ≡ option_map (λ two. LabelClash two.0 two.1) labels =
-    c.label_clash.ensures tags order ∙ ap (λ ps. label_fault ps tags) fresh
-    ∙ ap (λ es. label_fault (fresh_places r d.id ns) (map label es)) c.as_slice.ensures.value
-    ∙ ap (option_map (λ two. LabelClash two.0 two.1)) (labels_at r d ns are f key c.in_ok-entries.entries.items made) in
-    let numbers = equal_among (λ w. (facts r).listed w d.id) (number_of f key d.id) d.words in
-    let listed = c.as_slice-listed.ensures.value ∙ c.in_ok-parts.ensures.listed ∙ ap (λ id. listed_places r id ns) c.id.ensures in
-    let number_at : ℕ → NumberedWord → List ℕ = λ id place. number_of f key id (word_at r place) in
-    let given : c.in_ok-numbers.numbers ≡ map (number_at d.id) (listed_places r d.id ns) =
-    c.in_ok-numbers.ensures.numbers (c.entries_of.ensures.keeps had) ∙ ap (map (number_at (id_number c.id-3.result))) listed ∙ ap (λ id. map (number_at id) (listed_places r d.id ns)) c.id-3.ensures in
-    let number_order : IsOrderOf c.in_ok-numbers.numbers c.as_slice-3.result.now = subst (IsOrderOf c.in_ok-numbers.numbers) (sym c.as_slice-3.ensures.value) c.in_ok-numbers-2.ensures.order in
-    let at_numbers : c.number_clash.result ≡ option_map (λ two. NumberClash two.0 two.1) numbers =
-    c.number_clash.ensures c.in_ok-numbers.numbers number_order ∙ ap (λ ps. number_fault ps c.in_ok-numbers.numbers) listed
-    ∙ ap (option_map (λ two. NumberClash two.0 two.1)) (numbers_at r d ns are f key c.in_ok-numbers.numbers given) in
-    let none : None ≡ option_map (λ two. LabelClash two.0 two.1) labels = sym c.in_default.is ∙ at_labels in
-    goes_to_numbers labels numbers (Some c.in-Some-number_clash.fault) none (sym c.in-Some-number_clash.is ∙ at_numbers)
+    let tags = map label c.as_slice-made.result.now in
+    let order : IsOrderOf tags c.as_slice-labels.result.now = subst (IsOrderOf tags) (sym c.as_slice-labels.ensures.value) (c.in_ok-labels-2.ensures.order tags c.in_ok-labels.ensures) in
+    let number_order : IsOrderOf c.in_ok-numbers.numbers c.as_slice-numbers.result.now = subst (IsOrderOf c.in_ok-numbers.numbers) (sym c.as_slice-numbers.ensures.value) c.in_ok-numbers-2.ensures.order in
+    let fresh = c.as_slice-fresh.result.now in
+    let listed = c.as_slice-listed.result.now in
+    let neither = neither_named (label_fault fresh tags) (number_fault listed c.in_ok-numbers.numbers) (sym (c.add_clash-clash.ensures tags c.in_ok-numbers.numbers order number_order) ∙ none) in
+    let no_labels = none_equal fresh tags (unmapped (λ two. LabelClash two.0 two.1) (equal_at fresh tags) neither.0) in
+    let no_numbers = none_equal listed c.in_ok-numbers.numbers (unmapped (λ two. NumberClash two.0 two.1) (equal_at listed c.in_ok-numbers.numbers) neither.1) in (
+      Rises-sorted label c.as_slice-made.result.now c.as_slice.result.now (c.as_slice.ensures.value ∙ c.in_ok-entries.ensures) (IsDistinct-first_clash tags no_labels),
+      Rises-numbers c.in_ok-numbers.numbers c.as_slice-2.result.now
+          (c.as_slice-2.ensures.value ∙ c.in_ok-sent.ensures ∙ ap (map tag) c.as_slice-numbers.ensures.value ∙ c.in_ok-numbers-2.ensures.numbers) no_numbers,
+    )
 
 pub returns-clause-fault : goal.returns-clause-fault
 returns-clause-fault g c =
@@ -172,28 +124,30 @@ returns-clause-fault g c =
     let ns = c.args.words.now in
     let are = c.requires.numbered.words_are in
     let fresh = c.as_slice-fresh.ensures.value ∙ c.in_ok-parts.ensures.fresh ∙ ap (λ id. fresh_places r id ns) c.id.ensures in
-    let entry : ℕ → NumberedWord → Entry = λ id place. next_entry_of f key (facts r) id (word_at r place) in
-    let made : map entry_text c.in_ok-entries.entries.items ≡ map (entry d.id) (fresh_places r d.id ns) =
-    c.in_ok-entries.ensures.entries had ∙ ap (map (entry (id_number c.id-2.result))) fresh ∙ ap (λ id. map (entry id) (fresh_places r d.id ns)) c.id-2.ensures in
-    let label : Made → List ℕ = λ e. e.label in
-    let tags = map label c.as_slice.result.now in
-    let order : IsOrderOf tags c.as_slice-2.result.now = subst (IsOrderOf tags) (sym c.as_slice-2.ensures.value) (c.in_ok-labels-2.ensures.order tags c.in_ok-labels.ensures) in
-    let labels = equal_among (λ w. not ((facts r).listed w d.id)) (λ w. (next_entry_of f key (facts r) d.id w).label) d.words in
-    let at_labels : c.label_clash.result ≡ option_map (λ two. LabelClash two.0 two.1) labels =
-    c.label_clash.ensures tags order ∙ ap (λ ps. label_fault ps tags) fresh
-    ∙ ap (λ es. label_fault (fresh_places r d.id ns) (map label es)) c.as_slice.ensures.value
-    ∙ ap (option_map (λ two. LabelClash two.0 two.1)) (labels_at r d ns are f key c.in_ok-entries.entries.items made) in
-    let numbers = equal_among (λ w. (facts r).listed w d.id) (number_of f key d.id) d.words in
     let listed = c.as_slice-listed.ensures.value ∙ c.in_ok-parts.ensures.listed ∙ ap (λ id. listed_places r id ns) c.id.ensures in
+    let entry : ℕ → NumberedWord → Entry = λ id place. next_entry_of f key (facts r) id (word_at r place) in
+    let made : map entry_text c.in_ok-made.made.items ≡ map (entry d.id) (fresh_places r d.id ns) =
+    c.in_ok-made.ensures.entries had ∙ ap (map (entry (id_number c.id-2.result))) fresh ∙ ap (λ id. map (entry id) (fresh_places r d.id ns)) c.id-2.ensures in
     let number_at : ℕ → NumberedWord → List ℕ = λ id place. number_of f key id (word_at r place) in
     let given : c.in_ok-numbers.numbers ≡ map (number_at d.id) (listed_places r d.id ns) =
     c.in_ok-numbers.ensures.numbers (c.entries_of.ensures.keeps had) ∙ ap (map (number_at (id_number c.id-3.result))) listed ∙ ap (λ id. map (number_at id) (listed_places r d.id ns)) c.id-3.ensures in
-    let number_order : IsOrderOf c.in_ok-numbers.numbers c.as_slice-3.result.now = subst (IsOrderOf c.in_ok-numbers.numbers) (sym c.as_slice-3.ensures.value) c.in_ok-numbers-2.ensures.order in
-    let at_numbers : c.number_clash.result ≡ option_map (λ two. NumberClash two.0 two.1) numbers =
-    c.number_clash.ensures c.in_ok-numbers.numbers number_order ∙ ap (λ ps. number_fault ps c.in_ok-numbers.numbers) listed
+    let label : Made → List ℕ = λ e. e.label in
+    let tags = map label c.as_slice-made.result.now in
+    let order : IsOrderOf tags c.as_slice-labels.result.now = subst (IsOrderOf tags) (sym c.as_slice-labels.ensures.value) (c.in_ok-labels-2.ensures.order tags c.in_ok-labels.ensures) in
+    let number_order : IsOrderOf c.in_ok-numbers.numbers c.as_slice-numbers.result.now = subst (IsOrderOf c.in_ok-numbers.numbers) (sym c.as_slice-numbers.ensures.value) c.in_ok-numbers-2.ensures.order in
+    let labels = equal_among (λ w. not ((facts r).listed w d.id)) (λ w. (next_entry_of f key (facts r) d.id w).label) d.words in
+    let numbers = equal_among (λ w. (facts r).listed w d.id) (number_of f key d.id) d.words in
+    let at_labels : label_fault c.as_slice-fresh.result.now tags ≡ option_map (λ two. LabelClash two.0 two.1) labels =
+    ap (λ ps. label_fault ps tags) fresh
+    ∙ ap (λ es. label_fault (fresh_places r d.id ns) (map label es)) c.as_slice-made.ensures.value
+    ∙ ap (option_map (λ two. LabelClash two.0 two.1)) (labels_at r d ns are f key c.in_ok-made.made.items made) in
+    let at_numbers : number_fault c.as_slice-listed.result.now c.in_ok-numbers.numbers ≡ option_map (λ two. NumberClash two.0 two.1) numbers =
+    ap (λ ps. number_fault ps c.in_ok-numbers.numbers) listed
     ∙ ap (option_map (λ two. NumberClash two.0 two.1)) (numbers_at r d ns are f key c.in_ok-numbers.numbers given) in
-    let none : None ≡ option_map (λ two. LabelClash two.0 two.1) labels = sym c.in_default.is ∙ at_labels in
-    goes_to_numbers labels numbers None none (sym c.in_default-number_clash.is ∙ at_numbers)
+    c.checked_addition.ensures.fault some
+    ∙ c.add_clash-clash.ensures tags c.in_ok-numbers.numbers order number_order
+    ∙ (λ i. option_or (at_labels i) (at_numbers i))
+    ∙ fault_of_both labels numbers
 
 pub returns-clause-bytes : goal.returns-clause-bytes
 returns-clause-bytes g c =
@@ -206,20 +160,19 @@ returns-clause-bytes g c =
     let are = c.requires.numbered.words_are in
     let fresh = c.as_slice-fresh.ensures.value ∙ c.in_ok-parts.ensures.fresh ∙ ap (λ id. fresh_places r id ns) c.id.ensures in
     let entry : ℕ → NumberedWord → Entry = λ id place. next_entry_of f key (facts r) id (word_at r place) in
-    let made : map entry_text c.in_ok-entries.entries.items ≡ map (entry d.id) (fresh_places r d.id ns) =
-    c.in_ok-entries.ensures.entries had ∙ ap (map (entry (id_number c.id-2.result))) fresh ∙ ap (λ id. map (entry id) (fresh_places r d.id ns)) c.id-2.ensures in
+    let made : map entry_text c.in_ok-made.made.items ≡ map (entry d.id) (fresh_places r d.id ns) =
+    c.in_ok-made.ensures.entries had ∙ ap (map (entry (id_number c.id-2.result))) fresh ∙ ap (λ id. map (entry id) (fresh_places r d.id ns)) c.id-2.ensures in
     let listed = c.as_slice-listed.ensures.value ∙ c.in_ok-parts.ensures.listed ∙ ap (λ id. listed_places r id ns) c.id.ensures in
     let number_at : ℕ → NumberedWord → List ℕ = λ id place. number_of f key id (word_at r place) in
     let given : c.in_ok-numbers.numbers ≡ map (number_at d.id) (listed_places r d.id ns) =
     c.in_ok-numbers.ensures.numbers (c.entries_of.ensures.keeps had) ∙ ap (map (number_at (id_number c.id-3.result))) listed ∙ ap (λ id. map (number_at id) (listed_places r d.id ns)) c.id-3.ensures in
     let label : Entry → List ℕ = λ e. e.label in
     let tag : Tagged → List ℕ = λ e. e.tag in
-    let sorted : map entry_text c.as_slice-5.result.now ≡ by_bytes label (entries_added f key (facts r) d) =
-    ap (map entry_text) (c.as_slice-5.ensures.value ∙ c.in_ok-entries-2.ensures.sorted) ∙ map-by_bytes entry_text label c.in_ok-entries.entries.items
-    ∙ ap (by_bytes label) (entries_are_added r d ns are f key c.in_ok-entries.entries.items made) in
-    let rising : c.as_slice-6.result.now ≡ by_bytes (λ number. number) (numbers_added f key (facts r) d) =
-    c.as_slice-6.ensures.value ∙ c.in_ok-numbers-3.ensures ∙ ap (map tag) c.as_slice-4.ensures.value ∙ c.in_ok-numbers-2.ensures.numbers
+    let sorted : map entry_text c.as_slice.result.now ≡ by_bytes label (entries_added f key (facts r) d) =
+    ap (map entry_text) (c.as_slice.ensures.value ∙ c.in_ok-entries.ensures ∙ ap (by_bytes (λ e. e.label)) c.as_slice-made.ensures.value) ∙ map-by_bytes entry_text label c.in_ok-made.made.items
+    ∙ ap (by_bytes label) (entries_are_added r d ns are f key c.in_ok-made.made.items made) in
+    let rising : c.as_slice-2.result.now ≡ by_bytes (λ number. number) (numbers_added f key (facts r) d) =
+    c.as_slice-2.ensures.value ∙ c.in_ok-sent.ensures ∙ ap (map tag) c.as_slice-numbers.ensures.value ∙ c.in_ok-numbers-2.ensures.numbers
     ∙ ap (by_bytes (λ number. number)) (numbers_are_added r d ns are f key c.in_ok-numbers.numbers given) in
-    c.in_ok-add_frame.ensures.bytes
-    ∙ ap (λ es. frame_bytes (AddFrame c.args.q es c.as_slice-6.result.now)) sorted
-    ∙ ap (λ ns. frame_bytes (AddFrame c.args.q (by_bytes label (entries_added f key (facts r) d)) ns)) rising
+    subst (λ (text : List Entry × List (List ℕ)). IfOk c.checked_addition.result (λ bytes. bytes.items ≡ frame_bytes (AddFrame c.args.q text.0 text.1)))
+    (λ i. (sorted i, rising i)) c.checked_addition.ensures.bytes

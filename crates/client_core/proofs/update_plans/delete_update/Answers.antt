@@ -1,5 +1,5 @@
 use Rattle.std.proofs.Common.{◌≡◌, ◌<◌, List, ℕ, [], true, length, map, sym, ap, subst, ◌∙◌, arith}
-use Rattle.std.specs.Prelude.{All, IfSome, option_map, slice_index_or, unwrap_or}
+use Rattle.std.specs.Prelude.{All, IfOk, IfSome, option_map, slice_index_or, unwrap_or}
 use Rattle.std.proofs.lemmas.List.{length-map}
 use Rattle.client_registry.specs.DocumentRule.{IsDocument}
 use Rattle.client_registry.specs.IdNumber.{id_number}
@@ -47,13 +47,13 @@ sorted-requires g c =
       c.in_ok-numbers.ensures.count,
     )
 
-pub number_clash-requires : goal.number_clash-requires
-number_clash-requires g c =
-    let order : IsOrderOf c.in_ok-numbers.numbers c.as_slice.result.now = subst (IsOrderOf c.in_ok-numbers.numbers) (sym c.as_slice.ensures.value) c.in_ok-numbers-2.ensures.order in
+pub number_clash-clash-requires : goal.number_clash-clash-requires
+number_clash-clash-requires g c =
+    let order : IsOrderOf c.in_ok-numbers.numbers c.as_slice-numbers.result.now = subst (IsOrderOf c.in_ok-numbers.numbers) (sym c.as_slice-numbers.ensures.value) c.in_ok-numbers-2.ensures.order in
     (c.in_ok-numbers.numbers, order, c.in_ok-numbers.ensures.count)
 
-pub delete_frame-requires-clause-count : goal.delete_frame-requires-clause-count
-delete_frame-requires-clause-count g c =
+pub checked_deletion-requires-clause-count : goal.checked_deletion-requires-clause-count
+checked_deletion-requires-clause-count g c =
     let tag : Tagged → List ℕ = λ e. e.tag in
     let valid = subst (λ o. IfSome o (λ doc. IsDocument (document_by (known_words c.args.registry.now) doc))) c.unwrap-doc.ensures c.get.ensures.valid in
     omega (
@@ -64,39 +64,18 @@ delete_frame-requires-clause-count g c =
       length-map c.in_ok-places.places.items (λ place. place.number),
       ap length c.in_ok-places.ensures.numbers,
       c.in_ok-numbers.ensures.count,
-      ap length (c.as_slice-3.ensures.value ∙ c.in_ok-numbers-3.ensures ∙ ap (map tag) c.as_slice-2.ensures.value ∙ c.in_ok-numbers-2.ensures.numbers),
+      ap length (c.as_slice.ensures.value ∙ c.in_ok-sent.ensures ∙ ap (map tag) c.as_slice-numbers.ensures.value ∙ c.in_ok-numbers-2.ensures.numbers),
       length-by_bytes (λ number. number) c.in_ok-numbers.numbers,
     )
 
-pub delete_frame-requires-clause-numbers_rise : goal.delete_frame-requires-clause-numbers_rise
-delete_frame-requires-clause-numbers_rise g c =
+pub checked_deletion-requires-clause-rise : goal.checked_deletion-requires-clause-rise
+checked_deletion-requires-clause-rise g c =
+    λ none.
     let tag : Tagged → List ℕ = λ e. e.tag in
-    let order : IsOrderOf c.in_ok-numbers.numbers c.as_slice.result.now = subst (IsOrderOf c.in_ok-numbers.numbers) (sym c.as_slice.ensures.value) c.in_ok-numbers-2.ensures.order in
-    let none = none_equal c.as_slice-places.result.now c.in_ok-numbers.numbers (unmapped (λ two. NumberClash two.0 two.1) (equal_at c.as_slice-places.result.now c.in_ok-numbers.numbers) (sym (c.number_clash.ensures c.in_ok-numbers.numbers order) ∙ c.in_default.is)) in
-    Rises-numbers c.in_ok-numbers.numbers c.as_slice-3.result.now
-    (c.as_slice-3.ensures.value ∙ c.in_ok-numbers-3.ensures ∙ ap (map tag) c.as_slice-2.ensures.value ∙ c.in_ok-numbers-2.ensures.numbers) none
-
-pub returns-in-Some-clause-fault : goal.returns-in-Some-clause-fault
-returns-in-Some-clause-fault g c =
-    λ had some.
-    let f = keyed_fn g.K.Keyed.prf g.K.Keyed.pad in
-    let r = c.args.registry.now in
-    let key = c.args.master.now in
-    let id = id_number c.args.id in
-    let table = known_words r in
-    let items = c.in_ok-places.places.items in
-    let doc = c.unwrap-doc.result.numbers.now in
-    let words : words_by_number table doc ≡ unwrap_or ((facts r).live id) [] =
-    ap (λ o. unwrap_or o []) (sym (ap (option_map (λ d. words_by_number table d.numbers.now)) c.unwrap-doc.ensures) ∙ c.get.ensures.live) in
-    let given : c.in_ok-numbers.numbers ≡ map (λ place. number_of f key id (slice_index_or table place.number [])) items =
-    c.in_ok-numbers.ensures.numbers had ∙ ap (map (λ (place : NumberedWord). number_of f key id (slice_index_or table place.number []))) c.as_slice-places.ensures.value in
-    let order : IsOrderOf c.in_ok-numbers.numbers c.as_slice.result.now = subst (IsOrderOf c.in_ok-numbers.numbers) (sym c.as_slice.ensures.value) c.in_ok-numbers-2.ensures.order in
-    let clashes = equal_among (λ w. true) (number_of f key id) (unwrap_or ((facts r).live id) []) in
-    let at : c.number_clash.result ≡ option_map (λ two. NumberClash two.0 two.1) clashes =
-    c.number_clash.ensures c.in_ok-numbers.numbers order ∙ ap (λ ps. number_fault ps c.in_ok-numbers.numbers) c.as_slice-places.ensures.value
-    ∙ ap (option_map (λ two. NumberClash two.0 two.1))
-    (all_equal table doc items c.in_ok-places.ensures.numbers (number_of f key id) c.in_ok-numbers.numbers c.in_ok-places.ensures.positions given ∙ ap (equal_among (λ w. true) (number_of f key id)) words) in
-    sym c.in-Some.is ∙ at ∙ clash_of_numbers clashes
+    let order : IsOrderOf c.in_ok-numbers.numbers c.as_slice-numbers.result.now = subst (IsOrderOf c.in_ok-numbers.numbers) (sym c.as_slice-numbers.ensures.value) c.in_ok-numbers-2.ensures.order in
+    let no_numbers = none_equal c.as_slice-places.result.now c.in_ok-numbers.numbers (unmapped (λ two. NumberClash two.0 two.1) (equal_at c.as_slice-places.result.now c.in_ok-numbers.numbers) (sym (c.number_clash-clash.ensures c.in_ok-numbers.numbers order) ∙ none)) in
+    Rises-numbers c.in_ok-numbers.numbers c.as_slice.result.now
+    (c.as_slice.ensures.value ∙ c.in_ok-sent.ensures ∙ ap (map tag) c.as_slice-numbers.ensures.value ∙ c.in_ok-numbers-2.ensures.numbers) no_numbers
 
 pub returns-clause-fault : goal.returns-clause-fault
 returns-clause-fault g c =
@@ -112,13 +91,13 @@ returns-clause-fault g c =
     ap (λ o. unwrap_or o []) (sym (ap (option_map (λ d. words_by_number table d.numbers.now)) c.unwrap-doc.ensures) ∙ c.get.ensures.live) in
     let given : c.in_ok-numbers.numbers ≡ map (λ place. number_of f key id (slice_index_or table place.number [])) items =
     c.in_ok-numbers.ensures.numbers had ∙ ap (map (λ (place : NumberedWord). number_of f key id (slice_index_or table place.number []))) c.as_slice-places.ensures.value in
-    let order : IsOrderOf c.in_ok-numbers.numbers c.as_slice.result.now = subst (IsOrderOf c.in_ok-numbers.numbers) (sym c.as_slice.ensures.value) c.in_ok-numbers-2.ensures.order in
+    let order : IsOrderOf c.in_ok-numbers.numbers c.as_slice-numbers.result.now = subst (IsOrderOf c.in_ok-numbers.numbers) (sym c.as_slice-numbers.ensures.value) c.in_ok-numbers-2.ensures.order in
     let clashes = equal_among (λ w. true) (number_of f key id) (unwrap_or ((facts r).live id) []) in
-    let at : c.number_clash.result ≡ option_map (λ two. NumberClash two.0 two.1) clashes =
-    c.number_clash.ensures c.in_ok-numbers.numbers order ∙ ap (λ ps. number_fault ps c.in_ok-numbers.numbers) c.as_slice-places.ensures.value
+    let at : c.number_clash-clash.result ≡ option_map (λ two. NumberClash two.0 two.1) clashes =
+    c.number_clash-clash.ensures c.in_ok-numbers.numbers order ∙ ap (λ ps. number_fault ps c.in_ok-numbers.numbers) c.as_slice-places.ensures.value
     ∙ ap (option_map (λ two. NumberClash two.0 two.1))
     (all_equal table doc items c.in_ok-places.ensures.numbers (number_of f key id) c.in_ok-numbers.numbers c.in_ok-places.ensures.positions given ∙ ap (equal_among (λ w. true) (number_of f key id)) words) in
-    sym c.in_default.is ∙ at ∙ clash_of_numbers clashes
+    c.checked_deletion.ensures.fault some ∙ at ∙ clash_of_numbers clashes
 
 pub returns-clause-bytes : goal.returns-clause-bytes
 returns-clause-bytes g c =
@@ -135,7 +114,7 @@ returns-clause-bytes g c =
     ap (λ o. unwrap_or o []) (sym (ap (option_map (λ d. words_by_number table d.numbers.now)) c.unwrap-doc.ensures) ∙ c.get.ensures.live) in
     let given : c.in_ok-numbers.numbers ≡ map (λ place. number_of f key id (slice_index_or table place.number [])) items =
     c.in_ok-numbers.ensures.numbers had ∙ ap (map (λ (place : NumberedWord). number_of f key id (slice_index_or table place.number []))) c.as_slice-places.ensures.value in
-    c.in_ok-delete_frame.ensures.bytes
-    ∙ ap (λ ns. frame_bytes (DeleteFrame c.args.q ns))
-    (c.as_slice-3.ensures.value ∙ c.in_ok-numbers-3.ensures ∙ ap (map tag) c.as_slice-2.ensures.value ∙ c.in_ok-numbers-2.ensures.numbers
+    subst (λ ns. IfOk c.checked_deletion.result (λ bytes. bytes.items ≡ frame_bytes (DeleteFrame c.args.q ns)))
+    (c.as_slice.ensures.value ∙ c.in_ok-sent.ensures ∙ ap (map tag) c.as_slice-numbers.ensures.value ∙ c.in_ok-numbers-2.ensures.numbers
     ∙ ap (by_bytes (λ number. number)) (all_values table doc items c.in_ok-places.ensures.numbers (number_of f key id) c.in_ok-numbers.numbers given ∙ ap (map (number_of f key id)) words))
+    c.checked_deletion.ensures.bytes

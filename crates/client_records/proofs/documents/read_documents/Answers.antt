@@ -3,8 +3,9 @@ use Rattle.std.specs.List.{flat_map}
 use Rattle.std.proofs.lemmas.List.{length_push}
 use Rattle.client_registry.specs.Document.{Document}
 use Rattle.client_records.specs.Records.{document_field}
-use Rattle.client_records.specs.declared.fault.ReadFault.TheVariants.{BadRecord}
+use Rattle.client_records.specs.declared.fault.ReadFault.TheVariants.{BadRecord, NoMemory}
 use Rattle.client_records.proofs.Absent.{no_documents, no_documents_refused, one_more}
+use Rattle.client_records.proofs.MemoryLaws.{begins_with}
 use Rattle.client_records.proofs.documents.read_documents.Goals as goal
 
 pub returns-in_err-doc-clause-none : goal.returns-in_err-doc-clause-none
@@ -49,3 +50,25 @@ returns-clause-documents c = record {
 
 pub returns-clause-keys : goal.returns-clause-keys
 returns-clause-keys c = c.loop-alloc.invariant.keys
+
+pub returns-in_err-doc-clause-memory : goal.returns-in_err-doc-clause-memory
+returns-in_err-doc-clause-memory c =
+    λ memory. let was : c.read_document.result ≡ Err NoMemory = search rules in
+    record {
+      before = c.loop-alloc.docs.documents;
+      rest = c.loop-alloc.unread;
+      collected = c.len.ensures.valid;
+      fewer = omega (arith, c.len.ensures.len, c.loop-alloc-test.true);
+      are = c.loop-alloc.invariant.read;
+      begins = c.read_document.ensures.memory was;
+    }
+
+pub returns-in_err-collect-clause-memory : goal.returns-in_err-collect-clause-memory
+returns-in_err-collect-clause-memory c = λ memory. record {
+  before = c.loop-alloc.docs.documents;
+  rest = c.loop-alloc.unread;
+  collected = c.len.ensures.valid;
+  fewer = omega (arith, c.len.ensures.len, c.loop-alloc-test.true);
+  are = c.loop-alloc.invariant.read;
+  begins = begins_with c.loop-alloc.unread c.read_document.new.unread c.in_ok-doc.doc c.in_ok-doc.ensures.valid c.in_ok-doc.ensures.read;
+}

@@ -1,5 +1,5 @@
 use Rattle.std.proofs.Common.{rules, ◌≡◌, Err}
-use Rattle.client_records.specs.declared.fault.ReadFault.TheVariants.{BadRecord}
+use Rattle.client_records.specs.declared.fault.ReadFault.TheVariants.{BadRecord, NoMemory}
 use Rattle.client_records.proofs.Absent.{no_documents_more, no_documents_whole}
 use Rattle.client_records.proofs.documents.read_whole_documents.Goals as goal
 
@@ -12,3 +12,14 @@ pub returns-in_err-docs-clause-none : goal.returns-in_err-docs-clause-none
 returns-in_err-docs-clause-none c =
     λ bad. let was : c.read_documents.result ≡ Err BadRecord = search rules in
     no_documents_whole c.args.unread c.read_u32.new.self c.in_ok-count.count (search rules) c.in_ok-count.ensures.read (c.read_documents.ensures.none was)
+
+pub returns-in_err-docs-clause-memory : goal.returns-in_err-docs-clause-memory
+returns-in_err-docs-clause-memory c =
+    λ memory. let was : c.read_documents.result ≡ Err NoMemory = search rules in
+    record {
+      count = c.in_ok-count.count;
+      rest = c.read_u32.new.self;
+      fits = search rules;
+      are = c.in_ok-count.ensures.read;
+      begins = c.read_documents.ensures.memory was;
+    }

@@ -26,6 +26,6 @@ loop-preserved c =
           one_more word_field c.args.unread.now c.loop.unread c.read_word.new.unread done word c.loop.invariant.read c.in_ok-read_word.ensures.read
           ∙ ap (λ (ws : List (List ℕ)). flat_map word_field ws ++ c.read_word.new.unread) (sym grown);
       count = omega (arith, c.push_reserved.ensures.len, c.loop.invariant.count);
-      room = c.push_reserved.ensures.capacity ∙ c.loop.invariant.room;
+      room = omega (arith, c.push_reserved.ensures.capacity, c.loop.invariant.room);
       each = subst (All IsWord) (sym grown) (All-push IsWord done word c.loop.invariant.each c.in_ok-read_word.ensures.word);
     }

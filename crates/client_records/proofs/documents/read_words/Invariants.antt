@@ -1,4 +1,4 @@
-use Rattle.std.proofs.Common.{◌≡◌, ◌++◌, map, vec_capacity, vec_len}
+use Rattle.std.proofs.Common.{◌≡◌, ◌≤◌, ◌++◌, map, vec_capacity, vec_len}
 use Rattle.std.specs.Prelude.{All}
 use Rattle.std.specs.List.{flat_map}
 use Rattle.client_registry.specs.WordBytes.{word_bytes}
@@ -10,6 +10,6 @@ abbrev pub invariant-loop : goal.invariant-loop
 invariant-loop l = record {
   read : l.initial.unread ≡ flat_map word_field (map word_bytes l.words.items) ++ l.unread;
   count : vec_len l.words ≡ l.counter;
-  room : vec_capacity l.words ≡ l.count;
+  room : l.count ≤ vec_capacity l.words;
   each : All IsWord (map word_bytes l.words.items);
 }

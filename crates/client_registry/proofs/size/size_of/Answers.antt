@@ -11,10 +11,10 @@ use Rattle.client_registry.specs.declared.faults.SizeFault.TheVariants.{TooManyB
 use Rattle.client_registry.proofs.size.size_of.Goals as goal
 
 -- the first list that is too long is named
-list_named : (c : goal.After-from_residual-in_err-blocks) → size_refusal (setup_with c.args.docs.now.documents c.args.b c.args.big c.args.pad) ≡ Some c.in_err-blocks.field-0.0
+list_named : (c : goal.After-from_residual-in_err-blocks) → size_refusal (setup_with c.args.docs.now.documents c.args.sizes.b c.args.sizes.big c.args.sizes.pad) ≡ Some c.in_err-blocks.field-0.0
 list_named c =
     let docs = c.args.docs.now.documents in
-    refused_by_list (setup_with docs c.args.b c.args.big c.args.pad) (sym c.in_ok-shape.ensures.refused) c.in_err-blocks.field-0.0
+    refused_by_list (setup_with docs c.args.sizes.b c.args.sizes.big c.args.sizes.pad) (sym c.in_ok-shape.ensures.refused) c.in_err-blocks.field-0.0
     (ap (λ (shape : Shape). list_refusal (setup_of docs shape.b shape.big)) (sym c.in_ok-shape.ensures.shape) ∙ c.in_err-blocks.ensures.too_long)
 
 pub returns-in_err-blocks-clause-refused : goal.returns-in_err-blocks-clause-refused
@@ -28,21 +28,21 @@ returns-in_err-blocks-clause-accepted c = λ none. absurd (cc (list_named c, non
 pub overflow_add-bytes-2 : goal.overflow_add-bytes-2
 overflow_add-bytes-2 c =
     let limits = c.in_ok-shape.ensures.limits in
-    let entries : c.padded-padded_words.result * (17 + 8 * c.args.b) ≤ c.padded-padded_words.result * 529 = mul-le-mul_left c.padded-padded_words.result (omega (arith, limits)) in
-    let array : c.padded-padded_blocks.result * (8 * c.args.big) ≤ c.padded-padded_blocks.result * 2048 = mul-le-mul_left c.padded-padded_blocks.result (omega (arith, limits)) in
-    omega (arith, entries, array, pad_bounds c.args.pad c.in_ok-shape.ensures.pad, c.padded-padded_words.ensures.within, c.padded-padded_blocks.ensures.within, c.words-words.ensures.within, c.in_ok-blocks.ensures.within)
+    let entries : c.padded-padded_words.result * (17 + 8 * c.args.sizes.b) ≤ c.padded-padded_words.result * 529 = mul-le-mul_left c.padded-padded_words.result (omega (arith, limits)) in
+    let array : c.padded-padded_blocks.result * (8 * c.args.sizes.big) ≤ c.padded-padded_blocks.result * 2048 = mul-le-mul_left c.padded-padded_blocks.result (omega (arith, limits)) in
+    omega (arith, entries, array, pad_bounds c.args.sizes.pad c.in_ok-shape.ensures.pad, c.padded-padded_words.ensures.within, c.padded-padded_blocks.ensures.within, c.words-words.ensures.within, c.in_ok-blocks.ensures.within)
 
 -- too many bytes are named
 bytes_named : (c : goal.Then-bytes-gt-MAX_INDEX_BYTES)
-    → size_refusal (setup_with c.args.docs.now.documents c.args.b c.args.big c.args.pad) ≡ Some (TooManyBytes (c.padded-padded_words.result * (17 + 8 * c.args.b) + c.padded-padded_blocks.result * (8 * c.args.big)))
+    → size_refusal (setup_with c.args.docs.now.documents c.args.sizes.b c.args.sizes.big c.args.sizes.pad) ≡ Some (TooManyBytes (c.padded-padded_words.result * (17 + 8 * c.args.sizes.b) + c.padded-padded_blocks.result * (8 * c.args.sizes.big)))
 bytes_named c =
     let docs = c.args.docs.now.documents in
-    let s = setup_with docs c.args.b c.args.big c.args.pad in
+    let s = setup_with docs c.args.sizes.b c.args.sizes.big c.args.sizes.pad in
     let fit = ap (λ (shape : Shape). list_refusal (setup_of docs shape.b shape.big)) (sym c.in_ok-shape.ensures.shape) ∙ c.in_ok-blocks.ensures.fit in
     let blocks = c.in_ok-blocks.ensures.blocks ∙ ap (λ (shape : Shape). blocks_of (setup_of docs shape.b shape.big)) c.in_ok-shape.ensures.shape in
-    let bytes = index_bytes-padded s (pad_bounds c.args.pad c.in_ok-shape.ensures.pad).0 c.padded-padded_words.result c.padded-padded_blocks.result
-    (c.padded-padded_words.ensures.multiple ∙ ap (padded c.args.pad) c.words-words.ensures.words)
-    (c.padded-padded_blocks.ensures.multiple ∙ ap (padded c.args.pad) blocks) in
+    let bytes = index_bytes-padded s (pad_bounds c.args.sizes.pad c.in_ok-shape.ensures.pad).0 c.padded-padded_words.result c.padded-padded_blocks.result
+    (c.padded-padded_words.ensures.multiple ∙ ap (padded c.args.sizes.pad) c.words-words.ensures.words)
+    (c.padded-padded_blocks.ensures.multiple ∙ ap (padded c.args.sizes.pad) blocks) in
     refused_by_bytes s (sym c.in_ok-shape.ensures.refused) fit (omega (arith, c.if-bytes-gt-MAX_INDEX_BYTES.true, bytes)) ∙ ap (λ n. Some (TooManyBytes n)) (sym bytes)
 
 pub returns-then-bytes-gt-MAX_INDEX_BYTES-clause-refused : goal.returns-then-bytes-gt-MAX_INDEX_BYTES-clause-refused
@@ -55,10 +55,10 @@ returns-then-bytes-gt-MAX_INDEX_BYTES-clause-accepted c = λ none. absurd (cc (b
 pub returns-clause-refused : goal.returns-clause-refused
 returns-clause-refused c =
     let docs = c.args.docs.now.documents in
-    let s = setup_with docs c.args.b c.args.big c.args.pad in
+    let s = setup_with docs c.args.sizes.b c.args.sizes.big c.args.sizes.pad in
     let fit = ap (λ (shape : Shape). list_refusal (setup_of docs shape.b shape.big)) (sym c.in_ok-shape.ensures.shape) ∙ c.in_ok-blocks.ensures.fit in
     let blocks = c.in_ok-blocks.ensures.blocks ∙ ap (λ (shape : Shape). blocks_of (setup_of docs shape.b shape.big)) c.in_ok-shape.ensures.shape in
-    let bytes = index_bytes-padded s (pad_bounds c.args.pad c.in_ok-shape.ensures.pad).0 c.padded-padded_words.result c.padded-padded_blocks.result
-    (c.padded-padded_words.ensures.multiple ∙ ap (padded c.args.pad) c.words-words.ensures.words)
-    (c.padded-padded_blocks.ensures.multiple ∙ ap (padded c.args.pad) blocks) in
+    let bytes = index_bytes-padded s (pad_bounds c.args.sizes.pad c.in_ok-shape.ensures.pad).0 c.padded-padded_words.result c.padded-padded_blocks.result
+    (c.padded-padded_words.ensures.multiple ∙ ap (padded c.args.sizes.pad) c.words-words.ensures.words)
+    (c.padded-padded_blocks.ensures.multiple ∙ ap (padded c.args.sizes.pad) blocks) in
     rw (not_refused s (sym c.in_ok-shape.ensures.refused) fit (omega (arith, c.if-bytes-gt-MAX_INDEX_BYTES.false, bytes))) tt

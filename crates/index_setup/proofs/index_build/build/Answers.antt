@@ -12,25 +12,25 @@ use Rattle.index_setup.proofs.index_build.build.Goals as goal
 pub build_sized-requires : goal.build_sized-requires
 build_sized-requires g c =
     let told = c.in_ok-size.ensures in
-    IsSizeOf-told c.args.docs.now.documents c.args.b c.args.big c.args.pad c.in_ok-size.size told.shape told.pad told.refused told.words told.blocks told.padded_words told.padded_blocks
+    IsSizeOf-told c.args.docs.now.documents c.args.sizes.b c.args.sizes.big c.args.sizes.pad c.in_ok-size.size told.shape told.pad told.refused told.words told.blocks told.padded_words told.padded_blocks
 
 pub returns-clause-refused : goal.returns-clause-refused
 returns-clause-refused g c =
-    let none = none_of_ok (size_refusal (setup_with c.args.docs.now.documents c.args.b c.args.big c.args.pad)) c.in_ok-size.size c.in_ok-size.ensures.refused in
+    let none = none_of_ok (size_refusal (setup_with c.args.docs.now.documents c.args.sizes.b c.args.sizes.big c.args.sizes.pad)) c.in_ok-size.size c.in_ok-size.ensures.refused in
     subst (λ o. IfSome o (λ fault. c.build_sized.result ≡ Err (refused_by_size fault))) (sym none) tt
 
 pub returns-clause-clash : goal.returns-clause-clash
 returns-clause-clash g c = λ _ some.
     let f = keyed_fn g.K.Keyed.prf g.K.Keyed.pad in
-    let s = setup_with c.args.docs.now.documents c.args.b c.args.big c.args.pad in
-    let same = sized_as c.args.docs.now.documents c.args.b c.args.big c.args.pad c.in_ok-size.size c.in_ok-size.ensures.shape c.in_ok-size.ensures.pad in
+    let s = setup_with c.args.docs.now.documents c.args.sizes.b c.args.sizes.big c.args.sizes.pad in
+    let same = sized_as c.args.docs.now.documents c.args.sizes.b c.args.sizes.big c.args.sizes.pad c.in_ok-size.size c.in_ok-size.ensures.shape c.in_ok-size.ensures.pad in
     fails_by c.build_sized.result (clash_refusal f c.args.key.now s) (c.build_sized.ensures.clash some ∙ (λ i. clash_refusal f (c.prepare-master.ensures i) (same i)))
 
 pub returns-clause-built : goal.returns-clause-built
 returns-clause-built g c = λ clear.
     let f = keyed_fn g.K.Keyed.prf g.K.Keyed.pad in
-    let s = setup_with c.args.docs.now.documents c.args.b c.args.big c.args.pad in
-    let same = sized_as c.args.docs.now.documents c.args.b c.args.big c.args.pad c.in_ok-size.size c.in_ok-size.ensures.shape c.in_ok-size.ensures.pad in
+    let s = setup_with c.args.docs.now.documents c.args.sizes.b c.args.sizes.big c.args.sizes.pad in
+    let same = sized_as c.args.docs.now.documents c.args.sizes.b c.args.sizes.big c.args.sizes.pad c.in_ok-size.size c.in_ok-size.ensures.shape c.in_ok-size.ensures.pad in
     built_unless c.build_sized.result (λ some.
     c.build_sized.ensures.clash some ∙ (λ i. clash_refusal f (c.prepare-master.ensures i) (same i)) ∙ second_none (option_map refused_by_size (size_refusal s)) (clash_refusal f c.args.key.now s) clear)
 
@@ -38,19 +38,19 @@ returns-clause-built g c = λ clear.
 pub returns-clause-accepted : goal.returns-clause-accepted
 returns-clause-accepted g c =
     let f = keyed_fn g.K.Keyed.prf g.K.Keyed.pad in
-    let s = setup_with c.args.docs.now.documents c.args.b c.args.big c.args.pad in
-    let same = sized_as c.args.docs.now.documents c.args.b c.args.big c.args.pad c.in_ok-size.size c.in_ok-size.ensures.shape c.in_ok-size.ensures.pad in
+    let s = setup_with c.args.docs.now.documents c.args.sizes.b c.args.sizes.big c.args.sizes.pad in
+    let same = sized_as c.args.docs.now.documents c.args.sizes.b c.args.sizes.big c.args.sizes.pad c.in_ok-size.size c.in_ok-size.ensures.shape c.in_ok-size.ensures.pad in
     accepted_by f c.args.key.now s c.build_sized.result (none_of_ok (size_refusal s) c.in_ok-size.size c.in_ok-size.ensures.refused)
     (λ some. c.build_sized.ensures.clash some ∙ (λ i. clash_refusal f (c.prepare-master.ensures i) (same i)))
 
 pub returns-clause-entries : goal.returns-clause-entries
 returns-clause-entries g c =
     let f = keyed_fn g.K.Keyed.prf g.K.Keyed.pad in
-    let same = sized_as c.args.docs.now.documents c.args.b c.args.big c.args.pad c.in_ok-size.size c.in_ok-size.ensures.shape c.in_ok-size.ensures.pad in
+    let same = sized_as c.args.docs.now.documents c.args.sizes.b c.args.sizes.big c.args.sizes.pad c.in_ok-size.size c.in_ok-size.ensures.shape c.in_ok-size.ensures.pad in
     subst (λ bytes. IfOk c.build_sized.result (λ index. index.entries ≡ bytes)) (λ i. dictionary_bytes f (c.prepare-master.ensures i) (same i)) c.build_sized.ensures.entries
 
 pub returns-clause-array : goal.returns-clause-array
 returns-clause-array g c =
     let f = keyed_fn g.K.Keyed.prf g.K.Keyed.pad in
-    let same = sized_as c.args.docs.now.documents c.args.b c.args.big c.args.pad c.in_ok-size.size c.in_ok-size.ensures.shape c.in_ok-size.ensures.pad in
+    let same = sized_as c.args.docs.now.documents c.args.sizes.b c.args.sizes.big c.args.sizes.pad c.in_ok-size.size c.in_ok-size.ensures.shape c.in_ok-size.ensures.pad in
     subst (λ bytes. IfOk c.build_sized.result (λ index. index.array ≡ bytes)) (λ i. array_bytes f (c.prepare-master.ensures i) (same i)) c.build_sized.ensures.array

@@ -4,6 +4,7 @@ use Rattle.std.proofs.lemmas.List.{length-map}
 use Rattle.std.proofs.lemmas.Result.{IfOk-weaker}
 use Rattle.client_registry.specs.Setup.{Setup}
 use Rattle.client_registry.specs.Sized.{run_words}
+use Rattle.leakage_history.specs.HashedRun.{run_of}
 use Rattle.index_setup.proofs.RankWrites.{length-ranks_of}
 use Rattle.def_leakage.specs.DrawnValues.{draw, drawings_of_setup}
 use Rattle.sse_model.proofs.Counts.{length-block_positions}
@@ -18,7 +19,7 @@ use Rattle.leakage_draws.proofs.drawn.setup_draws.Goals as goal
 pub plaintexts-requires-clause-ranks : goal.plaintexts-requires-clause-ranks
 plaintexts-requires-clause-ranks c =
     let s : Setup = c.args.history.now.setup in
-    let words = run_words c.args.history.now in
+    let words = run_words (run_of c.args.history.now) in
     let tags = labels_in (sheet_table c.args.sheet.now words) (block_positions 0 s) in
     let are : flat_map (tags_given c.args.sheet.now) c.args.drawings.now ≡ tags = ap (flat_map (tags_given c.args.sheet.now)) c.requires.drawings ∙ setup_tags c.args.sheet.now words s in
     omega (
@@ -33,12 +34,12 @@ plaintexts-requires-clause-ranks c =
 pub draws_beside-requires : goal.draws_beside-requires
 draws_beside-requires c =
     let s : Setup = c.args.history.now.setup in
-    length-setup (run_words c.args.history.now) s c.deref.result.now c.args.drawings.now c.as_slice.result.now c.requires.drawings (c.as_slice.ensures ∙ c.in_ok-clears.ensures)
+    length-setup (run_words (run_of c.args.history.now)) s c.deref.result.now c.args.drawings.now c.as_slice.result.now c.requires.drawings (c.as_slice.ensures ∙ c.in_ok-clears.ensures)
 
 pub returns : goal.returns
 returns c =
     let s : Setup = c.args.history.now.setup in
-    let words = run_words c.args.history.now in
+    let words = run_words (run_of c.args.history.now) in
     let t : Table = sheet_table c.args.sheet.now words in
     let are : flat_map (tags_given c.args.sheet.now) c.args.drawings.now ≡ labels_in t (block_positions 0 s) =
     ap (flat_map (tags_given c.args.sheet.now)) c.requires.drawings ∙ setup_tags c.args.sheet.now words s in

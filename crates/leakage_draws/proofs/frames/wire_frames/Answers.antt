@@ -2,6 +2,7 @@ use Rattle.std.proofs.Common.{◌≡◌, Err, filter, map, ap, ◌∙◌}
 use Rattle.std.proofs.lemmas.Result.{IfOk-weaker}
 use Rattle.client_registry.specs.Run.{Run, at_first}
 use Rattle.client_registry.specs.Sized.{IsHistory, run_words}
+use Rattle.leakage_history.specs.HashedRun.{run_of}
 use Rattle.def_comparison.specs.Sums.{session_frames}
 use Rattle.def_comparison.specs.UsedNames.{names}
 use Rattle.sse_frames.specs.Frames.{frame_bytes}
@@ -15,7 +16,7 @@ use Rattle.leakage_draws.proofs.frames.wire_frames.Goals as goal
 
 pub returns-in-Ok-clause-own : goal.returns-in-Ok-clause-own
 returns-in-Ok-clause-own c =
-    let run : Run = c.args.history.now in
+    let run : Run = run_of c.args.history.now in
     let valid = c.commands-commands.ensures.valid in
     let history : IsHistory run = record { collected = valid.collected; setup = c.requires.sized; each = valid.each; accepted = valid.accepted } in
     let t : Table = sheet_table c.args.sheet.now (run_words run) in
@@ -24,7 +25,7 @@ returns-in-Ok-clause-own c =
 
 pub returns-in-Ok-clause-agreed : goal.returns-in-Ok-clause-agreed
 returns-in-Ok-clause-agreed c =
-    let run : Run = c.args.history.now in
+    let run : Run = run_of c.args.history.now in
     let valid = c.commands-commands.ensures.valid in
     let history : IsHistory run = record { collected = valid.collected; setup = c.requires.sized; each = valid.each; accepted = valid.accepted } in
     IfOk-weaker c.sent_texts.result _ (λ frames. (t : Table) → IsSheetOf c.args.sheet.now (run_words run) (names at_first run) t → frames ≡ map frame_bytes (session_frames t at_first run))
@@ -32,7 +33,7 @@ returns-in-Ok-clause-agreed c =
 
 pub unreachable-requires : goal.unreachable-requires
 unreachable-requires c =
-    let run : Run = c.args.history.now in
+    let run : Run = run_of c.args.history.now in
     let valid = c.commands-commands.ensures.valid in
     let history : IsHistory run = record { collected = valid.collected; setup = c.requires.sized; each = valid.each; accepted = valid.accepted } in
     let t : Table = sheet_table c.args.sheet.now (run_words run) in

@@ -1,16 +1,29 @@
-use Rattle.std.proofs.Common.{◌^◌, ◌<◌, List, map, ap, ◌∙◌, subst, arith}
+use Rattle.std.proofs.Common.{length, map, sym, ap, subst, ◌∙◌, arith, List}
+use Rattle.std.specs.Prelude.{IfSome}
+use Rattle.std.proofs.lemmas.List.{length-map}
 use Rattle.client_registry.specs.Run.{at_first}
-use Rattle.leakage_frames.specs.Views.{leak_view}
 use Rattle.def_comparison.specs.FirstDifference.{IsFirstDifference}
 use Rattle.def_leakage.specs.CommandLeaks.{leak}
+use Rattle.leakage_history.specs.HashedRun.{run_of}
+use Rattle.leakage_frames.specs.Views.{leak_view}
 use Rattle.sse_simulator.specs.Leaks.{Leak}
-use Rattle.leakage_draws.proofs.DifferenceLaws.{difference_within}
+use Rattle.leakage_draws.proofs.DifferenceLaws.{length-leak}
 use Rattle.leakage_draws.proofs.moved_table.differing.Goals as goal
 
-pub overflow_cast-result : goal.overflow_cast-result
-overflow_cast-result c =
-    let within : c.in-Some.command < 2 ^ 32 =
-    difference_within c.in-Some.command (2 ^ 32) c.args.history.now c.args.other.now c.requires.numbered c.requires.numbered_too
-    (subst (λ (ls : List Leak). IsFirstDifference c.in-Some.command ls (leak at_first c.args.other.now)) (ap (map leak_view) c.as_slice.ensures ∙ c.in_ok-leaks.ensures)
-    (subst (λ (ls : List Leak). IsFirstDifference c.in-Some.command (map leak_view c.as_slice.result.now) ls) (ap (map leak_view) c.as_slice-2.ensures ∙ c.in_ok-others.ensures) c.in-Some.ensures.first)) in
-    omega (arith, within)
+pub first_command-requires-clause-numbered : goal.first_command-requires-clause-numbered
+first_command-requires-clause-numbered c =
+    omega (arith, c.requires.numbered, length-leak (run_of c.args.history.now), ap length (ap (map leak_view) c.as_slice.ensures ∙ c.in_ok-leaks.ensures), length-map c.as_slice.result.now leak_view)
+
+pub first_command-requires-clause-numbered_too :
+    goal.first_command-requires-clause-numbered_too
+first_command-requires-clause-numbered_too c =
+    omega (arith, c.requires.numbered_too, length-leak (run_of c.args.other.now), ap length (ap (map leak_view) c.as_slice-2.ensures ∙ c.in_ok-others.ensures), length-map c.as_slice-2.result.now leak_view)
+
+pub returns-clause-same : goal.returns-clause-same
+returns-clause-same c = λ none.
+    sym (ap (map leak_view) c.as_slice.ensures ∙ c.in_ok-leaks.ensures) ∙ c.first_command.ensures.same none ∙ ap (map leak_view) c.as_slice-2.ensures ∙ c.in_ok-others.ensures
+
+pub returns-clause-first : goal.returns-clause-first
+returns-clause-first c =
+    subst (λ (ls : List Leak). IfSome c.first_command.result (λ k. IsFirstDifference k ls (leak at_first (run_of c.args.other.now)))) (ap (map leak_view) c.as_slice.ensures ∙ c.in_ok-leaks.ensures)
+    (subst (λ (ls : List Leak). IfSome c.first_command.result (λ k. IsFirstDifference k (map leak_view c.as_slice.result.now) ls)) (ap (map leak_view) c.as_slice-2.ensures ∙ c.in_ok-others.ensures) c.first_command.ensures.first)

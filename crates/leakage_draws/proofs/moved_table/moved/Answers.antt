@@ -1,6 +1,7 @@
 use Rattle.std.proofs.Common.{ap, ◌∙◌}
 use Rattle.client_registry.specs.Run.{Run, at_first}
 use Rattle.client_registry.specs.Sized.{IsHistory, run_words}
+use Rattle.leakage_history.specs.HashedRun.{run_of}
 use Rattle.def_comparison.specs.UsedNames.{all_names}
 use Rattle.def_relabelling.specs.ByTexts.{drawn_names, texts_of}
 use Rattle.leakage_draws.proofs.PlacedLaws.{even_drawn, even_numbered, even_used, has_values, moved_names, moved_values, unshifted_draws}
@@ -8,8 +9,8 @@ use Rattle.leakage_draws.proofs.moved_table.moved.Goals as goal
 
 pub placed-requires : goal.placed-requires
 placed-requires c =
-    let run : Run = c.args.history.now in
-    let other : Run = c.args.other.now in
+    let run : Run = run_of c.args.history.now in
+    let other : Run = run_of c.args.other.now in
     let valid = c.commands-first.ensures.valid in
     let valid2 = c.commands-second.ensures.valid in
     let history : IsHistory run = record { collected = valid.collected; setup = c.requires.accepted; each = valid.each; accepted = valid.accepted } in
@@ -19,8 +20,8 @@ placed-requires c =
 
 pub placed-requires-2 : goal.placed-requires-2
 placed-requires-2 c =
-    let run : Run = c.args.history.now in
-    let other : Run = c.args.other.now in
+    let run : Run = run_of c.args.history.now in
+    let other : Run = run_of c.args.other.now in
     let valid = c.commands-first.ensures.valid in
     let valid2 = c.commands-second.ensures.valid in
     let history : IsHistory run = record { collected = valid.collected; setup = c.requires.accepted; each = valid.each; accepted = valid.accepted } in
@@ -30,8 +31,8 @@ placed-requires-2 c =
 
 pub returns-clause-values : goal.returns-clause-values
 returns-clause-values c =
-    let run : Run = c.args.history.now in
-    let other : Run = c.args.other.now in
+    let run : Run = run_of c.args.history.now in
+    let other : Run = run_of c.args.other.now in
     let valid = c.commands-first.ensures.valid in
     let valid2 = c.commands-second.ensures.valid in
     let history : IsHistory run = record { collected = valid.collected; setup = c.requires.accepted; each = valid.each; accepted = valid.accepted } in
@@ -45,8 +46,8 @@ returns-clause-values c =
 
 pub returns-clause-names : goal.returns-clause-names
 returns-clause-names c =
-    let run : Run = c.args.history.now in
-    let other : Run = c.args.other.now in
+    let run : Run = run_of c.args.history.now in
+    let other : Run = run_of c.args.other.now in
     let valid = c.commands-first.ensures.valid in
     let valid2 = c.commands-second.ensures.valid in
     let history : IsHistory run = record { collected = valid.collected; setup = c.requires.accepted; each = valid.each; accepted = valid.accepted } in
@@ -59,5 +60,5 @@ returns-clause-names c =
 
 pub returns-clause-whole : goal.returns-clause-whole
 returns-clause-whole c =
-    let run : Run = c.args.history.now in
+    let run : Run = run_of c.args.history.now in
     has_values c.args.sheet.now (run_words run) run c.as_slice-3.result.now (c.as_slice-3.ensures ∙ c.in_ok-from-2.ensures) c.in_ok-moved.ensures.valued

@@ -51,7 +51,8 @@ loop-number-preserved c =
       words =
           each-next ws n bs c.word.ensures (IsDistinct-first_seen (all_words docs)) [] c.loop-number.words.entries c.place_word.new.words.entries (λ place. placed_at (home_at s ws place)) c.loop-number.invariant.words
           (subst (λ h. ChangesAt c.loop-number.words.entries c.place_word.new.words.entries bs (placed_at h))
-          (λ i. record { entry = n; blocks = range_with_len (c.loop-number.invariant.first i) ((count ∙ own) i) }) c.in_ok-place_word.ensures);
+          (λ i. record { entry = n; blocks = range_with_len (c.loop-number.invariant.first i) ((count ∙ own) i) }) c.in_ok-place_word.ensures.placed);
+      hasher = c.in_ok-place_word.ensures.hasher ∙ c.loop-number.invariant.hasher;
     }
 
 pub returns-clause-placed : goal.returns-clause-placed

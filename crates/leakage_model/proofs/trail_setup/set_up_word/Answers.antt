@@ -12,8 +12,8 @@ set_up-requires c =
     let same = sym (facts-at c.place_in.new.words.entries bs c.in_ok-place.place c.index_mut-trail.result.now c.in_ok-place.ensures.place c.index_mut-trail.ensures.value) ∙ c.place_in.ensures.same bs in
     omega (arith, c.requires, ap (λ f. length f.listed) same)
 
-pub returns : goal.returns
-returns c =
+pub returns-clause-held : goal.returns-clause-held
+returns-clause-held c =
     on_ok_weaker c.set_up.result
     (changes-at c.args.words.now.entries c.place_in.new.words.entries (word_bytes c.args.word.now) c.in_ok-place.place c.index_mut-trail.result.now c.set_up.new.self (set_up_with (id_number c.args.id))
     c.place_in.ensures.same c.in_ok-place.ensures.place c.index_mut-trail.ensures.value)

@@ -1,6 +1,7 @@
 use Rattle.std.proofs.Common.{Some, ap, subst, ◌∙◌}
 use Rattle.client_registry.specs.Run.{at_first}
 use Rattle.client_registry.specs.Sized.{run_words}
+use Rattle.leakage_history.specs.HashedRun.{run_of}
 use Rattle.leakage_values.specs.NamesOnce.{Marks}
 use Rattle.leakage_values.specs.Numbered.{numbered}
 use Rattle.keyed_fn.specs.KeyedFn.{keyed_fn}
@@ -14,7 +15,7 @@ pub returns-clause-values : goal.returns-clause-values
 returns-clause-values g c =
     let f = keyed_fn g.K.Keyed.prf g.K.Keyed.pad in
     let keys = c.in_ok-keys.keys in
-    let run = c.args.history.now in
+    let run = run_of c.args.history.now in
     let words = run_words run in
     λ n within.
     held c.in_ok-sheet.sheet c.as_slice.result.now (value_by_keys f keys.shape keys.words keys.dummies) (numbered words) (used.names at_first run)

@@ -3,6 +3,7 @@ use Rattle.std.specs.Prelude.{flat_map}
 use Rattle.std.proofs.lemmas.List.{take_all}
 use Rattle.client_registry.specs.Run.{at_first}
 use Rattle.client_registry.specs.Sized.{run_words}
+use Rattle.leakage_history.specs.HashedRun.{run_of}
 use Rattle.leakage_values.proofs.FrontLaws.{front_then}
 use Rattle.leakage_values.proofs.NameLaws.{names-drawings}
 use Rattle.leakage_values.specs.DrawnNames.{names_in_code}
@@ -19,8 +20,8 @@ loop-own-preserved c =
 
 pub returns : goal.returns
 returns c =
-    let words = run_words c.args.history.now in
+    let words = run_words (run_of c.args.history.now) in
     c.loop-own.invariant
     ∙ ap (map (flat_map names_in_code)) (take_all c.loop-own.own-index c.as_slice-own-items.result.now c.loop-own-test.false ∙ c.as_slice-own-items.ensures ∙ c.in_ok-drawings.ensures)
-    ∙ names-drawings words (drawings at_first c.args.history.now)
-    ∙ ap (map (map (numbered words))) (names_drawn at_first c.args.history.now)
+    ∙ names-drawings words (drawings at_first (run_of c.args.history.now))
+    ∙ ap (map (map (numbered words))) (names_drawn at_first (run_of c.args.history.now))

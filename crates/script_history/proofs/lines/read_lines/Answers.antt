@@ -1,7 +1,9 @@
 use Rattle.std.proofs.Common.{◌≡◌, refl, subst, ◌∙◌, arith}
-use Rattle.std.specs.Prelude.{◌<◌, ◌+◌, Ok}
+use Rattle.std.specs.Prelude.{◌+◌, Ok}
 use Rattle.sse_script.specs.TextLines.{bytes_to_come, lines_left}
-use Rattle.script_history.specs.Turns.{LeadsTo, OnLine, PartsOn, moment}
+use Rattle.client_registry.specs.HashNumbers.{hash_numbers}
+use Rattle.script_history.specs.Stages.{keys_at}
+use Rattle.script_history.specs.Turns.{HasAdvanced, LeadsTo, OnLine, PartsOn, moment, stage_after}
 use Rattle.script_history.specs.TwoScripts.{first_left}
 use Rattle.script_history.specs.declared.lines.Turn.{Turn}
 use Rattle.script_history.proofs.PartsTaken.{parts-ended}
@@ -16,6 +18,7 @@ lines-init g c = record {
   shortages = omega arith;
   there = λ place at. there-start place c.args.progress c.args.input.now.number _ _ at;
   behind = refl;
+  hashed = λ under. under;
 }
 
 pub lines-preserved : goal.lines-preserved
@@ -23,11 +26,10 @@ lines-preserved g c =
     let is = c.in-Next.is in
     let next = c.in-Next.next in
     let left = first_left (lines_left c.take_turn.new.input.pending (g.S.Source.remaining c.take_turn.new.source)) in
-    let counted : c.take_turn.new.input.number ≡ c.lines.input.number + 1 = subst (λ (t : Turn). OnLine t (c.take_turn.new.input.number ≡ c.lines.input.number + 1)) is c.in_ok-next.ensures.counted in
-    let less : bytes_to_come c.take_turn.new.input.pending (g.S.Source.handed_out c.take_turn.new.source) < bytes_to_come c.lines.input.pending (g.S.Source.handed_out c.lines.source) =
-    subst (λ (t : Turn). OnLine t (bytes_to_come c.take_turn.new.input.pending (g.S.Source.handed_out c.take_turn.new.source) < bytes_to_come c.lines.input.pending (g.S.Source.handed_out c.lines.source))) is c.in_ok-next.ensures.less in
+    let advanced : HasAdvanced c.lines.input.number (bytes_to_come c.lines.input.pending (g.S.Source.handed_out c.lines.source)) c.take_turn.new.input.number (bytes_to_come c.take_turn.new.input.pending (g.S.Source.handed_out c.take_turn.new.source)) =
+    subst (λ (t : Turn). OnLine t (HasAdvanced c.lines.input.number (bytes_to_come c.lines.input.pending (g.S.Source.handed_out c.lines.source)) c.take_turn.new.input.number (bytes_to_come c.take_turn.new.input.pending (g.S.Source.handed_out c.take_turn.new.source)))) is c.in_ok-next.ensures.advanced in
     record {
-      few = omega (arith, c.lines.invariant.few, counted, less);
+      few = omega (arith, c.lines.invariant.few, advanced.counted, advanced.less);
       source = c.in_ok-next.ensures.source.steady ∙ c.lines.invariant.source;
       sink = c.in_ok-next.ensures.sink.steady ∙ c.lines.invariant.sink;
       shortages = omega (arith, c.lines.invariant.shortages, c.in_ok-next.ensures.sink.no_fewer);
@@ -38,11 +40,14 @@ lines-preserved g c =
       behind =
           c.lines.invariant.behind
           ∙ subst (λ (t : Turn). PartsOn t (lines_left c.lines.input.pending (g.S.Source.remaining c.lines.source)) (lines_left c.take_turn.new.input.pending (g.S.Source.remaining c.take_turn.new.source)) (g.S.Source.remaining c.take_turn.new.source)) is c.in_ok-next.ensures.parts;
+      hashed = λ under. subst (λ (t : Turn). keys_at (stage_after t) ≡ hash_numbers c.args.keys) is (c.in_ok-next.ensures.hashed (c.lines.invariant.hashed under));
     }
 
 pub lines-smaller : goal.lines-smaller
 lines-smaller g c =
-    subst (λ (t : Turn). OnLine t (bytes_to_come c.take_turn.new.input.pending (g.S.Source.handed_out c.take_turn.new.source) < bytes_to_come c.lines.input.pending (g.S.Source.handed_out c.lines.source))) c.in-Next.is c.in_ok-next.ensures.less
+    let advanced : HasAdvanced c.lines.input.number (bytes_to_come c.lines.input.pending (g.S.Source.handed_out c.lines.source)) c.take_turn.new.input.number (bytes_to_come c.take_turn.new.input.pending (g.S.Source.handed_out c.take_turn.new.source)) =
+    subst (λ (t : Turn). OnLine t (HasAdvanced c.lines.input.number (bytes_to_come c.lines.input.pending (g.S.Source.handed_out c.lines.source)) c.take_turn.new.input.number (bytes_to_come c.take_turn.new.input.pending (g.S.Source.handed_out c.take_turn.new.source)))) c.in-Next.is c.in_ok-next.ensures.advanced in
+    advanced.less
 
 pub returns-in_err-next-clause-reads : goal.returns-in_err-next-clause-reads
 returns-in_err-next-clause-reads g c = λ place at.
@@ -68,7 +73,10 @@ returns-in-End-clause-ended g c =
     parts-ended last.at_twin _ _ _ (g.S.Source.remaining c.take_turn.new.source) _ c.lines.invariant.behind
     (subst (λ (t : Turn). PartsOn t (lines_left c.lines.input.pending (g.S.Source.remaining c.lines.source)) (lines_left c.take_turn.new.input.pending (g.S.Source.remaining c.take_turn.new.source)) (g.S.Source.remaining c.take_turn.new.source)) is c.in_ok-next.ensures.parts)
     (λ twin.
-    let counted : number ≡ c.lines.input.number + 1 = subst (λ (t : Turn). OnLine t (number ≡ c.lines.input.number + 1)) is c.in_ok-next.ensures.counted twin in
-    let less : to_come < bytes_to_come c.lines.input.pending (g.S.Source.handed_out c.lines.source) =
-    subst (λ (t : Turn). OnLine t (to_come < bytes_to_come c.lines.input.pending (g.S.Source.handed_out c.lines.source))) is c.in_ok-next.ensures.less twin in
-    omega (arith, c.lines.invariant.few, counted, less))
+    let before = bytes_to_come c.lines.input.pending (g.S.Source.handed_out c.lines.source) in
+    let advanced : HasAdvanced c.lines.input.number before number to_come = subst (λ (t : Turn). OnLine t (HasAdvanced c.lines.input.number before number to_come)) is c.in_ok-next.ensures.advanced twin in
+    omega (arith, c.lines.invariant.few, advanced.counted, advanced.less))
+
+pub returns-in-End-clause-hashed : goal.returns-in-End-clause-hashed
+returns-in-End-clause-hashed g c = λ under.
+    subst (λ (t : Turn). keys_at (stage_after t) ≡ hash_numbers c.args.keys) c.in-End.is (c.in_ok-next.ensures.hashed (c.lines.invariant.hashed under))

@@ -1,7 +1,8 @@
 use Rattle.std.proofs.Common.{◌≤◌, ◌+◌, ◌^◌, ◌≡◌}
+use Rattle.client_registry.specs.HashNumbers.{hash_numbers}
 use Rattle.sse_script.specs.TextLines.{bytes_to_come, lines_left}
 use Rattle.def_script_meaning.specs.Outcome.{Place}
-use Rattle.script_history.specs.Stages.{IsAt}
+use Rattle.script_history.specs.Stages.{IsAt, keys_at}
 use Rattle.script_history.specs.Turns.{IsThere, moment}
 use Rattle.script_history.specs.TwoScripts.{behind_left, first_left}
 use Rattle.script_history.proofs.lines.read_lines.Given as goal
@@ -16,6 +17,7 @@ invariant-lines g l = record {
       → IsThere (moment place (l.fn.input.number + 1) (first_left (lines_left l.fn.input.pending (g.S.Source.remaining l.fn.source))) l.fn.progress.refused (g.W.Sink.written l.fn.sink))
       l.progress l.input.number (first_left (lines_left l.input.pending (g.S.Source.remaining l.source))) (g.W.Sink.written l.sink);
   behind : behind_left (lines_left l.fn.input.pending (g.S.Source.remaining l.fn.source)) ≡ behind_left (lines_left l.input.pending (g.S.Source.remaining l.source));
+  hashed : keys_at l.fn.progress.stage ≡ hash_numbers l.keys → keys_at l.progress.stage ≡ hash_numbers l.keys;
 }
 
 abbrev pub decreases-lines : goal.decreases-lines

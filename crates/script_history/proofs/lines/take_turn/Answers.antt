@@ -18,11 +18,9 @@ pub returns-in-Ok-true-clause-parts : goal.returns-in-Ok-true-clause-parts
 returns-in-Ok-true-clause-parts g c =
     turned-parts c.turn_at_line.result _ _ c.advance.new.self.line _ (c.in-Ok-true.ensures.line (search rules)) c.turn_at_line.ensures.at
 
-pub returns-in-Ok-true-clause-counted : goal.returns-in-Ok-true-clause-counted
-returns-in-Ok-true-clause-counted g c = turned-line c.turn_at_line.result _ (omega (arith, c.in-Ok-true.ensures.counted, c.requires.few))
-
-pub returns-in-Ok-true-clause-less : goal.returns-in-Ok-true-clause-less
-returns-in-Ok-true-clause-less g c = turned-line c.turn_at_line.result _ (c.in-Ok-true.ensures.less (search rules))
+pub returns-in-Ok-true-clause-advanced : goal.returns-in-Ok-true-clause-advanced
+returns-in-Ok-true-clause-advanced g c =
+    turned-line c.turn_at_line.result _ (record { counted = omega (arith, c.in-Ok-true.ensures.counted, c.requires.few); less = c.in-Ok-true.ensures.less (search rules) })
 
 pub returns-in-Ok-true-clause-source : goal.returns-in-Ok-true-clause-source
 returns-in-Ok-true-clause-source g c = taken-steady _ _ c.turn_at_line.result c.in-Ok-true.ensures.steady c.turn_at_line.ensures.elsewhere

@@ -1,6 +1,8 @@
-use Rattle.std.proofs.Common.{◌≡◌, ◌∷◌, [], Some, refl, ap, sym, ◌∙◌, inl, inr}
+use Rattle.std.proofs.Common.{◌≡◌, ◌∷◌, [], Some, refl, ap, sym, subst, ◌∙◌, inl, inr}
+use Rattle.std.specs.Prelude.{OnErr}
 use Rattle.client_registry.specs.Command.{Add, Delete, Search}
 use Rattle.client_registry.specs.Live.{matching_in}
+use Rattle.leakage_history.specs.HashedRun.{run_of}
 use Rattle.script_documents.specs.LineDocument.{document}
 use Rattle.script_documents.specs.Refused.{bad_word}
 use Rattle.def_script_meaning.specs.Lines as requests
@@ -11,56 +13,56 @@ use Rattle.sse_script.specs.Views.{line_view}
 use Rattle.sse_script.specs.declared.line.Line.{Line}
 use Rattle.sse_script.specs.declared.refusal.Refusal.TheVariants.{SetUpAlready}
 use Rattle.script_history.proofs.LinesTaken.{IfOk-both, command-behind, of_own, refused-behind}
-use Rattle.script_history.specs.Stages.{TakesAfter}
+use Rattle.script_history.specs.Stages.{MayStop, TakesAfter}
+use Rattle.script_history.specs.declared.stage.Stage.TheVariants.{Built}
 use Rattle.script_history.proofs.taken_line.command_of_line.Goals as goal
 
-pub returns-in-Empty : goal.returns-in-Empty
-returns-in-Empty c = record {
-  takes = λ request e. elim c.in-Empty.is [
-    | inl is ↦ absurd (let no : requests.Empty ≡ requests.Command request = sym (ap (λ (line : Line). line_read (line_view line)) is) ∙ e in cc)
-    | inr is ↦ absurd (let no : requests.Key is.0 ≡ requests.Command request = sym (ap (λ (line : Line). line_read (line_view line)) is.1) ∙ e in cc)
-  ];
-}
+pub returns-in-Empty-clause-takes : goal.returns-in-Empty-clause-takes
+returns-in-Empty-clause-takes c = λ request e. elim c.in-Empty.is [
+  | inl is ↦ absurd (let no : requests.Empty ≡ requests.Command request = sym (ap (λ (line : Line). line_read (line_view line)) is) ∙ e in cc)
+  | inr is ↦ absurd (let no : requests.Key is.0 ≡ requests.Command request = sym (ap (λ (line : Line). line_read (line_view line)) is.1) ∙ e in cc)
+]
 
-pub returns-in-Add : goal.returns-in-Add
-returns-in-Add c =
-    let run = c.args.history.now in
-    let next = c.add.new.history in
+pub returns-in-Add-clause-takes : goal.returns-in-Add-clause-takes
+returns-in-Add-clause-takes c =
+    let run = run_of c.args.history.now in
+    let next = run_of c.add.new.history in
     let own = requests.AddLine c.in-Add.id c.in-Add.words in
     let d = document c.in-Add.id c.in-Add.words in
-    record {
-      takes = IfOk-both c.add.result _ _ _ (λ found same went. of_own (λ q. TakesAfter run q next found) (line_read (line_view c.args.line)) own (ap (λ (line : Line). line_read (line_view line)) c.in-Add.is)
-          (λ place at. command-behind place run at own (add_refusal (Some run) d) found (Add d) (Added c.in-Add.id) next refl same went)) c.add.ensures.found c.add.ensures.after;
-    }
+    IfOk-both c.add.result _ _ _ (λ found same went. of_own (λ q. TakesAfter run q next found) (line_read (line_view c.args.line)) own (ap (λ (line : Line). line_read (line_view line)) c.in-Add.is)
+    (λ place at. command-behind place run at own (add_refusal (Some run) d) found (Add d) (Added c.in-Add.id) next refl same went)) c.add.ensures.found c.add.ensures.after
 
-pub returns-in-Del : goal.returns-in-Del
-returns-in-Del c =
-    let run = c.args.history.now in
-    let next = c.delete.new.history in
+pub returns-in-Add-clause-may_stop : goal.returns-in-Add-clause-may_stop
+returns-in-Add-clause-may_stop c = subst (λ (line : Line). OnErr c.add.result (MayStop (Built c.args.history.now) (line_view line))) (sym c.in-Add.is) c.add.ensures.may_stop
+
+pub returns-in-Del-clause-takes : goal.returns-in-Del-clause-takes
+returns-in-Del-clause-takes c =
+    let run = run_of c.args.history.now in
+    let next = run_of c.delete.new.history in
     let own = requests.Del c.in-Del.id in
-    record {
-      takes = IfOk-both c.delete.result _ _ _ (λ found same went. of_own (λ q. TakesAfter run q next found) (line_read (line_view c.args.line)) own (ap (λ (line : Line). line_read (line_view line)) c.in-Del.is)
-          (λ place at. command-behind place run at own (delete_refusal (Some run) c.in-Del.id) found (Delete c.in-Del.id) (Deleted c.in-Del.id) next refl same went)) c.delete.ensures.found c.delete.ensures.after;
-    }
+    IfOk-both c.delete.result _ _ _ (λ found same went. of_own (λ q. TakesAfter run q next found) (line_read (line_view c.args.line)) own (ap (λ (line : Line). line_read (line_view line)) c.in-Del.is)
+    (λ place at. command-behind place run at own (delete_refusal (Some run) c.in-Del.id) found (Delete c.in-Del.id) (Deleted c.in-Del.id) next refl same went)) c.delete.ensures.found c.delete.ensures.after
 
-pub returns-in-Find : goal.returns-in-Find
-returns-in-Find c =
-    let run = c.args.history.now in
-    let next = c.find.new.history in
+pub returns-in-Del-clause-may_stop : goal.returns-in-Del-clause-may_stop
+returns-in-Del-clause-may_stop c = subst (λ (line : Line). OnErr c.delete.result (MayStop (Built c.args.history.now) (line_view line))) (sym c.in-Del.is) c.delete.ensures.may_stop
+
+pub returns-in-Find-clause-takes : goal.returns-in-Find-clause-takes
+returns-in-Find-clause-takes c =
+    let run = run_of c.args.history.now in
+    let next = run_of c.find.new.history in
     let word = c.in-Find.word.now in
     let own = requests.Find word in
-    record {
-      takes = IfOk-both c.find.result _ _ _ (λ found same went. of_own (λ q. TakesAfter run q next found) (line_read (line_view c.args.line)) own (ap (λ (line : Line). line_read (line_view line)) c.in-Find.is)
-          (λ place at. command-behind place run at own (bad_word 0 (word ∷ [])) found (Search word) (Found (matching_in (Some run) word)) next refl same went)) c.find.ensures.found c.find.ensures.after;
-    }
+    IfOk-both c.find.result _ _ _ (λ found same went. of_own (λ q. TakesAfter run q next found) (line_read (line_view c.args.line)) own (ap (λ (line : Line). line_read (line_view line)) c.in-Find.is)
+    (λ place at. command-behind place run at own (bad_word 0 (word ∷ [])) found (Search word) (Found (matching_in (Some run) word)) next refl same went)) c.find.ensures.found c.find.ensures.after
 
-pub returns-in-Doc : goal.returns-in-Doc
-returns-in-Doc c =
-    let run = c.args.history.now in
+pub returns-in-Find-clause-may_stop : goal.returns-in-Find-clause-may_stop
+returns-in-Find-clause-may_stop c = subst (λ (line : Line). OnErr c.find.result (MayStop (Built c.args.history.now) (line_view line))) (sym c.in-Find.is) c.find.ensures.may_stop
+
+pub returns-in-Doc-clause-takes : goal.returns-in-Doc-clause-takes
+returns-in-Doc-clause-takes c =
+    let run = run_of c.args.history.now in
     let read = line_read (line_view c.args.line) in
-    record {
-      takes = λ request e. elim c.in-Doc.is [
-        | inl is ↦ of_own (λ q. TakesAfter run q run (Some SetUpAlready)) read (requests.Doc is.0 is.1) (ap (λ (line : Line). line_read (line_view line)) is.2) (λ place at. refused-behind place run at (requests.Doc is.0 is.1) SetUpAlready refl) request e
-        | inr is ↦ of_own (λ q. TakesAfter run q run (Some SetUpAlready)) read (requests.SetupLine is.0 is.1 is.2) (ap (λ (line : Line). line_read (line_view line)) is.3) (λ place at. refused-behind place run at (requests.SetupLine is.0 is.1 is.2) SetUpAlready refl) request e
-      ];
-    }
+    λ request e. elim c.in-Doc.is [
+      | inl is ↦ of_own (λ q. TakesAfter run q run (Some SetUpAlready)) read (requests.Doc is.0 is.1) (ap (λ (line : Line). line_read (line_view line)) is.2) (λ place at. refused-behind place run at (requests.Doc is.0 is.1) SetUpAlready refl) request e
+      | inr is ↦ of_own (λ q. TakesAfter run q run (Some SetUpAlready)) read (requests.SetupLine is.0 is.1 is.2) (ap (λ (line : Line). line_read (line_view line)) is.3) (λ place at. refused-behind place run at (requests.SetupLine is.0 is.1 is.2) SetUpAlready refl) request e
+    ]

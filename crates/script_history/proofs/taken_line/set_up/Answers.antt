@@ -8,5 +8,5 @@ use Rattle.script_history.proofs.taken_line.set_up.Goals as goal
 
 pub returns-in-Err-clause-found : goal.returns-in-Err-clause-found
 returns-in-Err-clause-found c =
-    let s = setup_with c.args.docs.documents c.args.b c.args.big c.args.pad in
+    let s = setup_with c.args.docs.documents c.args.sizes.b c.args.sizes.big c.args.sizes.pad in
     ap (λ r. Some r) c.refusal_of_size.ensures ∙ sym (ap (option_map size_refused) (fault_said c.size_of.result (size_refusal s) c.in-Err.fault c.in-Err.is c.size_of.ensures.refused c.size_of.ensures.accepted))

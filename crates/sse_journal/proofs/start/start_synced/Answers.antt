@@ -5,6 +5,7 @@ use Rattle.sse_journal.specs.Walks.{IsWalked, IsNoRecordAt}
 use Rattle.sse_journal.specs.declared.start_fault.StartFault.TheVariants.{NotAJournal}
 use Rattle.sse_journal.proofs.WalkSteps.{length-front_nil}
 use Rattle.sse_journal.proofs.StartSteps.{told_of, walked_gives, still, quiet_from, quiet_on, walk_quiet, repaired}
+use Rattle.sse_journal.proofs.RefusedFiles.{no_journal_gives, no_journal_long}
 use Rattle.sse_journal.proofs.start.start_synced.Goals as goal
 
 pub returns-in_err-new_file-clause-any_moment : goal.returns-in_err-new_file-clause-any_moment
@@ -69,3 +70,15 @@ returns-in-Err-clause-no_journal_at g c place same bytes all =
     let read = still g.D.Disk.content g.D.Disk.images g.D.Disk.moment g.D.Disk.left_since bytes c.args.disk.now c.len.new.self all c.len.ensures.kept c.len.ensures.images_kept in
     let begun = still g.D.Disk.content g.D.Disk.images g.D.Disk.moment g.D.Disk.left_since bytes c.len.new.self c.begins.new.disk read c.begins.ensures.kept c.begins.ensures.images_kept in
     inr (told_of (g.D.Disk.content c.begins.new.disk) bytes (λ b. IsNoRecordAt b place) begun.reads (c.in-Err.ensures.no_journal place (ap Err is)))
+
+pub returns-in_err-new_file-clause-not_memory : goal.returns-in_err-new_file-clause-not_memory
+returns-in_err-new_file-clause-not_memory g c memory bytes place all no_journal =
+    let size = told_of (g.D.Disk.content c.args.disk.now) bytes (λ b. c.in_ok-size.size ≡ length b) all.reads c.in_ok-size.ensures.size in
+    no_journal_long bytes place no_journal (omega (arith, size, c.if-size-lt9.true))
+
+pub returns-in_err-tidy-clause-not_memory : goal.returns-in_err-tidy-clause-not_memory
+returns-in_err-tidy-clause-not_memory g c memory bytes place all no_journal =
+    let read = still g.D.Disk.content g.D.Disk.images g.D.Disk.moment g.D.Disk.left_since bytes c.args.disk.now c.len.new.self all c.len.ensures.kept c.len.ensures.images_kept in
+    let begun = still g.D.Disk.content g.D.Disk.images g.D.Disk.moment g.D.Disk.left_since bytes c.len.new.self c.begins.new.disk read c.begins.ensures.kept c.begins.ensures.images_kept in
+    let w = told_of (g.D.Disk.content c.begins.new.disk) bytes (λ b. IsWalked b c.in-Ok.w.end c.in-Ok.w.records c.in-Ok.w.commit) begun.reads c.in-Ok.ensures.found in
+    no_journal_gives bytes place no_journal w.payloads (walked_gives bytes _ _ _ w)

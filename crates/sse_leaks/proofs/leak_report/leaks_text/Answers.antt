@@ -1,6 +1,7 @@
 use Rattle.std.proofs.Common.{◌≡◌, length, map, ap, subst, string_bytes, ◌∙◌, arith}
 use Rattle.std.specs.Prelude.{IfOk}
 use Rattle.std.proofs.lemmas.List.{length-map}
+use Rattle.leakage_history.specs.HashedRun.{run_of}
 use Rattle.leakage_frames.specs.Views.{leak_view}
 use Rattle.sse_leaks.specs.LeakReport.{leak_lines}
 use Rattle.sse_leaks.proofs.LeaksPrinted.{length-leak}
@@ -9,7 +10,7 @@ use Rattle.sse_leaks.proofs.leak_report.leaks_text.Goals as goal
 pub lines_of-requires : goal.lines_of-requires
 lines_of-requires c =
     let leaks = c.as_slice.result.now in
-    omega (arith, c.requires.numbered, length-leak c.args.history.now, ap length (ap (map leak_view) c.as_slice.ensures ∙ c.in_ok-leaks.ensures), length-map leaks leak_view)
+    omega (arith, c.requires.numbered, length-leak (run_of c.args.history.now), ap length (ap (map leak_view) c.as_slice.ensures ∙ c.in_ok-leaks.ensures), length-map leaks leak_view)
 
 pub returns : goal.returns
 returns c =

@@ -1,24 +1,19 @@
-use Rattle.std.proofs.Common.{◌≡◌, None, ap, drop, length, map, refl, ◌∙◌, subst}
-use Rattle.client_registry.specs.Acceptance.{frames_needed, size_refusal}
+use Rattle.std.proofs.Common.{ap, drop, length, map, refl, ◌∙◌}
 use Rattle.client_registry.specs.Setup.{setup_with}
 use Rattle.sse_frames.specs.Frames.{frame_bytes}
 use Rattle.sse_frames.specs.SentParts.{numbered}
 use Rattle.client_core.proofs.OwesLaws.{Owes-setup}
 use Rattle.client_core.specs.PlanView.{setup_in}
-use Rattle.client_core.specs.Setup.{frames_in, index_frames}
+use Rattle.client_core.specs.Setup.{index_frames}
 use Rattle.client_core.proofs.fresh.Client+Fresh.commit.Goals as goal
 
--- the plan's documents are these, so what was accepted and counted of those holds of these
+-- the plan's documents were accepted, and its frames are as many as they need
 pub returns-clause-stands : goal.returns-clause-stands
 returns-clause-stands c =
     λ f keys.
-    let index = c.planned.inside.index in
     let can = c.planned.invariant.sendable in
-    let same = ap (λ plan. plan.made_of) c.planned.view_is ∙ c.requires.documents in
     rw (← c.planned.view_is)
-    (c.begun-ready.ensures.stands f keys (setup_in index c.args.docs) refl
-    (subst (λ docs. size_refusal (setup_in index docs) ≡ None) same can.accepted)
-    (c.frame_count.ensures.count ∙ subst (λ docs. frames_in index ≡ frames_needed (setup_in index docs)) same can.frames))
+    (c.begun-ready.ensures.stands f keys (setup_in c.planned.inside.index c.planned.inside.docs) refl can.accepted (c.frame_count.ensures.count ∙ can.frames))
 
 pub returns-clause-owed : goal.returns-clause-owed
 returns-clause-owed c =
@@ -31,6 +26,6 @@ returns-clause-frames c = ap length (returns-clause-owed c)
 pub returns-clause-owes : goal.returns-clause-owes
 returns-clause-owes c =
     λ f keys frames.
-    Owes-setup f keys (setup_with c.args.docs.documents c.args.planned.b c.args.planned.big c.args.planned.pad) _ (returns-clause-stands c f keys)
+    Owes-setup f keys (setup_with c.args.planned.docs.documents c.args.planned.b c.args.planned.big c.args.planned.pad) _ (returns-clause-stands c f keys)
     (returns-clause-owed c ∙ frames)
     c.at.ensures.next

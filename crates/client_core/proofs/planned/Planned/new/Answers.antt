@@ -1,12 +1,11 @@
-use Rattle.std.proofs.Common.{subst, sym}
+use Rattle.std.proofs.Common.{subst}
 use Rattle.sse_frames.proofs.Cut.{AreBytes}
 use Rattle.client_core.proofs.IndexGrammar.{frames_are}
-use Rattle.client_core.specs.PlanView.{IsSendable}
 use Rattle.client_core.proofs.planned.Planned.new.Goals as goal
 
 pub invariant_of-result : goal.invariant_of-result
-invariant_of-result c = record { sendable = subst (IsSendable c.args.index) (sym c.of.ensures) c.requires; fits = c.in_ok-vec.ensures.len }
+invariant_of-result c = record { sendable = c.requires.sendable; fits = c.requires.fits }
 
 pub returns-clause-grammar : goal.returns-clause-grammar
 returns-clause-grammar c =
-    frames_are c.args.index c.entries.ensures.limits (subst AreBytes c.entries.ensures.bytes c.are_bytes.ensures.entries) (subst AreBytes c.array.ensures.bytes c.are_bytes.ensures.array) c.requires.rises
+    frames_are c.args.index c.entries.ensures.limits (subst AreBytes c.entries.ensures.bytes c.are_bytes.ensures.entries) (subst AreBytes c.array.ensures.bytes c.are_bytes.ensures.array) c.requires.sendable.rises

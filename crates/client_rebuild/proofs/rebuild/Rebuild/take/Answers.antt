@@ -1,5 +1,5 @@
 use Rattle.client_registry.specs.HashNumbers.{hash_numbers}
-use Rattle.client_rebuild.proofs.RebuildLaws.{rebuilds_with, takes_bad, takes_before, takes_elsewhere, takes_nowhere, takes_opens, takes_taken, takes_wrong}
+use Rattle.client_rebuild.proofs.RebuildLaws.{rebuilds_with, takes_bad, takes_before, takes_elsewhere, takes_memory, takes_nowhere, takes_opens, takes_taken, takes_wrong}
 use Rattle.client_rebuild.specs.Rebuilds.{Rebuilds}
 use Rattle.client_rebuild.proofs.rebuild.Rebuild.take.Goals as goal
 
@@ -41,3 +41,8 @@ pub returns-clause-elsewhere : goal.returns-clause-elsewhere
 returns-clause-elsewhere c =
     λ payloads was.
     takes_elsewhere (hash_numbers c.args.self.now.hash_keys) c.args.self.now.mark payloads c.args.payload.now c.take_next.new.self.last c.take_next.result (c.take_next.ensures.takes payloads was)
+
+pub returns-clause-memory : goal.returns-clause-memory
+returns-clause-memory c =
+    λ payloads was.
+    takes_memory (hash_numbers c.args.self.now.hash_keys) c.args.self.now.mark payloads c.args.payload.now c.take_next.new.self.last c.take_next.result (c.take_next.ensures.takes payloads was)

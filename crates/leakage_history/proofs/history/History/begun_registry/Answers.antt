@@ -8,4 +8,4 @@ returns-clause-setup c =
     let h = c.self.inside in
     c.from_docs.ensures.setup (record { b = h.b; big = h.big }) h.pad
     ∙ ap (λ docs. facts_of (setup_with docs h.b h.big h.pad) []) c.in_ok-copy_docs.ensures.documents
-    ∙ ap (λ run. facts_of run.setup []) c.self.view_is
+    ∙ ap (λ h. facts_of h.setup []) c.self.view_is

@@ -6,6 +6,7 @@ use Rattle.client_registry.specs.Documents.{all_words, first_seen}
 use Rattle.client_registry.specs.Run.{Run}
 use Rattle.client_registry.specs.Setup.{Setup, setup_with}
 use Rattle.client_registry.specs.Sized.{IsSized, run_words, update_frames}
+use Rattle.leakage_history.specs.HashedRun.{run_of}
 use Rattle.script_history.proofs.numbered_history.NumberedHistory.begin.Goals as goal
 
 pub setup_frames-frames-requires : goal.setup_frames-frames-requires
@@ -19,7 +20,7 @@ invariant_of-result c =
     let pad = c.args.size.now.pad in
     let s : Setup = setup_with docs c.args.size.now.shape.b c.args.size.now.shape.big pad in
     let alone : Run = record { setup = s; later = [] } in
-    let same : c.in_ok-history.history ≡ alone = c.in_ok-history.ensures ∙ (λ i. record { setup = setup_with docs (c.b-b.ensures.b i) (c.big-big.ensures.big i) pad; later = [] }) in
+    let same : run_of c.in_ok-history.history ≡ alone = ap run_of c.in_ok-history.ensures ∙ (λ i. record { setup = setup_with docs (c.b-b.ensures.b i) (c.big-big.ensures.big i) pad; later = [] }) in
     record {
       sized = subst IsSized (sym same) (IsSized-setup s c.words-limits.ensures.valid c.requires.accepted);
       frames = omega (arith, c.setup_frames-frames.ensures, ap update_frames same, ap (λ n. div_ceil n 1024) c.requires.padded_words, ap (λ n. div_ceil n 256) c.requires.padded_blocks);

@@ -1,0 +1,15 @@
+use Rattle.std.proofs.Common.{subst}
+use Rattle.std.specs.Prelude.{IfSome}
+use Rattle.std.proofs.lemmas.Result.{on_ok_weaker}
+use Rattle.client_registry.specs.Run.{at_first}
+use Rattle.def_comparison.specs.FirstDifference.{IsFirstDifference}
+use Rattle.def_leakage.specs.CommandLeaks.{leak}
+use Rattle.leakage_history.specs.HashedRun.{run_of}
+use Rattle.leakage_draws.proofs.moved_table.move_table.Goals as goal
+
+pub returns-in-Ok-clause-same : goal.returns-in-Ok-clause-same
+returns-in-Ok-clause-same c = on_ok_weaker c.moved_unless.result c.in-Ok.ensures.same c.moved_unless.ensures.same
+
+pub returns-in-Ok-clause-differ : goal.returns-in-Ok-clause-differ
+returns-in-Ok-clause-differ c = λ k e.
+    subst (λ o. IfSome o (λ k. IsFirstDifference k (leak at_first (run_of c.args.history.now)) (leak at_first (run_of c.args.other.now)))) (c.moved_unless.ensures.differ k e) c.in-Ok.ensures.first
