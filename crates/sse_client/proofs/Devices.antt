@@ -3,13 +3,11 @@ use Rattle.std.proofs.Common.{◌≡◌, ◌≢◌, ◌≤◌, ℕ, Result, Ok, 
 use Rattle.std.specs.Prelude.{IfErr, OnOk}
 use Rattle.sse_outside.specs.Causes.{Rose}
 use Rattle.sse_outside.specs.declared.device_fault.DeviceFault.TheVariants as devices
-use Rattle.client_journal.specs.Faults.{stop_of_records}
-use Rattle.client_journal.specs.declared.faults.RecordsFault.{RecordsFault}
-use Rattle.client_journal.specs.declared.faults.RecordsFault.TheVariants as records
 use Rattle.script_run_texts.specs.Causes.{KeepsRecorder, KeepsSink, KeepsSource, LinkCause, RecorderCause, SinkCause, SourceCause}
 use Rattle.script_run_texts.specs.Stops.{stop_status}
 use Rattle.script_run_texts.specs.declared.command_stop.CommandStop.TheVariants as commands
 use Rattle.script_run_texts.specs.declared.input_stop.InputStop.TheVariants as inputs
+use Rattle.script_run_texts.specs.declared.journal_stop.JournalStop.{JournalStop}
 use Rattle.script_run_texts.specs.declared.journal_stop.JournalStop.TheVariants as journals
 use Rattle.script_run_texts.specs.declared.peer_stop.PeerStop.TheVariants as peers
 use Rattle.script_run_texts.specs.declared.plan_stop.PlanStop.TheVariants as plans
@@ -137,6 +135,20 @@ module _ (source source' sink sink' sink'' shortages shortages' link link' disk 
         disk_steady = steady;
       }
 
+-- other words ask nothing of a device but the last line
+pub devices-idle : (source sink sink' link disk : ℕ) (read : Type 0) (status : ℕ) → status ≡ 2 → TellsDevices source source sink sink' link link disk disk read status
+devices-idle source sink sink' link disk read status is = record {
+  at_end = λ most. absurd (omega (arith, most, is));
+  source_failed = λ e. absurd (omega (arith, e, is));
+  source_steady = λ _. refl;
+  sink_failed = λ e. absurd (omega (arith, e, is));
+  sink_steady = λ most. absurd (omega (arith, most, is));
+  link_failed = λ e. absurd (omega (arith, e, is));
+  link_steady = λ _. refl;
+  disk_failed = λ e. absurd (omega (arith, e, is));
+  disk_steady = λ _. refl;
+}
+
 -- the same of a source and a disk whose counts were so before, and of a disk whose count is so behind
 pub devices-on : (source source' sink sink' link link' disk disk' had_source had_disk has_disk status : ℕ) (read : Type 0) → source ≡ had_source → disk ≡ had_disk → disk' ≡ has_disk
     → TellsDevices source source' sink sink' link link' disk disk' read status → TellsDevices had_source source' sink sink' link link' had_disk has_disk read status
@@ -145,19 +157,13 @@ devices-on source source' sink sink' link link' disk disk' had_source had_disk h
     (subst (λ n. TellsDevices had_source source' sink sink' link link' n disk' read status) d (subst (λ n. TellsDevices n source' sink sink' link link' disk disk' read status) s tells))
 
 -- records that can't be gone on from leave their disk's count, unless the disk is what failed
-pub records_same : (before now : ℕ) (fault : RecordsFault) → RecordsCause before now fault → stop_of_records fault ≢ journals.Disk → now ≡ before
-records_same before now records.NoJournal cause other = cause
-records_same before now (records.BadRecord number) cause other = cause
-records_same before now records.WrongKey cause other = cause
-records_same before now records.Disk cause other = absurd (other refl)
-records_same before now records.Memory cause other = cause
-
-pub records_rose : (before now : ℕ) (fault : RecordsFault) → RecordsCause before now fault → stop_of_records fault ≡ journals.Disk → Rose before now
-records_rose before now records.NoJournal cause e = absurd (cc)
-records_rose before now (records.BadRecord number) cause e = absurd (cc)
-records_rose before now records.WrongKey cause e = absurd (cc)
-records_rose before now records.Disk cause e = cause
-records_rose before now records.Memory cause e = absurd (cc)
+pub records_same : (before now : ℕ) (stop : JournalStop) → RecordsCause before now stop → stop ≢ journals.Disk → now ≡ before
+records_same before now journals.NoJournal cause other = cause
+records_same before now journals.HasRecords cause other = cause
+records_same before now (journals.BadRecord number) cause other = cause
+records_same before now journals.WrongKey cause other = cause
+records_same before now journals.Disk cause other = absurd (other refl)
+records_same before now journals.Memory cause other = cause
 
 -- the sink's count stayed up to the last line, unless the sink is what failed
 pub sink_kept : (before now shortages shortages_now : ℕ) (ran : Result Refusals StopCause) → KeepsSink before now shortages shortages_now ran → ending ran ≢ ends.SinkFault → now ≡ before

@@ -17,7 +17,7 @@ use Rattle.sse_script.specs.Shown.{Cause}
 use Rattle.sse_client.specs.ResumedRun.{AtKeyLine, GoesOnFrom, GoesOnOver, HasResent, IsHeldUp}
 use Rattle.sse_client.specs.KeyLines.{KeyLine, Keyed, Missing, key_line}
 use Rattle.sse_client.specs.OnDisk.{HasGoneOn}
-use Rattle.sse_client.specs.Stands.{HasRun}
+use Rattle.sse_client.specs.WholeRuns.{IsRun, SinkShows}
 
 -- these events were added, and they begin with a frame where there are any
 pub record AddsFrames (old new : Told) : Type 0 where
@@ -84,8 +84,8 @@ opens f number (Some (Key key) ∷ lines) now end (inr (inr (next, g, runs))) =
     let k = kept_since f (opened key) (number + 1) lines false next end runs in
     then now.told next.told end.outside.told k.events (greets 0 0 now.told next.told g.greets) k.adds
 
-pub run_adds : (f : KeyedFn) (bytes : List ℕ) (now last : Outside) (status : ℕ) → HasRun f bytes now last status → AddsFrames now.told last.told
-run_adds f bytes now last status run = subst (AddsFrames now.told) (sym run.ends.told) (opens f 1 (script_lines bytes) now run.end run.opens)
+pub run_adds : (f : KeyedFn) (bytes : List ℕ) (now last : Outside) (sink sink' : SinkShows) (status : ℕ) → IsRun f bytes now last sink sink' status → AddsFrames now.told last.told
+run_adds f bytes now last sink sink' status run = subst (AddsFrames now.told) (sym run.told) (opens f 1 (script_lines bytes) now run.end run.opens)
 
 -- One that goes on.
 

@@ -39,9 +39,10 @@ use Rattle.sse_client.proofs.FirstFrames.{AddsFrames, gone_on_adds, run_adds}
 use Rattle.sse_client.proofs.LentLink.{remote, same_start, same_file, all_are, added_honest, lent-over}
 use Rattle.sse_client.proofs.RunRejoins.{kept_behind, updates_behind}
 use Rattle.sse_client.specs.CanGoOn.{meaning_after}
-use Rattle.sse_client.specs.OnDisk.{HasBegun, HasGoneOn, IsNotBegun, kept_on}
+use Rattle.sse_client.specs.OnDisk.{HasGoneOn, IsNotBegun, kept_on}
 use Rattle.sse_client.specs.OverStore.{BeginsOnBothSides, GoesOnOnBothSides, HasStoredUpdates, seen_over}
 use Rattle.sse_client.specs.Stands.{outside_of, seen}
+use Rattle.sse_client.specs.WholeRuns.{IsRun, SinkShows}
 
 inside : {A : Type 0} (a b : A) → Some a ≡ Some b → a ≡ b
 inside a b e = cc
@@ -114,23 +115,23 @@ module _ (f : KeyedFn) (laws : IsKeyedFn f) (old new : LinkState) (remains : rem
     served_added : IsServed f (idle old.state) adds.events (idle new.state)
     served_added = added_honest f old new remains known before after adds
 
-  module _ (bytes own : List ℕ) (written written' : Option (List ℕ)) (status f0 f2 s0 s2 : ℕ) (kept : Kept) where
+  module _ (bytes own : List ℕ) (sink sink' : SinkShows) (status : ℕ) (kept : Kept) where
     abbrev now : Outside
-    now = seen_over old own written
+    now = seen_over old own sink.written
 
     abbrev last : Kept → Outside
-    last k = outside_of (seen (Some new.events) k) written'
+    last k = outside_of (seen (Some new.events) k) sink'.written
 
-    pub begun_over : HasBegun f bytes now (last kept) status f0 f2 s0 s2 → IsOverHonest f old.state (Some old.events) (Some new.events) new.state
-    begun_over has = over (run_adds f bytes now (last kept) status has.run)
+    pub begun_over : IsRun f bytes now (last kept) sink sink' status → IsOverHonest f old.state (Some old.events) (Some new.events) new.state
+    begun_over has = over (run_adds f bytes now (last kept) sink sink' status has)
 
-    pub gone_on_over : HasGoneOn f bytes now (last kept) status f0 f2 s0 s2 → IsOverHonest f old.state (Some old.events) (Some new.events) new.state
-    gone_on_over has = over (gone_on_adds f bytes now (last kept) status f0 f2 s0 s2 has)
+    pub gone_on_over : HasGoneOn f bytes now (last kept) status sink.faults sink'.faults sink.shortages sink'.shortages → IsOverHonest f old.state (Some old.events) (Some new.events) new.state
+    gone_on_over has = over (gone_on_adds f bytes now (last kept) status sink.faults sink'.faults sink.shortages sink'.shortages has)
 
     module _ (own' : List ℕ) (images : List ℕ → Type 0) (reads : images own') where
-      pub begins : LeavesKept kept images → HasBegun f bytes now (last kept) status f0 f2 s0 s2 → IsUndisturbed status → BeginsOnBothSides f bytes old new own own' written written' status
+      pub begins : LeavesKept kept images → IsRun f bytes now (last kept) sink sink' status → IsUndisturbed status → BeginsOnBothSides f bytes old new own own' sink.written sink'.written status
       begins leaves has calm none expects free =
-          let adds = run_adds f bytes now (last kept) status has.run in
+          let adds = run_adds f bytes now (last kept) sink sink' status has in
           let did : Headline f old.state (meaning bytes) now (last kept) status new.state = has.headline old.state new.state expects (over adds) free calm in
           record {
             headline = subst (λ k. Headline f old.state (meaning bytes) now (last k) status new.state) (kept_is own own' images kept _ reads did.kept leaves) did;
@@ -140,10 +141,10 @@ module _ (f : KeyedFn) (laws : IsKeyedFn f) (old new : LinkState) (remains : rem
                 (ap (map bare) (sym (one_list adds did.events did.adds)) ∙ did.session));
           }
 
-      pub goes_on : LeavesKept kept images → HasGoneOn f bytes now (last kept) status f0 f2 s0 s2 → IsUndisturbed status → GoesOnOnBothSides f bytes old new own own' written written' status
+      pub goes_on : LeavesKept kept images → HasGoneOn f bytes now (last kept) status sink.faults sink'.faults sink.shortages sink'.shortages → IsUndisturbed status → GoesOnOnBothSides f bytes old new own own' sink.written sink'.written status
       goes_on leaves has calm some can free =
           let m = meaning_after can.key can.run can.number can.lines in
-          let adds = gone_on_adds f bytes now (last kept) status f0 f2 s0 s2 has in
+          let adds = gone_on_adds f bytes now (last kept) status sink.faults sink'.faults sink.shortages sink'.shortages has in
           let did : Rejoined f can.taken.start can.key can.run can.next m now (last kept) status new.state = has.headline (record { before = old.state; resumes = can; state = new.state; honest = over adds }) free calm in
           let all : IsKept m.history = kept_behind f bytes (kept_on (Some own)) old.state can in
           let free_under : IsFree f (Some can.key) m.history = subst (λ k. IsFree f k m.history) (follow-key (at_run can.key [] can.run) can.number can.lines false) free in

@@ -4,7 +4,7 @@ use Rattle.std.proofs.Common.{◌≡◌, ◌+◌, ◌-◌, ◌≤◌, ℕ, false
 use Rattle.std.specs.Prelude.{◌⊎◌, IfSome, flat_map, option_map, slice_index_or}
 use Rattle.std.specs.Io.KnownBytes.{append_known}
 use Rattle.std.specs.List.{AllByRecursion}
-use Rattle.std.proofs.Math.Seq.{drop-append-add, take-length}
+use Rattle.std.proofs.Math.Seq.{drop-append-add}
 use Rattle.std.proofs.lemmas.List.{append-nil, length-drop}
 use Rattle.client_core.proofs.OwesLaws.{last_frames-with_command}
 use Rattle.client_core.proofs.ResumeLaws.{last_collision-with_command}
@@ -61,10 +61,12 @@ use Rattle.def_script_meaning.specs.Recorded.{records_in, records_with}
 use Rattle.def_script_meaning.specs.Rejoins.{frames_under, lacking, CatchesUp, HasSent, Rejoins, Rejoined}
 use Rattle.def_script_meaning.specs.Runs.{Ended, Ends, IsGreeted, StopsReading}
 use Rattle.def_script_meaning.specs.Session.{IsFree, frames_with}
-use Rattle.def_script_meaning.specs.Stops.{At, status_of, stop_text}
+use Rattle.def_script_meaning.specs.Stops.{At, status_of}
 use Rattle.sse_script.specs.TextLines.{lines_of}
 use Rattle.sse_client.specs.CanGoOn.{CanGoOn, CanResume, IsRecordedAfter, StopsUnsent, meaning_after}
-use Rattle.sse_client.specs.ResumedRun.{EndsLine, GoesOnBehindKey, GoesOnFrom, GoesOnOver, HasResent, IsFound, IsHeldUp, IsUnrestored, AtKeyLine, collision_again, frames_lacking}
+use Rattle.sse_client.specs.LastLine.{EndsLine}
+use Rattle.sse_client.proofs.LastLine.{Ends-line}
+use Rattle.sse_client.specs.ResumedRun.{GoesOnBehindKey, GoesOnFrom, GoesOnOver, HasResent, IsFound, IsHeldUp, IsUnrestored, AtKeyLine, collision_again, frames_lacking}
 use Rattle.sse_client.specs.KeyLines.{KeyLine, Keyed, Missing, key_line}
 use Rattle.sse_client.specs.OnDisk.{HasGoneOn}
 
@@ -509,10 +511,7 @@ module _ (f : KeyedFn) (laws : IsKeyedFn f) (bytes : List ℕ) (now last : Outsi
   -- all that is said of it
   module _ (f0 f2 s0 s2 : ℕ) (told : last.told ≡ end.outside.told) (kept : last.kept ≡ end.outside.kept) (line : EndsLine end.stop end.outside.written last.written status f0 f2 s0 s2) where
     ends : Ends end last
-    ends = elim line [
-      | inl whole ↦ record { told = told; kept = kept; q = length (stop_text end.stop); printed = whole.0 ∙ ap (append_known end.outside.written) (sym (take-length (stop_text end.stop))) }
-      | inr short ↦ record { told = told; kept = kept; q = short.0.n; printed = short.0.taken }
-    ]
+    ends = Ends-line end last status f0 f2 s0 s2 told kept line
 
     pub has_gone_on_so : HasGoneOn f bytes now last status f0 f2 s0 s2
     has_gone_on_so = record {

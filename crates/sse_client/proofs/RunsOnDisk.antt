@@ -5,15 +5,8 @@ use Rattle.client_core.specs.Restores.{IsRestored, Remembers}
 use Rattle.client_core.specs.declared.client.Client.{Client}
 use Rattle.client_core.specs.declared.restored.Restored.TheVariants as restored
 use Rattle.client_core.specs.declared.fresh.Fresh.{Fresh}
-use Rattle.client_journal.specs.Faults.{stop_of_begin, stop_of_records, stop_of_reopen}
 use Rattle.client_journal.specs.Openings.{GivesSome, HasNoRecord, IsNoJournal, IsOfRecords}
 use Rattle.client_journal.specs.Recordings.{IsBadUnder, IsRebuiltFrom}
-use Rattle.client_journal.specs.declared.faults.BeginFault.{BeginFault}
-use Rattle.client_journal.specs.declared.faults.BeginFault.TheVariants as begins
-use Rattle.client_journal.specs.declared.faults.RecordsFault.{RecordsFault}
-use Rattle.client_journal.specs.declared.faults.RecordsFault.TheVariants as records
-use Rattle.client_journal.specs.declared.faults.ReopenFault.{ReopenFault}
-use Rattle.client_journal.specs.declared.faults.ReopenFault.TheVariants as reopens
 use Rattle.client_rebuild.specs.declared.last.Last.{Last}
 use Rattle.client_rebuild.specs.declared.rebuild.Rebuild.{Rebuild}
 use Rattle.client_records.specs.Openings.{Opens, OpensElsewhere}
@@ -37,17 +30,16 @@ use Rattle.sse_journal.specs.declared.journal.Journal.{Journal}
 use Rattle.sse_script.specs.TextLines.{lines_left}
 use Rattle.def_script_meaning.specs.Exchange.{Told}
 use Rattle.sse_outside.specs.Fronts.{TookOrRose}
-use Rattle.sse_script.specs.Shown.{BadLine, NoMemory, SourceFault}
+use Rattle.sse_script.specs.Shown.{BadLine, NoJournal, NoMemory, SourceFault}
 use Rattle.sse_client.proofs.ResumedRuns.{for_all}
 use Rattle.sse_client.proofs.LastLine.{ends_line}
 use Rattle.sse_client.proofs.RunRejoins.{has_gone_on_so}
-use Rattle.sse_client.proofs.WholeRun.{IfSome-then, run-headline, run-honest, run-recorded, run-simulated}
+use Rattle.sse_client.proofs.WholeRun.{IfSome-then}
 use Rattle.def_script_meaning.specs.Stops.{status_of}
-use Rattle.sse_client.specs.ResumedRun.{AtKeyLine, EndsLine, GoesOnFrom, GoesOnOver, GoesOnTo, HasEndedAfter, IsUnrestored, Restores}
+use Rattle.sse_client.specs.ResumedRun.{AtKeyLine, GoesOnFrom, GoesOnOver, GoesOnTo, HasEndedAfter, IsUnrestored, Restores}
 use Rattle.sse_client.specs.KeyLines.{FindsKey, Keyed, Missing, key_line}
-use Rattle.sse_client.specs.LastLine.{HasLastLine, HasShortLine, IsWholeOrRose}
-use Rattle.sse_client.specs.OnDisk.{HasBegun, HasGoneOn, IsNotBegun, IsNotReopened, IsUnopened, held_stop, kept_on, records_on}
-use Rattle.sse_client.specs.Stands.{HasRun}
+use Rattle.sse_client.specs.LastLine.{EndsLine}
+use Rattle.sse_client.specs.OnDisk.{HasGoneOn, IsNotBegun, IsNotReopened, IsUnopened, held_stop, kept_on, records_on}
 use Rattle.sse_client.specs.declared.on_disk.HeldUp.TheVariants as held
 
 -- The records of a journal.
@@ -72,17 +64,18 @@ module _ (f : KeyedFn) (key : List ℕ) (j : Journal) (content : Option (List �
       (is.0, (is.2.kept, over_records (λ payloads. Opens (mark_of f key) payloads is.0) (λ payloads of. subst (λ m. Opens m payloads is.0) mark (subst (λ ps. Opens r.mark ps is.0) (rebuilt.all payloads of) is.1))), is.2)
 
   -- and why there is none
-  pub unrestored : (fault : RecordsFault) → ((n : ℕ) → fault ≡ records.BadRecord n → (payloads : List (List ℕ)) → told payloads → IsBadUnder (mark_of f key) payloads n)
-      → (fault ≡ records.WrongKey → (payloads : List (List ℕ)) → told payloads → OpensElsewhere (mark_of f key) (take 1 payloads)) → ((payloads : List (List ℕ)) → told payloads → fault ≢ records.NoJournal)
-      → IsUnrestored f key (kept_on content) (journal_cause (stop_of_records fault))
-  unrestored records.NoJournal bad wrong readable = over_records (λ payloads. ⊥) (λ payloads of. readable payloads of refl)
-  unrestored (records.BadRecord n) bad wrong readable = over_records _ (λ payloads of. let is = bad n refl payloads of in ((is.before, is.opened), is.refused))
-  unrestored records.WrongKey bad wrong readable = over_records _ (λ payloads of. wrong refl payloads of)
-  unrestored records.Disk bad wrong readable = tt
-  unrestored records.Memory bad wrong readable = tt
+  pub unrestored : (stop : JournalStop) → ((n : ℕ) → stop ≡ journals.BadRecord n → (payloads : List (List ℕ)) → told payloads → IsBadUnder (mark_of f key) payloads n)
+      → (stop ≡ journals.WrongKey → (payloads : List (List ℕ)) → told payloads → OpensElsewhere (mark_of f key) (take 1 payloads)) → ((payloads : List (List ℕ)) → told payloads → stop ≢ journals.NoJournal)
+      → stop ≢ journals.HasRecords → IsUnrestored f key (kept_on content) (journal_cause stop)
+  unrestored journals.NoJournal bad wrong readable other = over_records (λ payloads. ⊥) (λ payloads of. readable payloads of refl)
+  unrestored journals.HasRecords bad wrong readable other = absurd (other refl)
+  unrestored (journals.BadRecord n) bad wrong readable other = over_records _ (λ payloads of. let is = bad n refl payloads of in ((is.before, is.opened), is.refused))
+  unrestored journals.WrongKey bad wrong readable other = over_records _ (λ payloads of. wrong refl payloads of)
+  unrestored journals.Disk bad wrong readable other = tt
+  unrestored journals.Memory bad wrong readable other = tt
 
   -- there is one where there are records
-  pub unrestored-fresh : (r : Rebuild) (client : Client Fresh) (rebuilt : IsRebuiltFrom told r) → IsRestored r.mark rebuilt.payloads (restored.Fresh client) → 0 < records_of j → IsUnrestored f key (kept_on content) (journal_cause (stop_of_records records.NoJournal))
+  pub unrestored-fresh : (r : Rebuild) (client : Client Fresh) (rebuilt : IsRebuiltFrom told r) → IsRestored r.mark rebuilt.payloads (restored.Fresh client) → 0 < records_of j → IsUnrestored f key (kept_on content) NoJournal
   unrestored-fresh r client rebuilt none some = over_records (λ payloads. ⊥) (λ payloads of. omega (arith, some, of.records_are, ap length (sym (rebuilt.all payloads of) ∙ none)))
 
 -- Before the lines.
@@ -100,12 +93,12 @@ module _ (f : KeyedFn) (left : Option (List (List ℕ))) (now : Outside) where
   goes_on-unread inputs.Memory missing = (None, empty, for_all left (λ texts. GoesOnOver f (lines_in texts) now (ended now None empty (ends.At NoMemory))) (λ texts. inl (inr refl)))
 
   -- or the records stop it behind the key line
-  pub goes_on-unrestored : (key : List ℕ) (next : ℕ) (behind : Option (List (List ℕ))) (fault : RecordsFault) → FindsKey 1 left key next behind → IsUnrestored f key now.kept (journal_cause (stop_of_records fault)) → GoesOnTo f left now now (held_stop (held.Records fault))
-  goes_on-unrestored key next behind fault finds why = (
+  pub goes_on-unrestored : (key : List ℕ) (next : ℕ) (behind : Option (List (List ℕ))) (stop : JournalStop) → FindsKey 1 left key next behind → IsUnrestored f key now.kept (journal_cause stop) → GoesOnTo f left now now (held_stop (held.Records stop))
+  goes_on-unrestored key next behind stop finds why = (
     Some key,
     empty,
-    IfSome-then left (λ texts. (rest : List (List ℕ)) × (behind ≡ Some rest) × (key_line 1 (lines_in texts) ≡ Keyed key next (lines_in rest))) (λ texts. GoesOnOver f (lines_in texts) now (ended now (Some key) empty (ends.At (journal_cause (stop_of_records fault)))))
-        (λ texts found. inr (subst (λ k. AtKeyLine f k now (ended now (Some key) empty (ends.At (journal_cause (stop_of_records fault))))) (sym found.2) (inl (journal_cause (stop_of_records fault), why, refl)))) finds,
+    IfSome-then left (λ texts. (rest : List (List ℕ)) × (behind ≡ Some rest) × (key_line 1 (lines_in texts) ≡ Keyed key next (lines_in rest))) (λ texts. GoesOnOver f (lines_in texts) now (ended now (Some key) empty (ends.At (journal_cause stop))))
+        (λ texts found. inr (subst (λ k. AtKeyLine f k now (ended now (Some key) empty (ends.At (journal_cause stop)))) (sym found.2) (inl (journal_cause stop, why, refl)))) finds,
   )
 
 -- what a run that goes on comes to, from its key line on
@@ -122,59 +115,25 @@ pub has_gone_on-held : (f : KeyedFn) (laws : IsKeyedFn f) (remaining : Option (L
 has_gone_on-held f laws None now last stop status f0 f2 s0 s2 goes told kept line is = tt
 has_gone_on-held f laws (Some bytes) now last stop status f0 f2 s0 s2 goes told kept line is = has_gone_on_so f laws bytes now last status (ended now goes.0 goes.1 stop) goes.2 is f0 f2 s0 s2 told kept line
 
--- A run that begins.
-
-pub has_begun : (f : KeyedFn) (laws : IsKeyedFn f) (remaining : Option (List ℕ)) (now last : Outside) (status f0 f2 s0 s2 : ℕ) → IfSome remaining (λ bytes. HasRun f bytes now last status)
-    → IsWholeOrRose (IfSome remaining (λ bytes. HasLastLine f bytes now last status)) (IfSome remaining (λ bytes. HasShortLine f bytes now last status)) status f0 f2 s0 s2
-    → IfSome remaining (λ bytes. HasBegun f bytes now last status f0 f2 s0 s2)
-has_begun f laws None now last status f0 f2 s0 s2 runs line = tt
-has_begun f laws (Some bytes) now last status f0 f2 s0 s2 run line = record {
-  run = run;
-  simulated = run-simulated f bytes now last status run;
-  recorded = run-recorded f laws bytes now last status run;
-  honest = record { run = run; stopped = λ before state expects honest free. run-honest f laws bytes now last status before state run expects honest free };
-  headline = λ before state expects honest free calm. run-headline f laws bytes now last status before state run expects honest free calm;
-  line = line;
-}
-
 -- A journal that isn't opened.
 
-pub not_begun : (fault : BeginFault) (content : Option (List ℕ)) → (fault ≡ begins.HasRecords → IfSome content GivesSome) → (fault ≡ begins.NoJournal → IfSome content IsNoJournal) → IfSome content (IsNotBegun (stop_of_begin fault))
-not_begun begins.NoJournal content records journal = journal refl
-not_begun begins.HasRecords content records journal = records refl
-not_begun begins.Disk content records journal = for_all content (λ file. Unit {0}) (λ file. tt)
-not_begun begins.Memory content records journal = for_all content (λ file. Unit {0}) (λ file. tt)
+pub not_begun : (stop : JournalStop) (content : Option (List ℕ)) → (stop ≡ journals.HasRecords → IfSome content GivesSome) → (stop ≡ journals.NoJournal → IfSome content IsNoJournal) → ((number : ℕ) → stop ≢ journals.BadRecord number)
+    → stop ≢ journals.WrongKey → IfSome content (IsNotBegun stop)
+not_begun journals.NoJournal content records journal bad key = journal refl
+not_begun journals.HasRecords content records journal bad key = records refl
+not_begun (journals.BadRecord number) content records journal bad key = absurd (bad number refl)
+not_begun journals.WrongKey content records journal bad key = absurd (key refl)
+not_begun journals.Disk content records journal bad key = for_all content (λ file. Unit {0}) (λ file. tt)
+not_begun journals.Memory content records journal bad key = for_all content (λ file. Unit {0}) (λ file. tt)
 
-pub not_reopened : (fault : ReopenFault) (content : Option (List ℕ)) → (fault ≡ reopens.NoJournal → IfSome content HasNoRecord) → IfSome content (IsNotReopened (stop_of_reopen fault))
-not_reopened reopens.NoJournal content journal = journal refl
-not_reopened reopens.Disk content journal = for_all content (λ file. Unit {0}) (λ file. tt)
-not_reopened reopens.Memory content journal = for_all content (λ file. Unit {0}) (λ file. tt)
-
--- the fault of the disk is what a run ends for that ends for its disk, and so is that of memory
-
-pub begin_disk : (fault : BeginFault) → stop_of_begin fault ≡ journals.Disk → fault ≡ begins.Disk
-begin_disk begins.NoJournal e = absurd (cc)
-begin_disk begins.HasRecords e = absurd (cc)
-begin_disk begins.Disk e = refl
-begin_disk begins.Memory e = absurd (cc)
-
-pub reopen_disk : (fault : ReopenFault) → stop_of_reopen fault ≡ journals.Disk → fault ≡ reopens.Disk
-reopen_disk reopens.NoJournal e = absurd (cc)
-reopen_disk reopens.Disk e = refl
-reopen_disk reopens.Memory e = absurd (cc)
-
--- neither ends for another key
-
-pub begin_key : (fault : BeginFault) → stop_of_begin fault ≢ journals.WrongKey
-begin_key begins.NoJournal e = cc
-begin_key begins.HasRecords e = cc
-begin_key begins.Disk e = cc
-begin_key begins.Memory e = cc
-
-pub reopen_key : (fault : ReopenFault) → stop_of_reopen fault ≢ journals.WrongKey
-reopen_key reopens.NoJournal e = cc
-reopen_key reopens.Disk e = cc
-reopen_key reopens.Memory e = cc
+pub not_reopened : (stop : JournalStop) (content : Option (List ℕ)) → (stop ≡ journals.NoJournal → IfSome content HasNoRecord) → stop ≢ journals.HasRecords → ((number : ℕ) → stop ≢ journals.BadRecord number)
+    → stop ≢ journals.WrongKey → IfSome content (IsNotReopened stop)
+not_reopened journals.NoJournal content journal records bad key = journal refl
+not_reopened journals.HasRecords content journal records bad key = absurd (records refl)
+not_reopened (journals.BadRecord number) content journal records bad key = absurd (bad number refl)
+not_reopened journals.WrongKey content journal records bad key = absurd (key refl)
+not_reopened journals.Disk content journal records bad key = for_all content (λ file. Unit {0}) (λ file. tt)
+not_reopened journals.Memory content journal records bad key = for_all content (λ file. Unit {0}) (λ file. tt)
 
 pub unopened : (Why : JournalStop → List ℕ → Type 0) (stop : JournalStop) (told : Told) (content content' written written' : Option (List ℕ)) (status f0 f2 s0 s2 : ℕ) → IfSome content (Why stop)
     → (stop ≢ journals.Disk → stop ≢ journals.Memory → records_on content' ≡ records_on content) → TookOrRose written written' (journal_line stop) f0 f2 s0 s2 → status ≡ journal_status stop

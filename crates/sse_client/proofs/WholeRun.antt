@@ -1,8 +1,6 @@
 -- A whole run: from the start of its script over the key line, the greeting and the lines to its last line.
-use Rattle.std.proofs.Common.{◌≡◌, ℕ, ◌+◌, ◌≤◌, false, List, [], inr, refl, sym, ap, subst, ◌∙◌}
-use Rattle.std.specs.Prelude.{Option, None, Some, Result, Ok, Err, IfSome, IsErrAnd, take}
-use Rattle.std.specs.Io.KnownBytes.{append_known}
-use Rattle.std.proofs.lemmas.List.{append-nil}
+use Rattle.std.proofs.Common.{◌≡◌, ◌≢◌, ℕ, ◌+◌, ◌≤◌, false, List, [], inr, refl, sym, subst, ◌∙◌}
+use Rattle.std.specs.Prelude.{Option, None, Some, Result, Ok, Err, IfSome, IsErrAnd}
 use Rattle.client_registry.specs.Histories.{empty}
 use Rattle.keyed_fn.specs.KeyedFn.{KeyedFn, IsKeyedFn}
 use Rattle.server_core.specs.State.{ServerState}
@@ -10,7 +8,8 @@ use Rattle.def_agreement.specs.TakenFrames.{Expects}
 use Rattle.def_script_meaning.proofs.Headline.{honest_status, headline}
 use Rattle.def_script_meaning.proofs.LeftServers.{run_leaves}
 use Rattle.def_script_meaning.proofs.Recorded.{recorded}
-use Rattle.def_script_meaning.specs.Recorded.{KeepsFirst, records_with}
+use Rattle.def_script_meaning.specs.Recorded.{IsRecorded, KeepsFirst, records_with}
+use Rattle.def_script_meaning.specs.Joined.{LeavesServer}
 use Rattle.def_script_meaning.specs.Lines.{script_lines}
 use Rattle.def_script_meaning.proofs.Simulated.{sends_simulated}
 use Rattle.def_script_meaning.proofs.RunGoes.{goes}
@@ -25,13 +24,17 @@ use Rattle.def_script_meaning.specs.Carries.{Outside}
 use Rattle.def_script_meaning.specs.Exchange.{Told}
 use Rattle.def_script_meaning.specs.HelloExchange.{Greets, TurnsAway}
 use Rattle.def_script_meaning.specs.Outcome.{opened}
-use Rattle.def_script_meaning.specs.Runs.{Ended, ended, moment, OpensFrom, OpensAtKey}
+use Rattle.def_script_meaning.specs.Runs.{Ended, ended, moment, Opens, OpensFrom, OpensAtKey}
 use Rattle.def_script_meaning.specs.Stops as ends
 use Rattle.def_script_meaning.specs.Stops.{status_of, stop_text}
 use Rattle.script_run_texts.specs.declared.stop_cause.StopCause.{StopCause}
-use Rattle.sse_client.specs.Stands.{Seen, seen, outside_of, stop_view, EndsFrom, OpensTo, HasRun, HasSimulatedRun, HasRecordedRun}
+use Rattle.sse_client.specs.LastLine.{EndsLine}
+use Rattle.sse_client.specs.Stands.{Seen, seen, outside_of, stop_view, EndsFrom, OpensTo}
 use Rattle.sse_client.specs.Turns.{ending}
+use Rattle.sse_client.specs.WholeRuns.{IsRun, SinkShows}
 use Rattle.sse_client.specs.declared.lines.Refusals.{Refusals}
+use Rattle.sse_outside.specs.Fronts.{TookOrRose}
+use Rattle.sse_client.proofs.LastLine.{Ends-line, ends_line}
 
 -- a stop before the lines, or between them, ends a run so
 pub opens-stopped : (f : KeyedFn) (left : Option (List (List ℕ))) (now end : Outside) (r : Result Refusals StopCause) (stop : StopCause) → IsErrAnd r (λ e. e ≡ stop) → OpensTo f left now end (stop_view stop) → OpensTo f left now end (ending r)
@@ -76,67 +79,69 @@ module _ (f : KeyedFn) (n : ℕ) (reader : List ℕ) (remaining : Option (List �
               (record { greets = greets; unkept = refl; unprinted = refl }) runs.1),
         )
 
--- a run with its last line
-unfoldable pub has_run : (f : KeyedFn) (remaining : Option (List ℕ)) (now : Outside) (told told' : Seen) (written written' : Option (List ℕ)) (stop : ends.Stop) (status q : ℕ)
-    → OpensTo f (lines_left [] remaining) now (outside_of told written) stop → told' ≡ told → written' ≡ append_known written (take q (stop_text stop)) → status ≡ status_of stop
-    → IfSome remaining (λ bytes. HasRun f bytes now (outside_of told' written') status)
-has_run f None now told told' written written' stop status q o same printed is = tt
-has_run f (Some bytes) now told told' written written' stop status q o same printed is = record {
-  end = ended (outside_of told written) o.0 o.1 stop;
-  opens = o.2;
-  ends = record { told = ap (λ (s : Seen). s.told) same; kept = ap (λ (s : Seen). s.kept) same; q = q; printed = printed };
-  status_is = is;
-}
+-- What follows from the end of a whole run and from its last line: the frames, the records, and what is so over an honest link.
 
-pub nothing_more : (written : Option (List ℕ)) → written ≡ append_known written []
-nothing_more None = refl
-nothing_more (Some bytes) = ap (λ b. Some b) (sym (append-nil bytes))
+module _ (f : KeyedFn) (laws : IsKeyedFn f) (bytes : List ℕ) (now last : Outside) (sink sink' : SinkShows) (status : ℕ) (end : Ended) (opening : Opens f 1 (script_lines bytes) now end)
+    (same_told : last.told ≡ end.outside.told) (same_kept : last.kept ≡ end.outside.kept) (printed : EndsLine end.stop end.outside.written last.written status sink.faults sink'.faults sink.shortages sink'.shortages)
+    (is : status ≡ status_of end.stop) where
+  sends : SendsSimulated f end.key end.history now.told last.told
+  sends = subst (SendsSimulated f end.key end.history now.told) (sym same_told) (sends_simulated f (meaning bytes) now end (goes f bytes now end opening) (meaning_is_kept bytes).0)
 
--- What follows from a whole run over an honest link, from any state of a server that expects a history's first frame.
-
-module _ (f : KeyedFn) (laws : IsKeyedFn f) (bytes : List ℕ) (now last : Outside) (status : ℕ) (before state : ServerState) where
-  over_link : (run : HasRun f bytes now last status) → IsOverHonest f before now.told last.told state → IsOverHonest f before now.told run.end.outside.told state
-  over_link run honest = subst (λ told. IsOverHonest f before now.told told state) run.ends.told honest
-
-  -- no collision and no reply stops it, where its history up to its stop has no collision
-  pub run-honest : (run : HasRun f bytes now last status) → Expects 0 before → IsOverHonest f before now.told last.told state → IsFree f run.end.key run.end.history → status ≤ 7
-  run-honest run expects honest free = subst (λ n. n ≤ 7) (sym run.status_is) (honest_status f laws bytes now run.end run.opens before state expects (over_link run honest) free)
-
-  -- where nothing disturbed it, it did what its script means
-  pub run-headline : HasRun f bytes now last status → Expects 0 before → IsOverHonest f before now.told last.told state → IsFree f (meaning bytes).key (meaning bytes).history → IsUndisturbed status
-      → Headline f before (meaning bytes) now last status state
-  run-headline run expects honest free calm =
-      subst (λ n. Headline f before (meaning bytes) now last n state) (sym run.status_is)
-      (headline f laws bytes now run.end run.opens before state expects (over_link run honest) last run.ends free (subst IsUndisturbed run.status_is calm))
-
--- over every link, what it sent is what the simulator makes first
-pub run-simulated : (f : KeyedFn) (bytes : List ℕ) (now last : Outside) (status : ℕ) → HasRun f bytes now last status → HasSimulatedRun f bytes now last status
-run-simulated f bytes now last status run = record {
-  run = run;
-  sends =
-      subst (SendsSimulated f run.end.key run.end.history now.told) (sym run.ends.told)
-      (sends_simulated f (meaning bytes) now run.end (goes f bytes now run.end run.opens) (meaning_is_kept bytes).0);
-}
-
--- and of the history up to its stop the records were kept, but for the command in hand at most
-pub run-recorded : (f : KeyedFn) → IsKeyedFn f → (bytes : List ℕ) (now last : Outside) (status : ℕ) → HasRun f bytes now last status → HasRecordedRun f bytes now last status
-run-recorded f laws bytes now last status run =
-    let r = recorded f 1 (script_lines bytes) now run.end run.opens in record {
-      run = run;
-      recorded = record {
+  takes_records : IsRecorded f end.key end.history status now last
+  takes_records =
+      let r = recorded f 1 (script_lines bytes) now end opening in record {
         held = r.held;
         first = r.first;
         most = r.most;
-        kept = subst (λ kept. KeepsFirst (records_with f run.end.key run.end.history) (records_with f run.end.key r.held) status now.kept kept) (sym run.ends.kept)
-            (subst (λ s. KeepsFirst (records_with f run.end.key run.end.history) (records_with f run.end.key r.held) s now.kept run.end.outside.kept) (sym run.status_is) r.kept);
+        kept = subst (λ kept. KeepsFirst (records_with f end.key end.history) (records_with f end.key r.held) status now.kept kept) (sym same_kept)
+            (subst (λ s. KeepsFirst (records_with f end.key end.history) (records_with f end.key r.held) s now.kept end.outside.kept) (sym is) r.kept);
         events = r.events;
-        adds = run.ends.told ∙ r.adds;
+        adds = same_told ∙ r.adds;
         count = r.count;
         sent = r.sent;
-        whole = λ disk memory clash. r.whole (λ e. disk (run.status_is ∙ e)) (λ e. memory (run.status_is ∙ e)) (λ e. clash (run.status_is ∙ e));
-      };
-      left = λ before state expects honest free. run_leaves f laws bytes now run.end run.opens before state expects (over_link f laws bytes now last status before state run honest) free;
-    }
+        whole = λ disk memory clash. r.whole (λ e. disk (is ∙ e)) (λ e. memory (is ∙ e)) (λ e. clash (is ∙ e));
+      }
+
+  module _ (before state : ServerState) (expects : Expects 0 before) (over : IsOverHonest f before now.told last.told state) where
+    over_link : IsOverHonest f before now.told end.outside.told state
+    over_link = subst (λ told. IsOverHonest f before now.told told state) same_told over
+
+    -- no collision and no reply stops it, where its history up to its stop has no collision
+    stops_low : IsFree f end.key end.history → status ≤ 7
+    stops_low free = subst (λ n. n ≤ 7) (sym is) (honest_status f laws bytes now end opening before state expects over_link free)
+
+    leaves : IsFree f end.key end.history → LeavesServer f end.key end.history state
+    leaves free = run_leaves f laws bytes now end opening before state expects over_link free
+
+    -- where nothing disturbed it, it did what its script means
+    means : IsFree f (meaning bytes).key (meaning bytes).history → IsUndisturbed status → Headline f before (meaning bytes) now last status state
+    means free calm =
+        subst (λ n. Headline f before (meaning bytes) now last n state) (sym is)
+        (headline f laws bytes now end opening before state expects over_link last (Ends-line end last status sink.faults sink'.faults sink.shortages sink'.shortages same_told same_kept printed) free (subst IsUndisturbed is calm))
+
+  is_run : IsRun f bytes now last sink sink' status
+  is_run = record {
+    end = end;
+    opens = opening;
+    told = same_told;
+    kept = same_kept;
+    line = printed;
+    status_is = is;
+    simulated = sends;
+    recorded = takes_records;
+    honest = stops_low;
+    left = leaves;
+    headline = means;
+  }
+
+-- a run with its last line, from where it came to before that
+pub is_run-opens : (f : KeyedFn) → IsKeyedFn f → (remaining : Option (List ℕ)) (now : Outside) (told : Seen) (written written' : Option (List ℕ)) (stop : ends.Stop) (status : ℕ) (sink sink' : SinkShows) (f1 s1 : ℕ)
+    → OpensTo f (lines_left [] remaining) now (outside_of told written) stop → status ≡ status_of stop → TookOrRose written written' (stop_text stop) f1 sink'.faults s1 sink'.shortages
+    → (stop ≢ ends.SinkFault → f1 ≡ sink.faults) → sink.shortages ≤ s1 → IfSome remaining (λ bytes. IsRun f bytes now (outside_of told written') sink sink' status)
+is_run-opens f laws None now told written written' stop status sink sink' f1 s1 o is took steady fewer = tt
+is_run-opens f laws (Some bytes) now told written written' stop status sink sink' f1 s1 o is took steady fewer =
+    is_run f laws bytes now (outside_of told written') sink sink' status (ended (outside_of told written) o.0 o.1 stop) o.2 refl refl
+    (ends_line stop written written' status sink.faults f1 sink'.faults sink.shortages s1 sink'.shortages is took steady fewer) is
 
 -- what follows from each of a known list of bytes
 pub IfSome-then : {T : Type 0} (o : Option T) (P Q : T → Type 0) → ((x : T) → P x → Q x) → IfSome o P → IfSome o Q

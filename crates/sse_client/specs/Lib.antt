@@ -10,9 +10,10 @@ pub mod Steps
 pub mod Stands
 pub mod RecordKept
 pub mod Turns
-pub mod OverServer
 pub mod LastLine
 pub mod Devices
+pub mod WholeRuns
+pub mod OverServer
 pub mod KeyLines
 pub mod NotResumed
 pub mod ResumedRun

@@ -1,9 +1,6 @@
 -- A run that keeps its records in a journal on a disk.
 use Rattle.std.specs.Prelude.{◌≡◌, ◌≢◌, ◌⊎◌, ℕ, List, [], ◌++◌, Option, IfSome, option_map}
-use Rattle.client_journal.specs.Faults.{stop_of_records}
 use Rattle.client_journal.specs.Openings.{GivesSome, HasNoRecord, IsNoJournal}
-use Rattle.client_journal.specs.declared.faults.RecordsFault.{RecordsFault}
-use Rattle.client_journal.specs.declared.faults.RecordsFault.TheVariants as records
 use Rattle.keyed_fn.specs.KeyedFn.{KeyedFn}
 use Rattle.script_run_texts.specs.Causes.{InputCause}
 use Rattle.script_run_texts.specs.Stops.{input_cause, journal_cause, journal_status}
@@ -22,9 +19,10 @@ use Rattle.sse_outside.specs.Causes.{Rose}
 use Rattle.sse_outside.specs.Kept.{Kept}
 use Rattle.client_recorder.specs.KeepsOn.{GivesFront, LeavesKept}
 use Rattle.sse_client.specs.CanGoOn.{IsRecordedAfter, StopsUnsent, IsHonestAfter, LeavesServerAfter, HasHeadlineAfter}
-use Rattle.sse_client.specs.ResumedRun.{EndsLine, GoesOnOver}
-use Rattle.sse_client.specs.LastLine.{HasLastLine, HasShortLine, IsWholeOrRose}
-use Rattle.sse_client.specs.Stands.{seen, outside_of, HasRun, HasHonestStatus, HasSimulatedRun, HasRecordedRun, HasHeadline}
+use Rattle.sse_client.specs.LastLine.{EndsLine}
+use Rattle.sse_client.specs.ResumedRun.{GoesOnOver}
+use Rattle.sse_client.specs.Stands.{seen, outside_of}
+use Rattle.sse_client.specs.WholeRuns.{IsRun, SinkShows, outside}
 use Rattle.sse_client.specs.declared.on_disk.HeldUp.{HeldUp}
 use Rattle.sse_client.specs.declared.on_disk.HeldUp.TheVariants as held
 
@@ -73,20 +71,20 @@ Lasts content images = IfSome content (λ file. (image : List ℕ) → images im
 -- Why a run that goes on doesn't come to its lines.
 
 abbrev pub held_stop : HeldUp → ends.Stop
-held_stop (held.Records fault) = ends.At (journal_cause (stop_of_records fault))
+held_stop (held.Records stop) = ends.At (journal_cause stop)
 held_stop (held.Input stop) = ends.At (input_cause stop)
 
 -- what the count of a disk's faults shows of it, and what that of the source's
-abbrev pub RecordsCause : ℕ → ℕ → RecordsFault → Type 0
-RecordsCause before now records.Disk = Rose before now
+abbrev pub RecordsCause : ℕ → ℕ → JournalStop → Type 0
+RecordsCause before now journals.Disk = Rose before now
 RecordsCause before now _ = now ≡ before
 
 abbrev pub HeldCause : ℕ → ℕ → HeldUp → Type 0
-HeldCause before now (held.Records fault) = RecordsCause before now fault
+HeldCause before now (held.Records stop) = RecordsCause before now stop
 HeldCause before now (held.Input stop) = now ≡ before
 
 abbrev pub HeldSource : ℕ → ℕ → HeldUp → Type 0
-HeldSource before now (held.Records fault) = now ≡ before
+HeldSource before now (held.Records stop) = now ≡ before
 HeldSource before now (held.Input stop) = InputCause before now stop
 
 -- A journal that isn't begun, or not gone on with.
@@ -115,16 +113,7 @@ pub record IsUnopened (Why : JournalStop → List ℕ → Type 0) (told told' : 
   pub line : EndsLine (ends.At (journal_cause stop)) written written' status faults faults_now shortages shortages_now
   pub status_is : status ≡ journal_status stop
 
--- A run that began a history, and one that went on with one, over a script of these bytes, with its last line and this status.
-
-pub record HasBegun (f : KeyedFn) (bytes : List ℕ) (now last : Outside) (status faults faults_now shortages shortages_now : ℕ) : Type 0 where
-  pub run : HasRun f bytes now last status
-  pub simulated : HasSimulatedRun f bytes now last status
-  pub recorded : HasRecordedRun f bytes now last status
-  pub honest : HasHonestStatus f bytes now last status
-  pub headline : HasHeadline f bytes now last status
-  pub line : IsWholeOrRose (HasLastLine f bytes now last status) (HasShortLine f bytes now last status) status faults faults_now shortages shortages_now
-
+-- A run that went on with a history, over a script of these bytes, with its last line and this status.
 pub record HasGoneOn (f : KeyedFn) (bytes : List ℕ) (now last : Outside) (status faults faults_now shortages shortages_now : ℕ) : Type 0 where
   pub end : Ended
   pub goes_on : GoesOnOver f (script_lines bytes) now end
@@ -137,3 +126,42 @@ pub record HasGoneOn (f : KeyedFn) (bytes : List ℕ) (now last : Outside) (stat
   pub honest : IsHonestAfter f bytes now last end status
   pub left : LeavesServerAfter f bytes now last end
   pub headline : HasHeadlineAfter f bytes now last status
+
+-- `run` and `more` on a disk: by the bytes that the source has left, what the link told, and the sink, before and after.
+
+-- the run is whole, and keeps its records; or its journal isn't begun
+abbrev pub BeginsOrNot : {D : Type 0} (content : D → Option (List ℕ)) (images : D → List ℕ → Type 0) (moment : D → ℕ) (left_since : D → ℕ → List ℕ → Type 0) (old new : D)
+    (f : KeyedFn) (remaining : Option (List ℕ)) (told told' : Told) (sink sink' : SinkShows) (status : ℕ) → Type 0
+BeginsOrNot content images moment left_since old new f remaining told told' sink sink' status =
+    (IsUnopened IsNotBegun told told' (content old) (content new) sink.written sink'.written status sink.faults sink'.faults sink.shortages sink'.shortages × LeavesAsBefore content images moment left_since old new)
+    ⊎ KeepsOnDisk content images moment left_since old new (λ kept. IfSome remaining (λ bytes. IsRun f bytes (seen_with told (content old) sink.written) (outside told' kept sink'.written) sink sink' status))
+
+-- a run goes on with the history of the journal's records, and keeps its own
+abbrev pub ResumesJournal : {D : Type 0} (content : D → Option (List ℕ)) (images : D → List ℕ → Type 0) (moment : D → ℕ) (left_since : D → ℕ → List ℕ → Type 0) (old new : D)
+    (f : KeyedFn) (remaining : Option (List ℕ)) (told told' : Told) (sink sink' : SinkShows) (status : ℕ) → Type 0
+ResumesJournal content images moment left_since old new f remaining told told' sink sink' status =
+    KeepsOnDisk content images moment left_since old new (λ kept. IfSome remaining (λ bytes.
+    HasGoneOn f bytes (seen_with told (content old) sink.written) (outside told' kept sink'.written) status sink.faults sink'.faults sink.shortages sink'.shortages))
+
+-- or the journal isn't opened
+abbrev pub ResumesOrNot : {D : Type 0} (content : D → Option (List ℕ)) (images : D → List ℕ → Type 0) (moment : D → ℕ) (left_since : D → ℕ → List ℕ → Type 0) (old new : D)
+    (f : KeyedFn) (remaining : Option (List ℕ)) (told told' : Told) (sink sink' : SinkShows) (status : ℕ) → Type 0
+ResumesOrNot content images moment left_since old new f remaining told told' sink sink' status =
+    (IsUnopened IsNotReopened told told' (content old) (content new) sink.written sink'.written status sink.faults sink'.faults sink.shortages sink'.shortages × LeavesAsBefore content images moment left_since old new)
+    ⊎ ResumesJournal content images moment left_since old new f remaining told told' sink sink' status
+
+-- all of `run`: it is refused for a file that has records or is no journal, unless the disk fails or memory is out; and where neither
+-- happened and the journal was opened, a crash at the end leaves the records of the file as it reads
+pub record BeginsOnDisk {D : Type 0} (content : D → Option (List ℕ)) (images : D → List ℕ → Type 0) (moment : D → ℕ) (left_since : D → ℕ → List ℕ → Type 0) (old new : D)
+    (f : KeyedFn) (remaining : Option (List ℕ)) (told told' : Told) (sink sink' : SinkShows) (status : ℕ) : Type 0 where
+  pub begun : BeginsOrNot content images moment left_since old new f remaining told told' sink sink' status
+  pub refused : IfSome (content old) (λ file. GivesSome file ⊎ IsNoJournal file → status ≢ 6 → status ≢ 7 → status ≡ 10)
+  pub lasts : status ≢ 6 → status ≢ 7 → status ≢ 10 → Lasts (content new) (images new)
+
+-- all of `more`: likewise it goes on for a file that gives a record, and is refused for one that gives none
+pub record ResumesOnDisk {D : Type 0} (content : D → Option (List ℕ)) (images : D → List ℕ → Type 0) (moment : D → ℕ) (left_since : D → ℕ → List ℕ → Type 0) (old new : D)
+    (f : KeyedFn) (remaining : Option (List ℕ)) (told told' : Told) (sink sink' : SinkShows) (status : ℕ) : Type 0 where
+  pub gone_on : ResumesOrNot content images moment left_since old new f remaining told told' sink sink' status
+  pub accepted : IfSome (content old) (λ file. GivesSome file → status ≢ 6 → status ≢ 7 → ResumesJournal content images moment left_since old new f remaining told told' sink sink' status)
+  pub refused : IfSome (content old) (λ file. HasNoRecord file → status ≢ 6 → status ≢ 7 → status ≡ 10)
+  pub lasts : status ≢ 6 → status ≢ 7 → status ≢ 10 → Lasts (content new) (images new)

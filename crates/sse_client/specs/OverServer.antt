@@ -1,48 +1,35 @@
 -- A run over a fresh server in the same process.
-use Rattle.std.specs.Prelude.{◌≡◌, ◌≤◌, ℕ, List, [], ◌++◌, flat_map, take, Option, None, Some}
+use Rattle.std.specs.Prelude.{◌≡◌, ◌≢◌, ◌≤◌, ℕ, List, [], ◌++◌, flat_map, take, Option, None, Some}
 use Rattle.std.specs.Io.KnownBytes.{append_known}
-use Rattle.keyed_fn.specs.KeyedFn.{KeyedFn}
-use Rattle.server_core.specs.State.{ServerState, at_first}
-use Rattle.sse_outside.specs.Kept.{Kept}
 use Rattle.def_script_meaning.specs.Carries.{Outside}
 use Rattle.def_script_meaning.specs.Exchange.{Told}
-use Rattle.def_script_meaning.specs.Headline.{IsOverHonest}
+use Rattle.def_script_meaning.specs.Headline.{Headline, IsOverHonest}
 use Rattle.def_script_meaning.specs.Meaning.{Meaning, meaning}
 use Rattle.def_script_meaning.specs.Session.{IsFree}
 use Rattle.def_script_meaning.specs.Stops.{status_of, stop_text}
+use Rattle.keyed_fn.specs.KeyedFn.{KeyedFn}
+use Rattle.server_core.specs.State.{ServerState, at_first}
+use Rattle.sse_client.specs.WholeRuns.{IsRun, SinkShows, outside}
+use Rattle.sse_outside.specs.Kept.{Kept}
 use Rattle.sse_script.specs.Texts.{text_of}
-use Rattle.sse_client.specs.LastLine.{HasLastLine, HasShortLine}
-use Rattle.sse_client.specs.Stands.{seen, outside_of, HasRun}
 
--- a whole run: where its history up to its stop has no collision, no collision and no reply stopped it
-pub record HasRunOverServer (f : KeyedFn) (bytes : List ℕ) (now last : Outside) (status : ℕ) : Type 0 where
-  pub run : HasRun f bytes now last status
+-- a whole run by a link that is honest, from a server that has taken nothing: no collision and no reply stopped it, where its history up to
+-- its stop has no collision; and where no device and no want of memory did, it did what its script means
+pub record IsRunOverServer (f : KeyedFn) (bytes : List ℕ) (now last : Outside) (sink sink' : SinkShows) (state : ServerState) (status : ℕ) : Type 0 where
+  pub run : IsRun f bytes now last sink sink' status
   pub stopped : IsFree f run.end.key run.end.history → status ≤ 7
+  pub headline : status ≢ 3 → status ≢ 4 → status ≢ 6 → status ≢ 7 → IsFree f (meaning bytes).key (meaning bytes).history → Headline f at_first (meaning bytes) now last status state
 
 -- a run that keeps no records
 abbrev pub unkept : Kept
 unkept = record { records = None; refused = [] }
 
 -- the lines and the status of such a run: they are those of one over some honest link, of which no record is told
-pub record PrintsAsRun (f : KeyedFn) (bytes : List ℕ) (old new : Option (List ℕ)) (status : ℕ) : Type 0 where
+pub record PrintsRun (f : KeyedFn) (bytes : List ℕ) (sink sink' : SinkShows) (status : ℕ) : Type 0 where
   pub told : Told
   pub state : ServerState
   pub over : IsOverHonest f at_first (Some []) told state
-  pub runs : HasRunOverServer f bytes (outside_of (seen (Some []) unkept) old) (outside_of (seen told unkept) new) status
-
--- such lines, the last of them whole
-pub record PrintsLastLine (f : KeyedFn) (bytes : List ℕ) (old new : Option (List ℕ)) (status : ℕ) : Type 0 where
-  pub told : Told
-  pub state : ServerState
-  pub over : IsOverHonest f at_first (Some []) told state
-  pub ends : HasLastLine f bytes (outside_of (seen (Some []) unkept) old) (outside_of (seen told unkept) new) status
-
--- or a proper front of the last
-pub record PrintsShortLine (f : KeyedFn) (bytes : List ℕ) (old new : Option (List ℕ)) (status : ℕ) : Type 0 where
-  pub told : Told
-  pub state : ServerState
-  pub over : IsOverHonest f at_first (Some []) told state
-  pub ends : HasShortLine f bytes (outside_of (seen (Some []) unkept) old) (outside_of (seen told unkept) new) status
+  pub run : IsRunOverServer f bytes (outside (Some []) unkept sink.written) (outside told unkept sink'.written) sink sink' state status
 
 -- a script of this meaning has this status and printed its lines, and a front of the line that says why it stopped
 pub record PrintsMeaning (m : Meaning) (old new : Option (List ℕ)) (status : ℕ) : Type 0 where

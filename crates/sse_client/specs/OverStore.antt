@@ -1,12 +1,13 @@
 -- A run whose client keeps its records in a file of its own, over a link to a store whose file is observable too. It says everything that the
 -- client and the server hold at the end, beside the traffic and the printed text.
-use Rattle.std.specs.Prelude.{◌≡◌, ℕ, List, [], ◌++◌, All, drop, Option, Some}
+use Rattle.std.specs.Prelude.{◌≡◌, ◌≢◌, ℕ, List, [], ◌++◌, All, drop, Option, Some, IfSome}
 use Rattle.client_registry.specs.Run.{Run}
 use Rattle.keyed_fn.specs.KeyedFn.{KeyedFn}
 use Rattle.def_link_events.specs.Events.{AreStepped}
+use Rattle.def_link_events.specs.Served.{IsHonest}
 use Rattle.def_link_events.specs.Taken.{updates_among}
 use Rattle.def_script_meaning.specs.Carries.{Outside}
-use Rattle.def_script_meaning.specs.Headline.{Headline}
+use Rattle.def_script_meaning.specs.Headline.{Headline, IsOverHonest}
 use Rattle.def_script_meaning.specs.Meaning.{Meaning, meaning}
 use Rattle.def_script_meaning.specs.Rejoins.{Rejoined, frames_under}
 use Rattle.def_script_meaning.specs.Session.{IsFree, frames_of}
@@ -15,10 +16,14 @@ use Rattle.def_agreement.specs.TakenFrames.{Expects}
 use Rattle.sse_frames.specs.Frames.{FrameText}
 use Rattle.sse_journal.specs.Files.{Gives, IsPayload, file}
 use Rattle.sse_link.specs.LinkStates.{LinkState}
+use Rattle.sse_link.specs.Stored.{IsStored}
+use Rattle.outside_memory_disk.specs.SteadyDisk.{file_of, images_of, moment_of, left_since_of}
+use Rattle.outside_memory_disk.specs.declared.steady_disk.SteadyDisk.{SteadyDisk}
 use Rattle.sse_server.specs.Taken.{bodies}
 use Rattle.client_journal.specs.Openings.{GivesSome}
 use Rattle.sse_client.specs.CanGoOn.{CanResume, meaning_after}
-use Rattle.sse_client.specs.OnDisk.{kept_on, seen_with}
+use Rattle.sse_client.specs.OnDisk.{BeginsOnDisk, ResumesOnDisk, kept_on, seen_with}
+use Rattle.sse_client.specs.WholeRuns.{SinkShows}
 
 -- what is seen of it: all that passed, the records of the client's file, and what the sink took
 abbrev pub seen_over : LinkState → (own : List ℕ) → (written : Option (List ℕ)) → Outside
@@ -56,3 +61,21 @@ GoesOnOnBothSides f bytes old new own own' written written' status =
     GivesSome own → (can : CanResume f bytes (kept_on (Some own)) old.state) →
     let m = meaning_after can.key can.run can.number can.lines in
     IsFree f m.key m.history → IsRejoinedOnBothSides f can.taken.start can.key can.run can.next m old new (seen_over old own written) (seen_over new own' written') status
+
+-- `run` does over such a link what it does on a disk; and if source and sink didn't fail and memory wasn't out, it is on both sides
+pub record BeginsOverStore (f : KeyedFn) (remaining : Option (List ℕ)) (old new : LinkState) (disk disk' : SteadyDisk) (sink sink' : SinkShows) (status : ℕ) : Type 0 where
+  pub on_disk : BeginsOnDisk (λ d. Some (file_of d)) images_of moment_of left_since_of disk disk' f remaining (Some old.events) (Some new.events) sink sink' status
+  pub both : status ≢ 3 → status ≢ 4 → status ≢ 7 → IfSome remaining (λ bytes. BeginsOnBothSides f bytes old new (file_of disk) (file_of disk') sink.written sink'.written status)
+
+-- and so does `more`
+pub record ResumesOverStore (f : KeyedFn) (remaining : Option (List ℕ)) (old new : LinkState) (disk disk' : SteadyDisk) (sink sink' : SinkShows) (status : ℕ) : Type 0 where
+  pub on_disk : ResumesOnDisk (λ d. Some (file_of d)) images_of moment_of left_since_of disk disk' f remaining (Some old.events) (Some new.events) sink sink' status
+  pub both : status ≢ 3 → status ≢ 4 → status ≢ 7 → IfSome remaining (λ bytes. GoesOnOnBothSides f bytes old new (file_of disk) (file_of disk') sink.written sink'.written status)
+
+-- the link to the store: what passed is honest, since the run and since the link began, which is as it was; and the store's file holds the
+-- updates that were taken
+pub record LeavesStore (f : KeyedFn) (remaining : Option (List ℕ)) (old new : LinkState) : Type 0 where
+  pub over : IfSome remaining (λ _. IsOverHonest f old.state (Some old.events) (Some new.events) new.state)
+  pub honest : IsHonest f new.began new.events new.state
+  pub stored : IsStored f new
+  pub began : (new.began ≡ old.began) × (new.began_file ≡ old.began_file)

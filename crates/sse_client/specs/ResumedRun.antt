@@ -25,7 +25,7 @@ use Rattle.def_script_meaning.specs.Lines.{Line, lines_in}
 use Rattle.def_script_meaning.specs.Runs.{Ended, ended, Runs, StopsReading}
 use Rattle.def_script_meaning.specs.Stops.{Stop, At, SinkFault, status_of, stop_text}
 use Rattle.sse_client.specs.Exchanges.{HasExchanged, HasCut}
-use Rattle.sse_client.specs.LastLine.{IsWholeOrRose}
+use Rattle.sse_client.specs.LastLine.{EndsLine}
 use Rattle.sse_client.specs.KeyLines.{KeyLine, Keyed, Missing, key_line}
 
 -- The records.
@@ -138,14 +138,6 @@ GoesOnTo f left now end stop = (key : Option (List ℕ)) × (h : History) × IfS
 
 abbrev pub ResumesTo : KeyedFn → (key : List ℕ) → Run → (number : ℕ) → Option (List (List ℕ)) → Outside → Outside → Stop → Type 0
 ResumesTo f key run number left now end stop = (h : History) × IfSome left (λ texts. GoesOnFrom f key run number (lines_in texts) now (ended end (Some key) h stop))
-
--- The last line.
-
--- how it was printed, behind what the sink had taken: whole, and the count of faults is that of the run's start but where the status tells
--- a fault of the sink; or a proper front of it, and the count of faults or that of shortages rose
-abbrev pub EndsLine : Stop → (written written' : Option (List ℕ)) → (status faults faults_now shortages shortages_now : ℕ) → Type 0
-EndsLine stop written written' status faults faults_now shortages shortages_now =
-    IsWholeOrRose (written' ≡ append_known written (stop_text stop)) (TookFront written written' (stop_text stop)) status faults faults_now shortages shortages_now
 
 -- a run went on after this history over the lines that were left, with its last line and this status
 pub record HasEndedAfter (f : KeyedFn) (key : List ℕ) (run : Run) (number : ℕ) (left : Option (List (List ℕ))) (now last : Outside) (status faults faults_now shortages shortages_now : ℕ) : Type 0 where

@@ -1,5 +1,5 @@
 -- The place of a session in its script, the effect of a command there, and the end of a run.
-use Rattle.std.specs.Prelude.{◌≡◌, ◌≢◌, ◌≤◌, Bool, true, false, List, [], ◌∷◌, ℕ, map, Option, Some, None}
+use Rattle.std.specs.Prelude.{◌≡◌, ◌≢◌, Bool, true, false, List, [], ◌∷◌, ℕ, map, Option, Some, None}
 use Rattle.client_core.specs.StandsFor.{StandsFor}
 use Rattle.client_registry.specs.Acceptance.{size_refusal}
 use Rattle.client_registry.specs.Histories.{is_set_up}
@@ -7,25 +7,17 @@ use Rattle.client_registry.specs.Live.{in_order}
 use Rattle.client_registry.specs.Run.{History, Run, at_first}
 use Rattle.client_registry.specs.Setup.{setup_with}
 use Rattle.keyed_fn.specs.KeyedFn.{KeyedFn}
-use Rattle.server_core.specs.State.{ServerState}
-use Rattle.def_agreement.specs.TakenFrames.{Expects}
-use Rattle.def_script_meaning.specs.Headline.{IsOverHonest, IsUndisturbed, Headline, SendsSimulated}
-use Rattle.def_script_meaning.specs.Meaning.{meaning}
-use Rattle.def_script_meaning.specs.Session.{IsFree}
 use Rattle.sse_script.specs.Shown.{Cause, BadWords, NoMemory}
 use Rattle.sse_model.specs.Epochs.{keys_under}
 use Rattle.def_script_meaning.specs.Carries.{Keeps, Outside, keys_at, records_by, with_answers, IsSent, Carries, StopsIn}
 use Rattle.sse_outside.specs.Kept.{Kept}
 use Rattle.def_script_meaning.specs.Exchange.{Told}
-use Rattle.def_script_meaning.specs.Joined.{LeavesServer}
-use Rattle.def_script_meaning.specs.Lines.{Request, script_lines}
+use Rattle.def_script_meaning.specs.Lines.{Request}
 use Rattle.def_script_meaning.specs.Outcome.{Place, Outcome, outcome, after, shown_by, is_refusal}
 use Rattle.script_documents.specs.Refused.{bad_word}
-use Rattle.def_script_meaning.specs.Recorded.{IsRecorded}
 use Rattle.def_script_meaning.specs.Refused.{delete_refusal}
-use Rattle.def_script_meaning.specs.Runs.{Ended, ended, Opens, Ends, Moment, RunsFrom, OpensFrom}
+use Rattle.def_script_meaning.specs.Runs.{ended, Moment, RunsFrom, OpensFrom}
 use Rattle.def_script_meaning.specs.Stops as ends
-use Rattle.def_script_meaning.specs.Stops.{status_of}
 use Rattle.sse_script.specs.Lines.{Line, Doc, SetupLine, AddLine, Del, Find}
 use Rattle.sse_client.specs.Stages.{key_of, hash_keys_of, hash_keys_under}
 use Rattle.script_run_texts.specs.LineResultViews.{line_result_view, refuses}
@@ -129,36 +121,3 @@ EndsFrom f start end stop = (h : History) × RunsFrom f start (ended end (Some s
 -- a run over these lines, from before its key line, ends so, with the key and the history up to there
 abbrev pub OpensTo : KeyedFn → Option (List (List ℕ)) → Outside → Outside → ends.Stop → Type 0
 OpensTo f left now end stop = (key : Option (List ℕ)) × (h : History) × OpensFrom f 1 left now (ended end key h stop)
-
--- a whole run over a script of these bytes, with its last line and this status
-pub record HasRun (f : KeyedFn) (bytes : List ℕ) (now last : Outside) (status : ℕ) : Type 0 where
-  pub end : Ended
-  pub opens : Opens f 1 (script_lines bytes) now end
-  pub ends : Ends end last
-  pub status_is : status ≡ status_of end.stop
-
--- a whole run that, over an honest link from a server that expects a setup's first frame, whatever else it holds, no collision
--- and no reply stopped, where its history up to its stop has no collision
-pub record HasHonestStatus (f : KeyedFn) (bytes : List ℕ) (now last : Outside) (status : ℕ) : Type 0 where
-  pub run : HasRun f bytes now last status
-  pub stopped : (before state : ServerState) → Expects 0 before → IsOverHonest f before now.told last.told state → IsFree f run.end.key run.end.history → status ≤ 7
-
--- a whole run in which the frames that were sent are the first that the simulator makes of the history up to its stop, the
--- command in hand included, whatever the link replied
-pub record HasSimulatedRun (f : KeyedFn) (bytes : List ℕ) (now last : Outside) (status : ℕ) : Type 0 where
-  pub run : HasRun f bytes now last status
-  pub sends : SendsSimulated f run.end.key run.end.history now.told last.told
-
--- a whole run of whose history the records were taken, but for that of the command in hand at most, and of which no frame was sent
--- whose command's record wasn't taken before; and which left a server that a run can go on with, whatever stopped it, over an honest link
--- from one that expects a setup's first frame, where its history up to its stop has no collision
-pub record HasRecordedRun (f : KeyedFn) (bytes : List ℕ) (now last : Outside) (status : ℕ) : Type 0 where
-  pub run : HasRun f bytes now last status
-  pub recorded : IsRecorded f run.end.key run.end.history status now last
-  pub left : (before state : ServerState) → Expects 0 before → IsOverHonest f before now.told last.told state → IsFree f run.end.key run.end.history → LeavesServer f run.end.key run.end.history state
-
--- where nothing disturbed a run, it did what its script means
-abbrev pub HasHeadline : KeyedFn → List ℕ → Outside → Outside → ℕ → Type 0
-HasHeadline f bytes now last status =
-    (before state : ServerState) → Expects 0 before → IsOverHonest f before now.told last.told state → IsFree f (meaning bytes).key (meaning bytes).history → IsUndisturbed status
-    → Headline f before (meaning bytes) now last status state

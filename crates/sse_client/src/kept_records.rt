@@ -6,18 +6,15 @@ ghost use Rattle.client_recorder.specs.KeepsOn.{KeepsOn};
 
 use client_core::{Planned, PlannedUpdate};
 use client_recorder::Recorder;
-use client_registry::Docs;
 use sse_outside::DeviceFault;
 use std::alloc::Global;
 
-/// Keeps the record of a planned setup, made of these documents.
+/// Keeps the record of a planned setup.
 pub(crate) fn keep_setup<R: Recorder>(
     alloc: Global,
     planned: &Planned,
-    docs: &Docs,
     recorder: &mut R,
 ) -> Result<(), DeviceFault>
-    requires documents { planned.now.made_of ≡ docs.now }
     requires whole { R.whole recorder.old }
     ensures kept { HasKept (setup_payload planned.now) (R.kept recorder.old) (R.kept recorder.new) result }
     ensures keeps_on { KeepsOn R.kept R.moment R.left_since recorder.old recorder.new }
@@ -25,7 +22,7 @@ pub(crate) fn keep_setup<R: Recorder>(
     ensures faults { KeepsRecorder KeepCause (R.faults recorder.old) (R.faults recorder.new) result }
 {
     let mut payload = Vec::new(alloc);
-    if planned.payload_into(docs, &mut payload).is_err() {
+    if planned.payload_into(&mut payload).is_err() {
         return Err(DeviceFault::NoMemory);
     }
     recorder.keep(payload)

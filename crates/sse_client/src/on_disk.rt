@@ -1,5 +1,4 @@
 ghost use Rattle.std.specs.Prelude.{◌≡◌, ◌≢◌, ◌⊎◌, ◌≤◌, ◌<◌, ◌+◌, ◌^◌, ℕ, List, [], None, Option, Some, map, string_bytes, IfErr, IfOk, IfSome};
-ghost use Rattle.std.specs.Io.KnownBytes.{IsAtEnd};
 ghost use Rattle.client_core.specs.Restores.{Remembers};
 ghost use Rattle.client_journal.specs.Openings.{GivesSome, HasNoRecord, IsNoJournal, IsOfRecords};
 ghost use Rattle.client_rebuild.specs.Recalls.{hash_keys_of};
@@ -8,25 +7,22 @@ ghost use Rattle.keyed_fn.specs.KeyedFn.{keyed_fn};
 ghost use Rattle.script_run_texts.specs.Causes.{KeepsRecorder, KeepsSource};
 ghost use Rattle.script_run_texts.specs.Words as asks;
 ghost use Rattle.def_script_meaning.specs.Exchange.{Told};
-ghost use Rattle.sse_client.specs.Devices.{TellsDevices};
+ghost use Rattle.sse_client.specs.Calls.{shows};
 ghost use Rattle.sse_client.specs.ResumedRun.{GoesOnTo, Restores};
 ghost use Rattle.sse_client.specs.KeyLines.{FindsKey};
-ghost use Rattle.sse_client.specs.OnDisk.{HasBegun, HasGoneOn, HeldCause, HeldSource, IsNotBegun, IsNotReopened, IsUnopened, KeepsOnDisk, KeepsOnStarted, Lasts, LeavesAsBefore, held_stop, kept_on, seen_with};
+ghost use Rattle.sse_client.specs.OnDisk.{BeginsOnDisk, BeginsOrNot, HasGoneOn, HeldCause, HeldSource, KeepsOnStarted, Lasts, ResumesJournal, ResumesOnDisk, ResumesOrNot, held_stop, kept_on, seen_with};
 ghost use Rattle.sse_client.specs.Stages.{hash_keys_under};
 ghost use Rattle.sse_client.specs.Stands.{outside_of, seen};
+ghost use Rattle.sse_client.specs.WholeRuns.{DoesNothing, LeavesDevices, gives, prints};
 ghost use Rattle.sse_journal.specs.AnyMoment.{LeavesOnly};
 ghost use Rattle.sse_journal.specs.JournalView.{broken_by, records_of};
-ghost use Rattle.sse_outside.specs.Causes.{Rose};
-ghost use Rattle.sse_outside.specs.Fronts.{TookOrRose};
-ghost use Rattle.sse_script.specs.Shown.{Stopped, BadWords};
 ghost use Rattle.sse_script.specs.TextLines.{bytes_to_come, lines_left};
-ghost use Rattle.sse_script.specs.Texts.{text_of};
 
 use crate::resumed_run::{Restart, gone_on};
 use crate::run::{key_line, whole_run};
 use crate::tools::Tools;
 use client_core::Restored;
-use client_journal::{RecordsFault, begin, rebuild, reopen};
+use client_journal::{begin, rebuild, reopen};
 use client_recorder::JournalRecorder;
 use keyed_fn::Keyed;
 use script_run_texts::{
@@ -41,7 +37,7 @@ use std::alloc::{AllocError, Global};
 #[derive(Clone, Copy)]
 pub(crate) enum HeldUp {
     /// The records of its journal make no history under its key, or can't be read.
-    Records(RecordsFault),
+    Records(JournalStop),
     /// Its key line isn't read.
     Input(InputStop),
 }
@@ -56,13 +52,13 @@ impl From<InputStop> for HeldUp {
     }
 }
 
-impl From<RecordsFault> for HeldUp {
+impl From<JournalStop> for HeldUp {
     ghost use Rattle.sse_client.specs.declared.on_disk.HeldUp.TheVariants.{Records as records};
 
-    ghost from_gives = { λ fault held. held ≡ records fault };
+    ghost from_gives = { λ stop held. held ≡ records stop };
 
-    fn from(fault: RecordsFault) -> HeldUp {
-        HeldUp::Records(fault)
+    fn from(stop: JournalStop) -> HeldUp {
+        HeldUp::Records(stop)
     }
 }
 
@@ -113,40 +109,37 @@ fn restored<'a, K: Keyed, D: Disk, S: Source>(
     let rebuilt = rebuild(alloc, keyed, key, journal, disk)?;
     match Restored::of(rebuilt) {
         Restored::Recorded(client) => {
-            let tools = Tools {
-                alloc,
-                keyed,
-                master,
-            };
+            let tools = Tools { alloc, master };
             Ok(Restart {
                 tools,
                 client,
                 input,
             })
         }
-        Restored::Fresh(_) => Err(HeldUp::Records(RecordsFault::NoJournal)),
+        Restored::Fresh(_) => Err(HeldUp::Records(JournalStop::NoJournal)),
     }
 }
 
-// Promise P10, also here; clauses: source_failed, source_steady, sink_failed, sink_steady, link_failed, link_steady, disk_failed, disk_steady, at_end, known
-// Promise P11, also here; clauses: words_status, words_source, words_link, words_disk, words_line
+// Promise P09, also here; clauses: begun, more, devices
+// Promise P10, also here; clauses: devices, known
+// Promise P11, also here; clauses: other
 // Promise P14 (user): `run` makes a whole run that keeps its records in the journal, or sends nothing and says why: records, no journal, disk or memory.
-//   clauses: begun, run_refused; fields: IsUnopened.stop, IsUnopened.unsent, IsUnopened.unkept, HasBegun.run, HasBegun.recorded, HasBegun.honest, HasBegun.headline, HasBegun.line;
-//     assumes: observable devices; checks: .ci/turns; not: A real disk isn't observable: any records may have been there.
+//   clauses: begun; fields: BeginsOnDisk.begun, BeginsOnDisk.refused, IsUnopened.stop, IsUnopened.unsent, IsUnopened.unkept, IsRun.opens, IsRun.recorded, IsRun.honest,
+//     IsRun.headline, IsRun.line; assumes: observable devices; checks: .ci/turns; not: A real disk isn't observable: any records may have been there.
 // Promise P15 (user): `more` resends the last command's missing frames and continues the history that the journal's records make, or stops and says why.
-//   clauses: more, more_refused; fields: HasGoneOn.goes_on, HasGoneOn.unsent, IsUnopened.unsent; assumes: observable devices; checks: .ci/turns; not: That the server holds the frames
-//     before the number it says: its word is taken. A server that lost frames of earlier commands ends the run with 9.
+//   clauses: more; fields: ResumesOnDisk.gone_on, ResumesOnDisk.refused, HasGoneOn.goes_on, HasGoneOn.unsent, IsUnopened.unsent; assumes: observable devices; checks: .ci/turns; not:
+//     That the server holds the frames before the number it says: its word is taken. A server that lost frames of earlier commands ends the run with 9.
 // Promise P16 (user): An undisturbed `more` prints `resumed`, then its script's lines; searches list the live documents of both sessions that hold the word.
 //   clauses: more; fields: HasGoneOn.headline, HasGoneOn.honest, Rejoined.printed, Rejoined.passed, Rejoined.kept, Rejoined.stored; assumes: observable devices, resumable state, honest
 //     link, no collision, no device fault, enough memory; checks: .ci/turns; not: That the frames are the simulator's: no clause says it of a resumed session (P24 is of `run`). A server
 //     that lost acknowledged frames.
-// Promise P17, also here; clauses: begun, more, more_accepted
+// Promise P17, also here; clauses: begun, more
 // Promise P19 (user): If a file's records don't fit the script's key, `more` ends with 10 or 11 and names the right cause.
-//   clauses: more_accepted, more; fields: StopsUnsent.no_key, StopsUnsent.bad_record, StopsUnsent.wrong_key; assumes: observable devices, no device fault, enough memory; not: A missing
-//     key line ends with 2 and its number. 7 is always free.
+//   clauses: more; fields: ResumesOnDisk.accepted, StopsUnsent.no_key, StopsUnsent.bad_record, StopsUnsent.wrong_key; assumes: observable devices, no device fault, enough memory; not: A
+//     missing key line ends with 2 and its number. 7 is always free.
 // Promise P20 (user): From the first successful sync, a crash during a run leaves the file's earlier records and then the run's first ones, in order.
-//   clauses: begun, more, more_accepted, lasts; fields: KeepsWhat.grows, KeepsWhat.meanwhile, KeepsWhat.leaves; assumes: observable devices, disk model; checks: .ci/journal, .ci/crash;
-//     not: Whether a crash leaves a refused record. The bytes of the client's file: only the records that it gives are claimed.
+//   clauses: begun, more; fields: KeepsWhat.grows, KeepsWhat.meanwhile, KeepsWhat.leaves, BeginsOnDisk.lasts, ResumesOnDisk.lasts; assumes: observable devices, disk model; checks:
+//     .ci/journal, .ci/crash; not: Whether a crash leaves a refused record. The bytes of the client's file: only the records that it gives are claimed.
 /// All that a client program does that keeps its records on a disk: with `run` it begins a history, and the journal must have no
 /// record; with `more` it goes on with the history of the records that the journal has.
 pub fn run_on_disk<K: Keyed, L: Link, D: Disk, S: Source, W: Sink>(
@@ -158,46 +151,16 @@ pub fn run_on_disk<K: Keyed, L: Link, D: Disk, S: Source, W: Sink>(
     source: &mut S,
     sink: &mut W,
 ) -> (u8, D)
-    ensures words_source { asks.disk_mode_of (map (λ word. string_bytes word) words.now) ≡ None → source.new ≡ source.old }
-    ensures words_link { asks.disk_mode_of (map (λ word. string_bytes word) words.now) ≡ None → link.new ≡ link.old }
-    ensures words_disk { asks.disk_mode_of (map (λ word. string_bytes word) words.now) ≡ None → result.1 ≡ disk }
-    ensures words_status { asks.disk_mode_of (map (λ word. string_bytes word) words.now) ≡ None → result.0 ≡ 2 }
-    ensures words_line { asks.disk_mode_of (map (λ word. string_bytes word) words.now) ≡ None →
-        TookOrRose (W.written sink.old) (W.written sink.new) (text_of (Stopped BadWords)) (W.faults sink.old) (W.faults sink.new) (W.shortages sink.old) (W.shortages sink.new) }
-
-    // `run`: whole, or not begun for its journal. And what a crash leaves, at its end and at any moment of it.
-    ensures begun { asks.disk_mode_of (map (λ word. string_bytes word) words.now) ≡ Some asks.RunOn →
-        (IsUnopened IsNotBegun (L.transcript link.old) (L.transcript link.new) (D.content disk) (D.content result.1) (W.written sink.old) (W.written sink.new) result.0 (W.faults sink.old) (W.faults sink.new) (W.shortages sink.old) (W.shortages sink.new)
-        × LeavesAsBefore D.content D.images D.moment D.left_since disk result.1)
-        ⊎ KeepsOnDisk D.content D.images D.moment D.left_since disk result.1 (λ kept. IfSome (S.remaining source.old) (λ bytes.
-        HasBegun (keyed_fn K.prf K.pad) bytes (seen_with (L.transcript link.old) (D.content disk) (W.written sink.old)) (outside_of (seen (L.transcript link.new) kept) (W.written sink.new)) result.0
-        (W.faults sink.old) (W.faults sink.new) (W.shortages sink.old) (W.shortages sink.new))) }
-    ensures run_refused { asks.disk_mode_of (map (λ word. string_bytes word) words.now) ≡ Some asks.RunOn → IfSome (D.content disk) (λ file. GivesSome file ⊎ IsNoJournal file → result.0 ≢ 6 → result.0 ≢ 7 → result.0 ≡ 10) }
-
-    // `more`: whole, or not gone on with for its journal.
-    ensures more { asks.disk_mode_of (map (λ word. string_bytes word) words.now) ≡ Some asks.More →
-        (IsUnopened IsNotReopened (L.transcript link.old) (L.transcript link.new) (D.content disk) (D.content result.1) (W.written sink.old) (W.written sink.new) result.0 (W.faults sink.old) (W.faults sink.new) (W.shortages sink.old) (W.shortages sink.new)
-        × LeavesAsBefore D.content D.images D.moment D.left_since disk result.1)
-        ⊎ KeepsOnDisk D.content D.images D.moment D.left_since disk result.1 (λ kept. IfSome (S.remaining source.old) (λ bytes.
-        HasGoneOn (keyed_fn K.prf K.pad) bytes (seen_with (L.transcript link.old) (D.content disk) (W.written sink.old)) (outside_of (seen (L.transcript link.new) kept) (W.written sink.new)) result.0
-        (W.faults sink.old) (W.faults sink.new) (W.shortages sink.old) (W.shortages sink.new))) }
-    ensures more_accepted { asks.disk_mode_of (map (λ word. string_bytes word) words.now) ≡ Some asks.More → IfSome (D.content disk) (λ file. GivesSome file → result.0 ≢ 6 → result.0 ≢ 7 → KeepsOnDisk D.content D.images D.moment D.left_since disk result.1 (λ kept. IfSome (S.remaining source.old) (λ bytes.
-        HasGoneOn (keyed_fn K.prf K.pad) bytes (seen_with (L.transcript link.old) (D.content disk) (W.written sink.old)) (outside_of (seen (L.transcript link.new) kept) (W.written sink.new)) result.0
-        (W.faults sink.old) (W.faults sink.new) (W.shortages sink.old) (W.shortages sink.new)))) }
-    ensures more_refused { asks.disk_mode_of (map (λ word. string_bytes word) words.now) ≡ Some asks.More → IfSome (D.content disk) (λ file. HasNoRecord file → result.0 ≢ 6 → result.0 ≢ 7 → result.0 ≡ 10) }
-
-    // The devices, of both.
-    ensures at_end { result.0 ≤ 1 → IsAtEnd (S.remaining source.new) }
-    ensures source_failed { result.0 ≡ 3 → Rose (S.faults source.old) (S.faults source.new) }
-    ensures source_steady { result.0 ≢ 3 → S.faults source.new ≡ S.faults source.old }
-    ensures sink_failed { result.0 ≡ 4 → Rose (W.faults sink.old) (W.faults sink.new) }
-    ensures sink_steady { result.0 ≤ 1 → W.faults sink.new ≡ W.faults sink.old }
-    ensures link_failed { result.0 ≡ 5 → Rose (L.faults link.old) (L.faults link.new) }
-    ensures link_steady { result.0 ≢ 5 → L.faults link.new ≡ L.faults link.old }
-    ensures began { L.began link.new ≡ L.began link.old }
-    ensures disk_failed { result.0 ≡ 6 → Rose (D.faults disk) (D.faults result.1) }
-    ensures disk_steady { result.0 ≢ 6 → D.faults result.1 ≡ D.faults disk }
-    ensures lasts { (mode : asks.DiskMode) → asks.disk_mode_of (map (λ word. string_bytes word) words.now) ≡ Some mode → result.0 ≢ 6 → result.0 ≢ 7 → result.0 ≢ 10 → Lasts (D.content result.1) (D.images result.1) }
+    ensures other { asks.disk_mode_of (map (λ word. string_bytes word) words.now) ≡ None → DoesNothing source.old source.new link.old link.new disk result.1
+        (prints (W.written sink.old) (W.faults sink.old) (W.shortages sink.old)) (prints (W.written sink.new) (W.faults sink.new) (W.shortages sink.new)) result.0 }
+    ensures begun { asks.disk_mode_of (map (λ word. string_bytes word) words.now) ≡ Some asks.RunOn → BeginsOnDisk D.content D.images D.moment D.left_since disk result.1 (keyed_fn K.prf K.pad) (S.remaining source.old) (L.transcript link.old) (L.transcript link.new)
+        (prints (W.written sink.old) (W.faults sink.old) (W.shortages sink.old)) (prints (W.written sink.new) (W.faults sink.new) (W.shortages sink.new)) result.0 }
+    ensures more { asks.disk_mode_of (map (λ word. string_bytes word) words.now) ≡ Some asks.More → ResumesOnDisk D.content D.images D.moment D.left_since disk result.1 (keyed_fn K.prf K.pad) (S.remaining source.old) (L.transcript link.old) (L.transcript link.new)
+        (prints (W.written sink.old) (W.faults sink.old) (W.shortages sink.old)) (prints (W.written sink.new) (W.faults sink.new) (W.shortages sink.new)) result.0 }
+    ensures devices { LeavesDevices (gives (S.remaining source.old) (S.faults source.old)) (gives (S.remaining source.new) (S.faults source.new))
+        (prints (W.written sink.old) (W.faults sink.old) (W.shortages sink.old)) (prints (W.written sink.new) (W.faults sink.new) (W.shortages sink.new))
+        (shows (L.transcript link.old) (L.faults link.old) (L.began link.old)) (shows (L.transcript link.new) (L.faults link.new) (L.began link.new))
+        (D.faults disk) (D.faults result.1) result.0 }
     ensures known { result.0 ≤ 11 }
 {
     match disk_mode_of(words) {
@@ -216,15 +179,13 @@ fn begin_run<K: Keyed, L: Link, D: Disk, S: Source, W: Sink>(
     source: &mut S,
     sink: &mut W,
 ) -> (u8, D)
-    ensures begun { (IsUnopened IsNotBegun (L.transcript link.old) (L.transcript link.new) (D.content disk) (D.content result.1) (W.written sink.old) (W.written sink.new) result.0 (W.faults sink.old) (W.faults sink.new) (W.shortages sink.old) (W.shortages sink.new)
-        × LeavesAsBefore D.content D.images D.moment D.left_since disk result.1)
-        ⊎ KeepsOnDisk D.content D.images D.moment D.left_since disk result.1 (λ kept. IfSome (S.remaining source.old) (λ bytes.
-        HasBegun (keyed_fn K.prf K.pad) bytes (seen_with (L.transcript link.old) (D.content disk) (W.written sink.old)) (outside_of (seen (L.transcript link.new) kept) (W.written sink.new)) result.0
-        (W.faults sink.old) (W.faults sink.new) (W.shortages sink.old) (W.shortages sink.new))) }
+    ensures begun { BeginsOrNot D.content D.images D.moment D.left_since disk result.1 (keyed_fn K.prf K.pad) (S.remaining source.old) (L.transcript link.old) (L.transcript link.new)
+        (prints (W.written sink.old) (W.faults sink.old) (W.shortages sink.old)) (prints (W.written sink.new) (W.faults sink.new) (W.shortages sink.new)) result.0 }
     ensures refused { IfSome (D.content disk) (λ file. GivesSome file ⊎ IsNoJournal file → result.0 ≢ 6 → result.0 ≢ 7 → result.0 ≡ 10) }
-    ensures devices { TellsDevices (S.faults source.old) (S.faults source.new) (W.faults sink.old) (W.faults sink.new) (L.faults link.old) (L.faults link.new)
-        (D.faults disk) (D.faults result.1) (IsAtEnd (S.remaining source.new)) result.0 }
-    ensures began { L.began link.new ≡ L.began link.old }
+    ensures devices { LeavesDevices (gives (S.remaining source.old) (S.faults source.old)) (gives (S.remaining source.new) (S.faults source.new))
+        (prints (W.written sink.old) (W.faults sink.old) (W.shortages sink.old)) (prints (W.written sink.new) (W.faults sink.new) (W.shortages sink.new))
+        (shows (L.transcript link.old) (L.faults link.old) (L.began link.old)) (shows (L.transcript link.new) (L.faults link.new) (L.began link.new))
+        (D.faults disk) (D.faults result.1) result.0 }
     ensures lasts { result.0 ≢ 6 → result.0 ≢ 7 → result.0 ≢ 10 → Lasts (D.content result.1) (D.images result.1) }
     ensures known { result.0 ≤ 10 }
 {
@@ -235,7 +196,7 @@ fn begin_run<K: Keyed, L: Link, D: Disk, S: Source, W: Sink>(
             let status = whole_run(alloc, keyed, link, &mut recorder, source, sink);
             (status, recorder.into_disk())
         }
-        Err(fault) => (finish_unopened(sink, JournalStop::from(fault)), disk),
+        Err(stop) => (finish_unopened(sink, stop), disk),
     }
 }
 
@@ -248,25 +209,22 @@ fn more<K: Keyed, L: Link, D: Disk, S: Source, W: Sink>(
     source: &mut S,
     sink: &mut W,
 ) -> (u8, D)
-    ensures more { (IsUnopened IsNotReopened (L.transcript link.old) (L.transcript link.new) (D.content disk) (D.content result.1) (W.written sink.old) (W.written sink.new) result.0 (W.faults sink.old) (W.faults sink.new) (W.shortages sink.old) (W.shortages sink.new)
-        × LeavesAsBefore D.content D.images D.moment D.left_since disk result.1)
-        ⊎ KeepsOnDisk D.content D.images D.moment D.left_since disk result.1 (λ kept. IfSome (S.remaining source.old) (λ bytes.
-        HasGoneOn (keyed_fn K.prf K.pad) bytes (seen_with (L.transcript link.old) (D.content disk) (W.written sink.old)) (outside_of (seen (L.transcript link.new) kept) (W.written sink.new)) result.0
-        (W.faults sink.old) (W.faults sink.new) (W.shortages sink.old) (W.shortages sink.new))) }
-    ensures accepted { IfSome (D.content disk) (λ file. GivesSome file → result.0 ≢ 6 → result.0 ≢ 7 → KeepsOnDisk D.content D.images D.moment D.left_since disk result.1 (λ kept. IfSome (S.remaining source.old) (λ bytes.
-        HasGoneOn (keyed_fn K.prf K.pad) bytes (seen_with (L.transcript link.old) (D.content disk) (W.written sink.old)) (outside_of (seen (L.transcript link.new) kept) (W.written sink.new)) result.0
-        (W.faults sink.old) (W.faults sink.new) (W.shortages sink.old) (W.shortages sink.new)))) }
+    ensures more { ResumesOrNot D.content D.images D.moment D.left_since disk result.1 (keyed_fn K.prf K.pad) (S.remaining source.old) (L.transcript link.old) (L.transcript link.new)
+        (prints (W.written sink.old) (W.faults sink.old) (W.shortages sink.old)) (prints (W.written sink.new) (W.faults sink.new) (W.shortages sink.new)) result.0 }
+    ensures accepted { IfSome (D.content disk) (λ file. GivesSome file → result.0 ≢ 6 → result.0 ≢ 7 → ResumesJournal D.content D.images D.moment D.left_since disk result.1 (keyed_fn K.prf K.pad) (S.remaining source.old) (L.transcript link.old) (L.transcript link.new)
+        (prints (W.written sink.old) (W.faults sink.old) (W.shortages sink.old)) (prints (W.written sink.new) (W.faults sink.new) (W.shortages sink.new)) result.0) }
     ensures refused { IfSome (D.content disk) (λ file. HasNoRecord file → result.0 ≢ 6 → result.0 ≢ 7 → result.0 ≡ 10) }
-    ensures devices { TellsDevices (S.faults source.old) (S.faults source.new) (W.faults sink.old) (W.faults sink.new) (L.faults link.old) (L.faults link.new)
-        (D.faults disk) (D.faults result.1) (IsAtEnd (S.remaining source.new)) result.0 }
-    ensures began { L.began link.new ≡ L.began link.old }
+    ensures devices { LeavesDevices (gives (S.remaining source.old) (S.faults source.old)) (gives (S.remaining source.new) (S.faults source.new))
+        (prints (W.written sink.old) (W.faults sink.old) (W.shortages sink.old)) (prints (W.written sink.new) (W.faults sink.new) (W.shortages sink.new))
+        (shows (L.transcript link.old) (L.faults link.old) (L.began link.old)) (shows (L.transcript link.new) (L.faults link.new) (L.began link.new))
+        (D.faults disk) (D.faults result.1) result.0 }
     ensures lasts { result.0 ≢ 6 → result.0 ≢ 7 → result.0 ≢ 10 → Lasts (D.content result.1) (D.images result.1) }
     ensures known { result.0 ≤ 11 }
 {
     let mut disk = disk;
     match reopen(alloc, &mut disk) {
         Ok(journal) => go_on_from(alloc, keyed, link, Opened { journal, disk }, source, sink),
-        Err(fault) => (finish_unopened(sink, JournalStop::from(fault)), disk),
+        Err(stop) => (finish_unopened(sink, stop), disk),
     }
 }
 
@@ -285,9 +243,10 @@ fn go_on_from<K: Keyed, L: Link, D: Disk, S: Source, W: Sink>(
     ensures gone_on { KeepsOnStarted D.content D.images D.moment D.left_since opened.disk result.1 (λ kept. IfSome (S.remaining source.old) (λ bytes.
         HasGoneOn (keyed_fn K.prf K.pad) bytes (seen_with (L.transcript link.old) (D.content opened.disk) (W.written sink.old)) (outside_of (seen (L.transcript link.new) kept) (W.written sink.new)) result.0
         (W.faults sink.old) (W.faults sink.new) (W.shortages sink.old) (W.shortages sink.new))) }
-    ensures devices { TellsDevices (S.faults source.old) (S.faults source.new) (W.faults sink.old) (W.faults sink.new) (L.faults link.old) (L.faults link.new)
-        (D.faults opened.disk) (D.faults result.1) (IsAtEnd (S.remaining source.new)) result.0 }
-    ensures began { L.began link.new ≡ L.began link.old }
+    ensures devices { LeavesDevices (gives (S.remaining source.old) (S.faults source.old)) (gives (S.remaining source.new) (S.faults source.new))
+        (prints (W.written sink.old) (W.faults sink.old) (W.shortages sink.old)) (prints (W.written sink.new) (W.faults sink.new) (W.shortages sink.new))
+        (shows (L.transcript link.old) (L.faults link.old) (L.began link.old)) (shows (L.transcript link.new) (L.faults link.new) (L.began link.new))
+        (D.faults opened.disk) (D.faults result.1) result.0 }
     ensures lasts { result.0 ≢ 6 → result.0 ≢ 7 → Lasts (D.content result.1) (D.images result.1) }
     ensures known { result.0 ≤ 11 }
 {
@@ -298,7 +257,7 @@ fn go_on_from<K: Keyed, L: Link, D: Disk, S: Source, W: Sink>(
             let status = gone_on(restart, link, &mut recorder, source, sink);
             (status, recorder.into_disk())
         }
-        Err(HeldUp::Records(fault)) => (finish_unopened(sink, JournalStop::from(fault)), disk),
+        Err(HeldUp::Records(stop)) => (finish_unopened(sink, stop), disk),
         Err(HeldUp::Input(stop)) => (finish(sink, StopCause::Input(stop)), disk),
     }
 }

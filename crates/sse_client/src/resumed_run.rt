@@ -10,9 +10,9 @@ ghost use Rattle.keyed_fn.specs.KeyedFn.{KeyedFn, keyed_fn};
 ghost use Rattle.script_run_texts.specs.Causes.{CommandCause, KeepCommandCause, KeepsRecorder, KeepsSink, KeepsSource, LinkCause, RecorderCause, SourceCause};
 ghost use Rattle.script_run_texts.specs.Stops.{command_cause};
 ghost use Rattle.sse_client.specs.Calls.{shows, KeepsLink};
-ghost use Rattle.sse_client.specs.Devices.{TellsDevices};
 ghost use Rattle.sse_client.specs.ResumedRun.{HasEndedAfter, HasResent, Restores, ResumesTo, StopsResending};
 ghost use Rattle.sse_client.specs.RecordKept.{StaysWhole, WholeAtStop};
+ghost use Rattle.sse_client.specs.WholeRuns.{LeavesDevices, LeavesRecorder, gives, prints};
 ghost use Rattle.sse_client.specs.NotResumed.{stop_of_resume};
 ghost use Rattle.sse_client.specs.Stages.{hash_keys_under};
 ghost use Rattle.sse_client.specs.Stands.{seen, outside_of};
@@ -116,7 +116,7 @@ fn resend<K: Keyed, L: Link, R: Recorder>(
             return Err(stop);
         }
     };
-    match client.resume(tools.alloc, tools.keyed, next) {
+    match client.resume(tools.alloc, tools.master.keyed(), next) {
         Ok(Resumed::Ready(ready)) => Ok((ready, frames)),
         Ok(Resumed::Behind(behind)) => Ok((catch_up(behind, link, recorder, buffer)?, frames)),
         Err(fault) => Err(stop_of(fault)),
@@ -190,11 +190,11 @@ pub(crate) fn gone_on<K: Keyed, L: Link, R: Recorder, S: Source, W: Sink>(
         HasEndedAfter (keyed_fn K.prf K.pad) restart.entry.client.key run (restart.entry.input.number + 1) (lines_left restart.entry.input.pending (S.remaining source.old))
         (outside_of (seen (L.transcript link.old) (R.kept recorder.old)) (W.written sink.old)) (outside_of (seen (L.transcript link.new) (R.kept recorder.new)) (W.written sink.new)) result
         (W.faults sink.old) (W.faults sink.new) (W.shortages sink.old) (W.shortages sink.new) }
-    ensures devices { TellsDevices (S.faults source.old) (S.faults source.new) (W.faults sink.old) (W.faults sink.new) (L.faults link.old) (L.faults link.new)
-        (R.faults recorder.old) (R.faults recorder.new) (IsAtEnd (S.remaining source.new)) result }
-    ensures began { L.began link.new ≡ L.began link.old }
-    ensures keeps_on { KeepsOn R.kept R.moment R.left_since recorder.old recorder.new }
-    ensures lasts { result ≢ 6 → result ≢ 7 → R.whole recorder.new }
+    ensures devices { LeavesDevices (gives (S.remaining source.old) (S.faults source.old)) (gives (S.remaining source.new) (S.faults source.new))
+        (prints (W.written sink.old) (W.faults sink.old) (W.shortages sink.old)) (prints (W.written sink.new) (W.faults sink.new) (W.shortages sink.new))
+        (shows (L.transcript link.old) (L.faults link.old) (L.began link.old)) (shows (L.transcript link.new) (L.faults link.new) (L.began link.new))
+        (R.faults recorder.old) (R.faults recorder.new) result }
+    ensures records { LeavesRecorder R.kept R.moment R.left_since R.whole recorder.old recorder.new result }
     ensures known { result ≤ 9 }
 {
     let ran = go_on(restart, link, recorder, source, sink);

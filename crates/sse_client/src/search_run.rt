@@ -37,7 +37,7 @@ pub(crate) fn search<K: Keyed, L: Link>(
     ensures own_memory { result ≡ Err PeerStop.Memory → HasOwnMemory (keyed_fn K.prf K.pad) (L.transcript link.old) (L.transcript link.new) }
     ensures keeps { KeepsLink PeerCause (shows (L.transcript link.old) (L.faults link.old) (L.began link.old)) (shows (L.transcript link.new) (L.faults link.new) (L.began link.new)) result }
 {
-    send(link, &client.search_frame(tools.keyed, &tools.master, word))?;
+    send(link, &client.search_frame(&tools.master, word))?;
     let mut found = Found::new(tools.alloc);
     'pages: loop {
         buffer.receive(link)?;

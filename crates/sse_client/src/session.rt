@@ -31,7 +31,7 @@ use crate::tools::Tools;
 use crate::update_run::{UpdateInHand, plan_addition, plan_deletion, send_update};
 use client_core::{Client, Fresh, Planned, Ready, SetupFault};
 use client_recorder::Recorder;
-use client_registry::Docs;
+use client_registry::{Docs, Sizes};
 use keyed_fn::Keyed;
 use script_documents::{LineFault, add_document, word_of};
 use script_run_texts::{CommandStop, LineResult, PlanStop};
@@ -79,14 +79,7 @@ pub(crate) fn take_line<K: Keyed, L: Link, R: Recorder>(
         Line::Empty | Line::Key(_) => Ok((stage, LineResult::Nothing)),
         Line::Doc { id, words } => Ok(collect(tools.alloc, stage, id, words)?),
         Line::Setup { b, big, pad } => {
-            set_up(
-                tools,
-                link,
-                recorder,
-                buffer,
-                stage,
-                SetupNumbers { b, big, pad },
-            )
+            set_up(tools, link, recorder, buffer, stage, Sizes { b, big, pad })
         }
         Line::Add { id, words } => add(
             tools,
@@ -146,14 +139,6 @@ fn refusal_of(done: Result<(), LineFault>) -> Result<LineResult, PlanStop>
     }
 }
 
-/// The numbers of a `setup` line: those in a cell, those in a block, and Q.
-#[derive(Clone, Copy)]
-struct SetupNumbers {
-    b: u64,
-    big: u64,
-    pad: u64,
-}
-
 /// Carries out a `setup` line. After a refusal the documents stay collected.
 fn set_up<K: Keyed, L: Link, R: Recorder>(
     tools: &Tools<'_, K>,
@@ -161,12 +146,12 @@ fn set_up<K: Keyed, L: Link, R: Recorder>(
     recorder: &mut R,
     buffer: &mut ReplyBuffer,
     stage: Stage,
-    numbers: SetupNumbers,
+    sizes: Sizes,
 ) -> Result<(Stage, LineResult), CommandStop>
     requires whole { R.whole recorder.old }
-    ensures takes { IfOk result (λ done. Takes (keyed_fn K.prf K.pad) stage (requests.SetupLine numbers.b numbers.big numbers.pad) (seen (L.transcript link.old) (R.kept recorder.old)) (seen (L.transcript link.new) (R.kept recorder.new)) done.0 done.1) }
-    ensures stops { IfErr result (λ stop. StopsWithin (keyed_fn K.prf K.pad) stage (requests.SetupLine numbers.b numbers.big numbers.pad) (seen (L.transcript link.old) (R.kept recorder.old)) (seen (L.transcript link.new) (R.kept recorder.new)) (command_cause stop)) }
-    ensures may_stop { OnErr result (MayStop (keyed_fn K.prf K.pad) stage (lines.SetupLine numbers.b numbers.big numbers.pad)) }
+    ensures takes { IfOk result (λ done. Takes (keyed_fn K.prf K.pad) stage (requests.SetupLine sizes.b sizes.big sizes.pad) (seen (L.transcript link.old) (R.kept recorder.old)) (seen (L.transcript link.new) (R.kept recorder.new)) done.0 done.1) }
+    ensures stops { IfErr result (λ stop. StopsWithin (keyed_fn K.prf K.pad) stage (requests.SetupLine sizes.b sizes.big sizes.pad) (seen (L.transcript link.old) (R.kept recorder.old)) (seen (L.transcript link.new) (R.kept recorder.new)) (command_cause stop)) }
+    ensures may_stop { OnErr result (MayStop (keyed_fn K.prf K.pad) stage (lines.SetupLine sizes.b sizes.big sizes.pad)) }
     ensures same_key { IfOk result (λ done. key_of done.0 ≡ key_of stage) }
     ensures keeps { KeepsLink CommandCause (shows (L.transcript link.old) (L.faults link.old) (L.began link.old)) (shows (L.transcript link.new) (L.faults link.new) (L.began link.new)) result }
     ensures keeps_on { KeepsOn R.kept R.moment R.left_since recorder.old recorder.new }
@@ -175,23 +160,18 @@ fn set_up<K: Keyed, L: Link, R: Recorder>(
 {
     match stage {
         Stage::Collecting(client, docs) => {
-            let SetupNumbers { b, big, pad } = numbers;
-            match client.plan_setup(tools.alloc, tools.keyed, &docs, b, big, pad) {
+            match client.plan_setup(tools.alloc, tools.master.keyed(), docs, sizes) {
                 Ok(planned) => {
-                    let setup = SetupInHand {
-                        client,
-                        planned,
-                        docs,
-                    };
+                    let setup = SetupInHand { client, planned };
                     Ok(send_setup(tools.alloc, setup, link, recorder, buffer)?)
                 }
-                Err(fault) => match setup_refusal(fault) {
+                Err((fault, kept)) => match setup_refusal(fault) {
                     Ok(refusal) => Ok((
-                        Stage::Collecting(client, docs),
+                        Stage::Collecting(client, kept),
                         LineResult::Refused(refusal),
                     )),
                     Err(stop) => {
-                        drop((client, docs));
+                        drop((client, kept));
                         Err(CommandStop::Planning(stop))
                     }
                 },
@@ -204,12 +184,11 @@ fn set_up<K: Keyed, L: Link, R: Recorder>(
     }
 }
 
-/// A setup that was planned: of these documents, for this client.
+/// A setup that was planned for this client.
 #[derive(Drop)]
 struct SetupInHand {
     client: Client<Fresh>,
     planned: Planned,
-    docs: Docs,
 }
 
 /// Keeps the record of a planned setup, commits it and sends it; the counts that are shown are those without dummies.
@@ -221,39 +200,29 @@ fn send_setup<L: Link, R: Recorder>(
     buffer: &mut ReplyBuffer,
 ) -> Result<(Stage, LineResult), CommandStop>
     requires frames { AllByRecursion IsFrame (setup.planned.frames) }
-    requires documents { setup.planned.made_of ≡ setup.docs }
     requires whole { R.whole recorder.old }
     ensures sends { (frames : List FrameText) → setup.planned.frames ≡ map frame_bytes frames → AreNumbered 0 frames →
         SendsKept (setup_payload setup.planned) (seen (L.transcript link.old) (R.kept recorder.old)) (seen (L.transcript link.new) (R.kept recorder.new)) frames result }
     ensures shown { IfOk result (λ done. line_result_view done.1 ≡ says.SetUp setup.planned.own_words setup.planned.own_blocks ∷ []) }
     ensures accepted { IfOk result (λ done. refuses done.1 ≡ false) }
-    ensures stands { (f : KeyedFn) → IfOk result (λ done. IsReady f setup.client.key (record { setup = setup_with setup.docs.documents setup.planned.b setup.planned.big setup.planned.pad; later = [] }) done.0) }
-    ensures hash_keys { IfOk result (λ done. hash_keys_of done.0 ≡ setup.docs.keys) }
+    ensures stands { (f : KeyedFn) → IfOk result (λ done. IsReady f setup.client.key (record { setup = setup_with setup.planned.docs.documents setup.planned.b setup.planned.big setup.planned.pad; later = [] }) done.0) }
+    ensures hash_keys { IfOk result (λ done. hash_keys_of done.0 ≡ setup.planned.docs.keys) }
     ensures key { IfOk result (λ done. key_of done.0 ≡ setup.client.key) }
     ensures keeps { KeepsLink CommandCause (shows (L.transcript link.old) (L.faults link.old) (L.began link.old)) (shows (L.transcript link.new) (L.faults link.new) (L.began link.new)) result }
     ensures keeps_on { KeepsOn R.kept R.moment R.left_since recorder.old recorder.new }
     ensures whole_after { StaysWhole WholeAt (R.whole recorder.new) result }
     ensures recorder { KeepsRecorder KeepCommandCause (R.faults recorder.old) (R.faults recorder.new) result }
 {
-    let SetupInHand {
-        client,
-        planned,
-        docs,
-    } = setup;
+    let SetupInHand { client, planned } = setup;
     let (words, blocks) = (planned.own_words(), planned.own_blocks());
-    match keep_setup(alloc, &planned, &docs, recorder) {
+    match keep_setup(alloc, &planned, recorder) {
         Ok(()) => {}
         Err(fault) => {
-            drop((client, planned, docs));
+            drop((client, planned));
             return Err(CommandStop::Keeping(fault));
         }
     }
-    let ready = catch_up(
-        client.commit(alloc, planned, docs),
-        link,
-        &*recorder,
-        buffer,
-    )?;
+    let ready = catch_up(client.commit(alloc, planned), link, &*recorder, buffer)?;
     Ok((Stage::Searching(ready), LineResult::SetUp { words, blocks }))
 }
 

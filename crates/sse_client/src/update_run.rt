@@ -58,7 +58,7 @@ pub(crate) fn plan_addition<K: Keyed>(
     ensures commits { IfOk result (λ planned. CanCommit client.new.state planned) }
 {
     let doc = document_of(tools.alloc, id, fields)?;
-    Ok(client.plan_add(tools.alloc, tools.keyed, &tools.master, doc)?)
+    Ok(client.plan_add(tools.alloc, &tools.master, doc)?)
 }
 
 // Promise P141, also here; clauses: plan, refused, stands, key, commits, frame
@@ -77,7 +77,7 @@ pub(crate) fn plan_deletion<K: Keyed>(
     ensures commits { IfOk result (λ planned. CanCommit client.new.state planned) }
 {
     let id = DocId::new(id)?;
-    Ok(client.plan_delete(tools.alloc, tools.keyed, &tools.master, id)?)
+    Ok(client.plan_delete(tools.alloc, &tools.master, id)?)
 }
 
 /// An update that was planned for this client, or why there is no plan; and its outcome once the server has acknowledged it.

@@ -14,14 +14,15 @@ use Rattle.script_run_texts.specs.Causes.{SinkCause}
 use Rattle.script_run_texts.specs.Stops.{last_line, stop_cause, stop_of_sink, stop_status}
 use Rattle.def_script_meaning.specs.Meaning.{meaning}
 use Rattle.def_script_meaning.specs.Stops.{Stop, At, SinkFault, status_of, stop_text}
-use Rattle.sse_client.specs.OverServer.{PrintsAsMeant, PrintsAsRun, PrintsMeaning}
+use Rattle.sse_client.specs.OverServer.{PrintsAsMeant, PrintsMeaning, PrintsRun}
+use Rattle.sse_client.specs.WholeRuns.{SinkShows}
 use Rattle.sse_outside.specs.Causes.{Rose}
 use Rattle.sse_outside.specs.Fronts.{TookFront, TookOrRose}
 use Rattle.sse_outside.specs.declared.device_fault.DeviceFault.{DeviceFault}
 use Rattle.sse_outside.specs.declared.device_fault.DeviceFault.TheVariants as devices
 use Rattle.sse_script.specs.Shown.{NoMemory}
 use Rattle.sse_script.specs.Texts.{text_of}
-use Rattle.sse_local.specs.Made.{HasMadeRun, IsSummedShort, LacksMemory, PrintsSummaryAsMeant, Tells}
+use Rattle.sse_local.specs.Made.{HasMadeRun, IsSummedShort, LacksMemory, PrintsSummaryAsMeant, RunsMade, Tells}
 
 -- The line.
 
@@ -44,20 +45,20 @@ summed-short fault documents text now between last f0 f1 f2 s0 s1 s2 status fron
 
 -- The run.
 
--- what holds of what is left of a source, and of what was written at first, where both are known
-pub kept-is : (P : List ℕ → Option (List ℕ) → Type 0) (remaining old : Option (List ℕ)) (script : List ℕ) → remaining ≡ Some script → old ≡ Some [] → IfSome remaining (λ bytes. P bytes old) → P script (Some [])
-kept-is P None old script is empty p = absurd (cc)
-kept-is P (Some bytes) old script is empty p = let same : bytes ≡ script = cc in subst (P script) empty (subst (λ b. P b old) same p)
+-- what holds of what is left of a source, where that is known
+pub known-is : (P : List ℕ → Type 0) (remaining : Option (List ℕ)) (script : List ℕ) → remaining ≡ Some script → IfSome remaining P → P script
+known-is P None script is p = absurd (cc)
+known-is P (Some bytes) script is p = let same : bytes ≡ script = cc in subst P same p
 
 module _ (f : KeyedFn) (seed documents : ℕ) (few : documents ≤ 10000) where
   -- it came to the end of its script with nothing refused, or stopped for memory or for equal values
-  pub made-status : (old new : Option (List ℕ)) (status : ℕ) → PrintsAsRun f (made_text seed documents) old new status → status ≤ 9 → status ≢ 3 → status ≢ 4 → status ≢ 5 → status ≢ 6
+  pub made-status : (sink sink' : SinkShows) (status : ℕ) → PrintsRun f (made_text seed documents) sink sink' status → status ≤ 9 → status ≢ 3 → status ≢ 4 → status ≢ 5 → status ≢ 6
       → (status ≡ 0) ⊎ ((7 ≤ status) × (status ≤ 9))
-  made-status old new status run most source sink link disk = by (nat_le status 2) refl
+  made-status before after status run most source sink link disk = by (nat_le status 2) refl
     where
       by : (b : Bool) → nat_le status 2 ≡ b → (status ≡ 0) ⊎ ((7 ≤ status) × (status ≤ 9))
       by true e =
-          let whole = run.runs.run in
+          let whole = run.run.run in
           let low = leb-true status 2 e in
           inl (whole.status_is ∙ ap status_of (made_text-ran f seed documents few _ whole.end whole.opens (omega (arith, low, whole.status_is))))
       by false e =
@@ -81,7 +82,7 @@ module _ (f : KeyedFn) (seed documents : ℕ) (few : documents ≤ 10000) where
       inner e = cc
 
   module _ (text : List ℕ) (run_status : ℕ) (now last : Seen) (status : ℕ) where
-    pub made-run : PrintsAsRun f (made_text seed documents) (Some []) (Some text) run_status → Tells documents text run_status now last status ⊎ LacksMemory now last status
+    pub made-run : RunsMade f seed documents (Some text) run_status → Tells documents text run_status now last status ⊎ LacksMemory now last status
         → HasMadeRun f seed documents now last status
     made-run runs (inl told) = inl (record { text = text; run_status = run_status; runs = runs; told = told })
     made-run runs (inr lacks) = inr lacks

@@ -9,7 +9,8 @@ use Rattle.script_made_lines.specs.Summary.{made_summary}
 use Rattle.def_script_meaning.specs.Meaning.{Meaning, meaning}
 use Rattle.def_script_meaning.specs.Session.{IsFree}
 use Rattle.def_script_meaning.specs.Stops.{Stop, status_of}
-use Rattle.sse_client.specs.OverServer.{PrintsAsRun}
+use Rattle.sse_client.specs.OverServer.{PrintsRun}
+use Rattle.sse_client.specs.WholeRuns.{SinkShows}
 use Rattle.sse_outside.specs.Causes.{Rose}
 use Rattle.sse_outside.specs.Fronts.{TookOrRose}
 use Rattle.sse_script.specs.Shown.{Stopped, NoMemory}
@@ -56,11 +57,19 @@ pub record LacksMemory (now last : Seen) (status : ℕ) : Type 0 where
   pub status_is : status ≡ 7
   pub printed : TookOrRose now.written last.written (text_of (Stopped NoMemory)) now.faults last.faults now.shortages last.shortages
 
--- a made script was run as any script is, into memory, and this is told of the run
+-- a made script was run as any script is, into an empty memory, which had this afterwards
+pub record RunsMade (f : KeyedFn) (seed documents : ℕ) (written : Option (List ℕ)) (status : ℕ) : Type 0 where
+  pub sink : SinkShows
+  pub sink' : SinkShows
+  pub empty : sink.written ≡ Some []
+  pub has : sink'.written ≡ written
+  pub runs : PrintsRun f (made_text seed documents) sink sink' status
+
+-- and this is told of the run
 pub record HasSummed (f : KeyedFn) (seed documents : ℕ) (now last : Seen) (status : ℕ) : Type 0 where
   pub text : List ℕ
   pub run_status : ℕ
-  pub runs : PrintsAsRun f (made_text seed documents) (Some []) (Some text) run_status
+  pub runs : RunsMade f seed documents (Some text) run_status
   pub told : Tells documents text run_status now last status
 
 abbrev pub HasMadeRun : KeyedFn → (seed documents : ℕ) → (now last : Seen) → (status : ℕ) → Type 0

@@ -2,6 +2,7 @@ ghost use Rattle.std.specs.Prelude.{◌≡◌, ◌+◌, ◌<◌, ◌^◌, IfOk, 
 ghost use Rattle.client_registry.specs.Acceptance.{size_refusal};
 ghost use Rattle.client_registry.specs.Run.{at_first};
 ghost use Rattle.client_registry.specs.Sized.{run_words};
+ghost use Rattle.leakage_history.specs.HashedRun.{run_of};
 ghost use Rattle.leakage_draws.specs.SheetOf.{IsSheetOf};
 ghost use Rattle.keyed_fn.specs.KeyedFn.{keyed_fn};
 ghost use Rattle.def_comparison.specs.Sums.{sums};
@@ -80,7 +81,7 @@ pub(crate) fn compare<K: Keyed>(
     requires accepted_too { size_refusal other.now.setup ≡ None }
     requires numbered { length history.now.later + 1 < 2 ^ 32 }
     requires numbered_too { length other.now.later + 1 < 2 ^ 32 }
-    ensures { IfOk result (λ compared. IsComparison (table_of (keyed_fn K.prf K.pad) (λ epoch. key.now) history.now) at_first history.now other.now (compared_view compared)) }
+    ensures { IfOk result (λ compared. IsComparison (table_of (keyed_fn K.prf K.pad) (λ epoch. key.now) (run_of history.now)) at_first (run_of history.now) (run_of other.now) (compared_view compared)) }
 {
     let sheet = sheet_of(alloc, keyed, key, history)?;
     match move_table(alloc, history, other, &sheet) {
@@ -94,7 +95,7 @@ pub(crate) fn compare<K: Keyed>(
 fn count_moved(alloc: Global, other: &History, moved: &Sheet) -> Result<Compared, AllocError>
     requires accepted { size_refusal other.now.setup ≡ None }
     requires numbered { length other.now.later + 1 < 2 ^ 32 }
-    ensures { IfOk result (λ compared. (t : Table) → IsSheetOf moved.now (run_words other.now) (used.names at_first other.now) t → compared_view compared ≡ LeakTheSame (sums t at_first other.now)) }
+    ensures { IfOk result (λ compared. (t : Table) → IsSheetOf moved.now (run_words (run_of other.now)) (used.names at_first (run_of other.now)) t → compared_view compared ≡ LeakTheSame (sums t at_first (run_of other.now))) }
 {
     match count(alloc, other, moved) {
         Ok(counted) => Ok(Compared::Same(counted)),

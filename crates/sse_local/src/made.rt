@@ -2,8 +2,8 @@ ghost use Rattle.std.specs.Prelude.{◌≡◌, ◌≢◌, ◌≤◌, ◌⊎◌, 
 ghost use Rattle.script_history.specs.Endings.{seen_of};
 ghost use Rattle.keyed_fn.specs.KeyedFn.{keyed_fn};
 ghost use Rattle.script_made_lines.specs.Script.{made_text};
-ghost use Rattle.sse_client.specs.OverServer.{PrintsAsMeant, PrintsAsRun};
-ghost use Rattle.sse_local.specs.Made.{HasMadeRun, IsMadeStatus, IsStopLine, LacksMemory, PrintsSummaryAsMeant, Tells};
+ghost use Rattle.sse_client.specs.OverServer.{PrintsAsMeant};
+ghost use Rattle.sse_local.specs.Made.{HasMadeRun, IsMadeStatus, IsStopLine, LacksMemory, PrintsSummaryAsMeant, RunsMade, Tells};
 ghost use Rattle.sse_outside.specs.Fronts.{TookOrRose};
 
 use keyed_fn::Keyed;
@@ -46,7 +46,7 @@ pub(crate) fn made_run<K: Keyed + Copy, W: Sink>(
 /// The run. It comes to the end of its script with nothing refused, or memory was wanting or two values are equal.
 fn kept_run<K: Keyed + Copy>(alloc: Global, keyed: &K, made: Made) -> Result<KeptRun, AllocError>
     requires few { made.documents ≤ 10000 }
-    ensures runs { IfOk result (λ run. PrintsAsRun (keyed_fn K.prf K.pad) (made_text made.seed made.documents) (Some []) (⟦<SteadySink as Sink>⟧.written run.printed) run.status) }
+    ensures runs { IfOk result (λ run. RunsMade (keyed_fn K.prf K.pad) made.seed made.documents (⟦<SteadySink as Sink>⟧.written run.printed) run.status) }
     ensures headline { IfOk result (λ run. run.status ≢ 7 → PrintsAsMeant (keyed_fn K.prf K.pad) (made_text made.seed made.documents) (Some []) (⟦<SteadySink as Sink>⟧.written run.printed) run.status) }
     ensures known { IfOk result (λ run. (run.status ≡ 0) ⊎ ((7 ≤ run.status) × (run.status ≤ 9))) }
 {

@@ -4,7 +4,8 @@ ghost use Rattle.keyed_fn.specs.KeyedFn.{keyed_fn};
 ghost use Rattle.script_made_lines.specs.Asked.{made_of};
 ghost use Rattle.script_run_texts.specs.Twins.{is_twin};
 ghost use Rattle.script_run_texts.specs.Words as asks;
-ghost use Rattle.sse_client.specs.OverServer.{PrintsAsRun, PrintsAsMeant};
+ghost use Rattle.sse_client.specs.OverServer.{PrintsAsMeant, PrintsRun};
+ghost use Rattle.sse_client.specs.WholeRuns.{prints};
 ghost use Rattle.sse_local.specs.Compared.{HasCompared};
 ghost use Rattle.sse_local.specs.Given.{words_given};
 ghost use Rattle.sse_local.specs.Made.{HasMadeRun, IsMadeStatus, PrintsSummaryAsMeant};
@@ -43,6 +44,7 @@ pub(crate) enum CommandLine {
 //   clauses: sums_up, summary, made_status, made_unread; assumes: no collision, no device fault, enough memory, observable devices; checks: .ci/end_to_end; not: If a run
 //     stopped, the line is only known to be the end of the run's output that begins with `stopped: `. Standard output isn't observable: of it only the status is claimed
 //     (`made_status`).
+// Promise P09, also here; clauses: runs
 // Promise P29, also here; clauses: compares, other_words
 /// All that the program does with a command line, a source and a sink, and the status to end with: under the real keyed function
 /// it carries out the script, or compares two, or sums up a run of a made one, where the words after its name ask for that. Where they
@@ -54,7 +56,7 @@ pub(crate) fn run_program<S: Source, W: Sink>(
     sink: &mut W,
 ) -> u8
     ensures runs { IfSome (words_given given) (λ words. asks.mode_of words ≡ Some asks.Run → IfSome (S.remaining source.old) (λ bytes.
-        PrintsAsRun (keyed_fn ⟦<Real as Keyed>⟧.prf ⟦<Real as Keyed>⟧.pad) bytes (W.written sink.old) (W.written sink.new) result)) }
+        PrintsRun (keyed_fn ⟦<Real as Keyed>⟧.prf ⟦<Real as Keyed>⟧.pad) bytes (prints (W.written sink.old) (W.faults sink.old) (W.shortages sink.old)) (prints (W.written sink.new) (W.faults sink.new) (W.shortages sink.new)) result)) }
     ensures headline { IfSome (words_given given) (λ words. asks.mode_of words ≡ Some asks.Run → result ≢ 3 → result ≢ 4 → result ≢ 7 → IfSome (S.remaining source.old) (λ bytes.
         PrintsAsMeant (keyed_fn ⟦<Real as Keyed>⟧.prf ⟦<Real as Keyed>⟧.pad) bytes (W.written sink.old) (W.written sink.new) result)) }
     ensures compares { IfSome (words_given given) (λ words. is_twin words ≡ true → IfSome (S.remaining source.old) (λ bytes.
@@ -82,7 +84,7 @@ pub(crate) fn run_program<S: Source, W: Sink>(
 /// What the words ask for: sums up a run of a made script, compares two scripts, or carries one out.
 fn by_words<S: Source, W: Sink>(alloc: Global, words: &[String], source: &mut S, sink: &mut W) -> u8
     ensures runs { asks.mode_of (map (λ word. string_bytes word) words.now) ≡ Some asks.Run → IfSome (S.remaining source.old) (λ bytes.
-        PrintsAsRun (keyed_fn ⟦<Real as Keyed>⟧.prf ⟦<Real as Keyed>⟧.pad) bytes (W.written sink.old) (W.written sink.new) result) }
+        PrintsRun (keyed_fn ⟦<Real as Keyed>⟧.prf ⟦<Real as Keyed>⟧.pad) bytes (prints (W.written sink.old) (W.faults sink.old) (W.shortages sink.old)) (prints (W.written sink.new) (W.faults sink.new) (W.shortages sink.new)) result) }
     ensures headline { asks.mode_of (map (λ word. string_bytes word) words.now) ≡ Some asks.Run → result ≢ 3 → result ≢ 4 → result ≢ 7 → IfSome (S.remaining source.old) (λ bytes.
         PrintsAsMeant (keyed_fn ⟦<Real as Keyed>⟧.prf ⟦<Real as Keyed>⟧.pad) bytes (W.written sink.old) (W.written sink.new) result) }
     ensures compares { is_twin (map (λ word. string_bytes word) words.now) ≡ true → IfSome (S.remaining source.old) (λ bytes.

@@ -1,6 +1,7 @@
 ghost use Rattle.std.specs.Prelude.{◌≡◌, ◌≢◌, ◌≤◌, ◌⊎◌, ◌+◌, ◌^◌, ℕ, List, None, Ok, Option, Some, IfErr, IfOk, IfSome, OnErr, OnOk, ◌||◌, true};
 ghost use Rattle.std.specs.Io.KnownBytes.{IsAtEnd};
 ghost use Rattle.client_registry.specs.Sized.{IsSized};
+ghost use Rattle.leakage_history.specs.HashedRun.{run_of};
 ghost use Rattle.script_history.specs.Endings.{ending, seen_of};
 ghost use Rattle.script_history.specs.Turns.{IsElsewhere, first_end, reading_end};
 ghost use Rattle.keyed_fn.specs.KeyedFn.{keyed_fn};
@@ -89,7 +90,7 @@ fn behind_first<K: Keyed, S: Source, W: Sink>(
 ) -> Result<bool, StopCause>
     requires few { first.at_twin ≡ true → input.old.number + bytes_to_come input.old.pending (S.handed_out source.old) ≤ 2 ^ 63 }
     requires numbered { first.script.next ≡ input.old.number }
-    requires sized { IfSome first.script.history IsSized }
+    requires sized { IfSome first.script.history (λ h. IsSized (run_of h)) }
     ensures goes_on { (behind : Option (List (List ℕ))) → AreBehind first.at_twin behind (lines_left input.old.pending (S.remaining source.old)) →
         GoesOnFirst (keyed_fn K.prf K.pad) behind (first_end (Ok first)) (W.written sink.old) (W.written sink.new) (ending result) }
     ensures at_end { OnOk result (IsAtEnd (S.remaining source.new)) }
@@ -138,8 +139,8 @@ fn read_second<K: Keyed, S: Source, W: Sink>(
     first: Parted,
 ) -> Result<bool, StopCause>
     requires few { input.old.number + bytes_to_come input.old.pending (S.handed_out source.old) ≤ 2 ^ 63 }
-    requires sized { IsSized first.history }
-    ensures goes_on { IfSome (lines_left input.old.pending (S.remaining source.old)) (λ lines. ReadsBehind (keyed_fn K.prf K.pad) first.key first.history first.refused input.old.number lines (W.written sink.old) (W.written sink.new) (ending result)) }
+    requires sized { IsSized (run_of first.history) }
+    ensures goes_on { IfSome (lines_left input.old.pending (S.remaining source.old)) (λ lines. ReadsBehind (keyed_fn K.prf K.pad) first.key (run_of first.history) first.refused input.old.number lines (W.written sink.old) (W.written sink.new) (ending result)) }
     ensures at_end { OnOk result (IsAtEnd (S.remaining source.new)) }
     ensures source { KeepsSource SourceCause (S.faults source.old) (S.faults source.new) result }
     ensures sink { KeepsSink (W.faults sink.old) (W.faults sink.new) (W.shortages sink.old) (W.shortages sink.new) result }
@@ -158,9 +159,9 @@ fn compare_read<K: Keyed, W: Sink>(
     first: &Parted,
     second: ReadScript,
 ) -> Result<bool, StopCause>
-    requires sized { IsSized first.now.history }
-    requires sized_too { IfSome second.history IsSized }
-    ensures goes_on { GoesOnBehind (keyed_fn K.prf K.pad) first.now.key first.now.history first.now.refused (reading_end (Ok second)) (W.written sink.old) (W.written sink.new) (ending result) }
+    requires sized { IsSized (run_of first.now.history) }
+    requires sized_too { IfSome second.history (λ h. IsSized (run_of h)) }
+    ensures goes_on { GoesOnBehind (keyed_fn K.prf K.pad) first.now.key (run_of first.now.history) first.now.refused (reading_end (Ok second)) (W.written sink.old) (W.written sink.new) (ending result) }
     ensures sink { KeepsSink (W.faults sink.old) (W.faults sink.new) (W.shortages sink.old) (W.shortages sink.new) result }
     ensures elsewhere { IfErr result IsElsewhere }
 {
@@ -185,9 +186,9 @@ fn print_comparison<K: Keyed, W: Sink>(
     other: &History,
     refused: bool,
 ) -> Result<bool, StopCause>
-    requires sized { IsSized first.now.history }
-    requires sized_too { IsSized other.now }
-    ensures compares { IsCompared (keyed_fn K.prf K.pad) first.now.key first.now.history other.now (first.now.refused || refused) (W.written sink.old) (W.written sink.new) (ending result)
+    requires sized { IsSized (run_of first.now.history) }
+    requires sized_too { IsSized (run_of other.now) }
+    ensures compares { IsCompared (keyed_fn K.prf K.pad) first.now.key (run_of first.now.history) (run_of other.now) (first.now.refused || refused) (W.written sink.old) (W.written sink.new) (ending result)
         ⊎ ((W.written sink.new ≡ W.written sink.old) × (ending result ≡ At NoMemory)) }
     ensures sink { KeepsSink (W.faults sink.old) (W.faults sink.new) (W.shortages sink.old) (W.shortages sink.new) result }
     ensures elsewhere { IfErr result IsElsewhere }

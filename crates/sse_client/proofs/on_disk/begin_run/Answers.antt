@@ -2,43 +2,34 @@ use Rattle.std.proofs.Common.{◌≡◌, [], ◌∷◌, inl, inr, refl, ap, sym,
 use Rattle.std.proofs.lemmas.Bool.{true≢false}
 use Rattle.std.specs.Option.{option_map_or}
 use Rattle.std.specs.Prelude.{IfSome}
-use Rattle.client_journal.specs.Faults.{stop_of_begin}
-use Rattle.client_journal.specs.declared.faults.BeginFault.TheVariants as begins
-use Rattle.keyed_fn.specs.KeyedFn.{IsKeyedFn, keyed_fn}
+use Rattle.keyed_fn.specs.KeyedFn.{keyed_fn}
 use Rattle.sse_journal.specs.FileRecords.{records_counted}
 use Rattle.sse_outside.specs.Kept.{Kept}
-use Rattle.sse_outside.specs.Fronts.{TookOrRose}
 use Rattle.client_recorder.specs.declared.journal_recorder.JournalRecorder.{JournalRecorder}
-use Rattle.script_run_texts.specs.Stops.{journal_line, journal_status}
+use Rattle.script_run_texts.specs.Stops.{journal_status}
+use Rattle.script_run_texts.specs.declared.journal_stop.JournalStop.TheVariants as journals
 use Rattle.sse_client.proofs.Devices.{devices-on, devices-unopened}
+use Rattle.sse_client.proofs.LastLine.{counts-took}
 use Rattle.sse_client.proofs.KeptOnDisk.{behind_start, gives_own, kept_at_start, kept_on_disk}
 use Rattle.sse_client.proofs.RecordsLast.{takes_lasts}
-use Rattle.sse_client.proofs.RunsOnDisk.{begin_disk, begin_key, has_begun, not_begun, unopened}
+use Rattle.sse_client.proofs.RunsOnDisk.{not_begun, unopened}
 use Rattle.sse_client.proofs.WholeRun.{IfSome-then}
-use Rattle.sse_client.specs.OnDisk.{HasBegun, IsNotBegun, Lasts, kept_on, seen_with}
+use Rattle.sse_client.specs.OnDisk.{IsNotBegun, Lasts, kept_on, seen_with}
 use Rattle.sse_client.specs.Stands.{outside_of, seen}
+use Rattle.sse_client.specs.WholeRuns.{IsRun, prints}
 use Rattle.sse_client.proofs.on_disk.begin_run.Goals as goal
 
 pub returns-in-Ok-clause-begun : goal.returns-in-Ok-clause-begun
 returns-in-Ok-clause-begun g c =
     let f = keyed_fn g.K.Keyed.prf g.K.Keyed.pad in
-    let laws : IsKeyedFn f = record {
-      prf_length = g.met.K.Keyed.prf_length;
-      prf_bytes = g.met.K.Keyed.prf_bytes;
-      pad_length = g.met.K.Keyed.pad_length;
-      pad_bytes = g.met.K.Keyed.pad_bytes;
-      pad_prefix = g.met.K.Keyed.pad_prefix;
-    } in
     let remaining = g.S.Source.remaining c.args.source.now in
     let told = g.L.Link.transcript c.args.link.now in
     let written = g.W.Sink.written c.args.sink.now in
     let told' = g.L.Link.transcript c.whole_run-status.new.link in
     let written' = g.W.Sink.written c.whole_run-status.new.sink in
     let status = c.whole_run-status.result in
-    let f0 = g.W.Sink.faults c.args.sink.now in
-    let f2 = g.W.Sink.faults c.whole_run-status.new.sink in
-    let s0 = g.W.Sink.shortages c.args.sink.now in
-    let s2 = g.W.Sink.shortages c.whole_run-status.new.sink in
+    let sink = prints written (g.W.Sink.faults c.args.sink.now) (g.W.Sink.shortages c.args.sink.now) in
+    let sink' = prints written' (g.W.Sink.faults c.whole_run-status.new.sink) (g.W.Sink.shortages c.whole_run-status.new.sink) in
     let begun = c.begin.new.disk in
     let recorder = c.new-recorder.result in
     let kept : JournalRecorder g.row.D.Denot → Kept = λ r. record { records = records_counted r.journal (g.D.Disk.content r.disk); refused = option_map_or (λ payload. payload.items ∷ []) r.refused [] } in
@@ -46,22 +37,21 @@ returns-in-Ok-clause-begun g c =
     ap (λ refused. record { records = records_counted recorder.journal (g.D.Disk.content recorder.disk); refused = option_map_or (λ payload. payload.items ∷ []) refused [] }) c.new-recorder.ensures.none
     ∙ kept_at_start recorder.journal (g.D.Disk.content recorder.disk) (g.D.Disk.images recorder.disk) c.new-recorder.ensures.whole
     ∙ ap (λ d. kept_on (g.D.Disk.content d)) c.new-recorder.ensures.disk in
-    let P = λ (k : Kept). IfSome remaining (λ bytes. HasBegun f bytes (outside_of (seen told (kept_on (g.D.Disk.content begun))) written) (outside_of (seen told' k) written') status f0 f2 s0 s2) in
+    let P = λ (k : Kept). IfSome remaining (λ bytes. IsRun f bytes (outside_of (seen told (kept_on (g.D.Disk.content begun))) written) (outside_of (seen told' k) written') sink sink' status) in
     let has : P (kept c.whole_run-status.new.recorder) =
-    subst (λ k. IfSome remaining (λ bytes. HasBegun f bytes (outside_of (seen told k) written) (outside_of (seen told' (kept c.whole_run-status.new.recorder)) written') status f0 f2 s0 s2)) first
-    (has_begun f laws remaining (outside_of (seen told (kept recorder)) written) (outside_of (seen told' (kept c.whole_run-status.new.recorder)) written') status f0 f2 s0 s2
-    c.whole_run-status.ensures.runs c.whole_run-status.ensures.last_line) in
+    subst (λ k. IfSome remaining (λ bytes. IsRun f bytes (outside_of (seen told k) written) (outside_of (seen told' (kept c.whole_run-status.new.recorder)) written') sink sink' status)) first
+    c.whole_run-status.ensures.run in
     inr (behind_start g.D.Disk.content g.D.Disk.images g.D.Disk.moment g.D.Disk.left_since c.args.disk begun c.into_disk.result P
-    (λ (k : Kept). IfSome remaining (λ bytes. HasBegun f bytes (seen_with told (g.D.Disk.content c.args.disk) written) (outside_of (seen told' k) written') status f0 f2 s0 s2))
-    (λ k is. subst (λ records. IfSome remaining (λ bytes. HasBegun f bytes (outside_of (seen told (record { records = records; refused = [] })) written) (outside_of (seen told' k) written') status f0 f2 s0 s2)) c.in-Ok.ensures.same_records is)
+    (λ (k : Kept). IfSome remaining (λ bytes. IsRun f bytes (seen_with told (g.D.Disk.content c.args.disk) written) (outside_of (seen told' k) written') sink sink' status))
+    (λ k is. subst (λ records. IfSome remaining (λ bytes. IsRun f bytes (outside_of (seen told (record { records = records; refused = [] })) written) (outside_of (seen told' k) written') sink sink' status)) c.in-Ok.ensures.same_records is)
     (gives_own (g.D.Disk.content c.args.disk) _ (λ file is. ([], is.gives)) c.in-Ok.ensures.begun) c.in-Ok.ensures.same_records (elim c.in-Ok.ensures.any_moment [ inl synced ↦ synced | inr refused ↦ absurd (true≢false (sym refused.0)) ])
     (kept_on_disk g.D.Disk.content g.D.Disk.images g.D.Disk.moment g.D.Disk.left_since (λ r. r.disk) kept recorder c.whole_run-status.new.recorder begun c.into_disk.result P
     c.new-recorder.ensures.disk c.into_disk.ensures first (λ image is. g.met.D.Disk.counts_now c.whole_run-status.new.recorder.disk (g.D.Disk.moment c.whole_run-status.new.recorder.disk) image (omega arith) is)
-    c.whole_run-status.ensures.keeps_on has))
+    c.whole_run-status.ensures.records.kept_on has))
 
 pub returns-in-Err-clause-begun : goal.returns-in-Err-clause-begun
 returns-in-Err-clause-begun g c =
-    let fault = c.in-Err.fault in
+    let stop = c.in-Err.stop in
     let content = g.D.Disk.content c.args.disk in
     let written = g.W.Sink.written c.args.sink.now in
     let written' = g.W.Sink.written c.finish_unopened.new.sink in
@@ -70,37 +60,46 @@ returns-in-Err-clause-begun g c =
     let s0 = g.W.Sink.shortages c.args.sink.now in
     let s2 = g.W.Sink.shortages c.finish_unopened.new.sink in
     inl (
-      unopened IsNotBegun (stop_of_begin fault) (g.L.Link.transcript c.args.link.now) content (g.D.Disk.content c.begin.new.disk) written written' c.finish_unopened.result f0 f2 s0 s2
-          (not_begun fault content (λ e. c.in-Err.ensures.has_records (search e)) (λ e. IfSome-then content _ _ (λ file is. is.0) (c.in-Err.ensures.no_journal (search e))))
-          (λ disk memory. c.in-Err.ensures.same_refused (λ e. disk (ap (λ r. stop_of_begin r) (let same : fault ≡ begins.Disk = cc in same))) (λ e. memory (ap (λ r. stop_of_begin r) (let same : fault ≡ begins.Memory = cc in same))))
-          (subst (λ s. TookOrRose written written' (journal_line s) f0 f2 s0 s2) c.from.ensures c.finish_unopened.ensures.line) (c.finish_unopened.ensures.status ∙ ap (λ s. journal_status s) c.from.ensures),
+      unopened IsNotBegun stop (g.L.Link.transcript c.args.link.now) content (g.D.Disk.content c.begin.new.disk) written written' c.finish_unopened.result f0 f2 s0 s2
+          (not_begun stop content (λ e. c.in-Err.ensures.has_records (search e)) (λ e. IfSome-then content _ _ (λ file is. is.0) (c.in-Err.ensures.no_journal (search e)))
+          (λ number e. c.in-Err.ensures.never_bad_record number (search e)) (λ e. c.in-Err.ensures.never_wrong_key (search e)))
+          (λ disk memory. c.in-Err.ensures.same_refused (λ e. disk (let same : stop ≡ journals.Disk = cc in same)) (λ e. memory (let same : stop ≡ journals.Memory = cc in same)))
+          c.finish_unopened.ensures.line c.finish_unopened.ensures.status,
       elim c.in-Err.ensures.any_moment [ inl synced ↦ inl synced | inr refused ↦ inr refused.1 ],
     )
 
 pub returns-in-Ok-clause-lasts : goal.returns-in-Ok-clause-lasts
 returns-in-Ok-clause-lasts g c = λ disk memory other.
     let recorder = c.whole_run-status.new.recorder in
-    subst (λ d. Lasts (g.D.Disk.content d) (g.D.Disk.images d)) (sym c.into_disk.ensures) (takes_lasts recorder.journal (g.D.Disk.content recorder.disk) (g.D.Disk.images recorder.disk) (c.whole_run-status.ensures.lasts disk memory).0)
+    subst (λ d. Lasts (g.D.Disk.content d) (g.D.Disk.images d)) (sym c.into_disk.ensures) (takes_lasts recorder.journal (g.D.Disk.content recorder.disk) (g.D.Disk.images recorder.disk) (c.whole_run-status.ensures.records.lasts disk memory).0)
 
 pub returns-in-Err-clause-lasts : goal.returns-in-Err-clause-lasts
 returns-in-Err-clause-lasts g c = λ disk memory other. elim c.finish_unopened.ensures.known [
   | inl six ↦ absurd (disk six)
   | inr (inl seven) ↦ absurd (memory seven)
   | inr (inr (inl ten)) ↦ absurd (other ten)
-  | inr (inr (inr eleven)) ↦ absurd (begin_key c.in-Err.fault (sym c.from.ensures ∙ c.finish_unopened.ensures.key eleven))
+  | inr (inr (inr eleven)) ↦ absurd (let key = c.finish_unopened.ensures.key eleven in c.in-Err.ensures.never_wrong_key (search key))
 ]
 
 pub returns-in-Ok-clause-devices : goal.returns-in-Ok-clause-devices
 returns-in-Ok-clause-devices g c =
     let ran = c.whole_run-status in
-    devices-on (g.S.Source.faults c.args.source.now) (g.S.Source.faults ran.new.source) (g.W.Sink.faults c.args.sink.now) (g.W.Sink.faults ran.new.sink) (g.L.Link.faults c.args.link.now) (g.L.Link.faults ran.new.link)
-    (g.D.Disk.faults c.new-recorder.result.disk) (g.D.Disk.faults ran.new.recorder.disk) (g.S.Source.faults c.args.source.now) (g.D.Disk.faults c.args.disk) (g.D.Disk.faults c.into_disk.result) ran.result _
-    refl (ap g.D.Disk.faults c.new-recorder.ensures.disk ∙ c.in-Ok.ensures.steady (λ e. absurd (cc))) (ap g.D.Disk.faults (sym c.into_disk.ensures)) ran.ensures.devices
+    record {
+      tells = devices-on (g.S.Source.faults c.args.source.now) (g.S.Source.faults ran.new.source) (g.W.Sink.faults c.args.sink.now) (g.W.Sink.faults ran.new.sink) (g.L.Link.faults c.args.link.now) (g.L.Link.faults ran.new.link)
+          (g.D.Disk.faults c.new-recorder.result.disk) (g.D.Disk.faults ran.new.recorder.disk) (g.S.Source.faults c.args.source.now) (g.D.Disk.faults c.args.disk) (g.D.Disk.faults c.into_disk.result) ran.result _
+          refl (ap g.D.Disk.faults c.new-recorder.ensures.disk ∙ c.in-Ok.ensures.steady (λ e. absurd (cc))) (ap g.D.Disk.faults (sym c.into_disk.ensures)) ran.ensures.devices.tells;
+      began = ran.ensures.devices.began;
+      line = ran.ensures.devices.line;
+    }
 
 pub returns-in-Err-clause-devices : goal.returns-in-Err-clause-devices
 returns-in-Err-clause-devices g c =
-    let fault = c.in-Err.fault in
-    devices-unopened (g.S.Source.faults c.args.source.now) (g.S.Source.faults c.args.source.now) (g.W.Sink.faults c.args.sink.now) (g.W.Sink.faults c.args.sink.now) (g.W.Sink.faults c.finish_unopened.new.sink) 0 0 (g.L.Link.faults c.args.link.now) (g.L.Link.faults c.args.link.now)
-    (g.D.Disk.faults c.args.disk) (g.D.Disk.faults c.begin.new.disk) c.finish_unopened.result _ c.finish_unopened.ensures.known refl refl
-    (λ six. let e = begin_disk fault (sym c.from.ensures ∙ c.finish_unopened.ensures.disk six) in c.in-Err.ensures.failed (search e))
-    (λ other. c.in-Err.ensures.steady (λ e. other (c.finish_unopened.ensures.status ∙ ap (λ s. journal_status s) (c.from.ensures ∙ ap (λ r. stop_of_begin r) (let same : fault ≡ begins.Disk = cc in same)))))
+    let stop = c.in-Err.stop in
+    record {
+      tells = devices-unopened (g.S.Source.faults c.args.source.now) (g.S.Source.faults c.args.source.now) (g.W.Sink.faults c.args.sink.now) (g.W.Sink.faults c.args.sink.now) (g.W.Sink.faults c.finish_unopened.new.sink) 0 0 (g.L.Link.faults c.args.link.now) (g.L.Link.faults c.args.link.now)
+          (g.D.Disk.faults c.args.disk) (g.D.Disk.faults c.begin.new.disk) c.finish_unopened.result _ c.finish_unopened.ensures.known refl refl
+          (λ six. let e = c.finish_unopened.ensures.disk six in c.in-Err.ensures.failed (search e))
+          (λ other. c.in-Err.ensures.steady (λ e. other (c.finish_unopened.ensures.status ∙ ap (λ s. journal_status s) (let same : stop ≡ journals.Disk = cc in same))));
+      began = refl;
+      line = counts-took _ _ _ c.finish_unopened.result _ _ _ _ c.finish_unopened.ensures.line;
+    }

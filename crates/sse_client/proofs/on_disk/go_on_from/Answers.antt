@@ -1,7 +1,6 @@
 use Rattle.std.proofs.Common.{◌≡◌, ◌+◌, [], ◌∷◌, refl, ap, sym, subst, ◌∙◌, arith}
 use Rattle.std.specs.Option.{option_map_or}
 use Rattle.std.specs.Prelude.{IfSome}
-use Rattle.client_journal.specs.Faults.{stop_of_records}
 use Rattle.keyed_fn.specs.KeyedFn.{IsKeyedFn, keyed_fn}
 use Rattle.script_run_texts.specs.Stops.{input_cause, journal_cause, journal_line, journal_status, last_line, stop_status}
 use Rattle.script_run_texts.specs.declared.stop_cause.StopCause.TheVariants.{Input as input}
@@ -12,9 +11,9 @@ use Rattle.sse_script.specs.TextLines.{lines_left}
 use Rattle.sse_journal.specs.FileRecords.{records_counted}
 use Rattle.sse_outside.specs.Kept.{Kept}
 use Rattle.client_recorder.specs.declared.journal_recorder.JournalRecorder.{JournalRecorder}
-use Rattle.sse_client.proofs.Devices.{devices-on, devices-stopped, devices-unopened, records_rose, records_same}
+use Rattle.sse_client.proofs.Devices.{devices-on, devices-stopped, devices-unopened, records_same}
 use Rattle.sse_client.proofs.KeptOnDisk.{behind_reading, kept_at_start, kept_on_disk, kept_still}
-use Rattle.sse_client.proofs.LastLine.{ends_line}
+use Rattle.sse_client.proofs.LastLine.{counts-took, ends_line}
 use Rattle.sse_client.proofs.RunsOnDisk.{has_gone_on, has_gone_on-held}
 use Rattle.sse_client.specs.ResumedRun.{GoesOnTo, HasEndedAfter, Restores}
 use Rattle.sse_client.specs.OnDisk.{HasGoneOn, HeldCause, HeldSource, Lasts, RecordsCause, held_stop, kept_on, seen_with}
@@ -62,7 +61,7 @@ returns-in-Ok-clause-gone_on g c =
     behind_reading g.D.Disk.content g.D.Disk.images g.D.Disk.moment g.D.Disk.left_since c.args.opened.disk read c.into_disk.result P c.args.opened.journal c.requires.holds c.in-Ok.ensures.kept c.in-Ok.ensures.quiet
     (kept_on_disk g.D.Disk.content g.D.Disk.images g.D.Disk.moment g.D.Disk.left_since (λ r. r.disk) kept recorder c.gone_on-status.new.recorder read c.into_disk.result P
     c.new-recorder.ensures.disk c.into_disk.ensures first (λ image is. g.met.D.Disk.counts_now c.gone_on-status.new.recorder.disk (g.D.Disk.moment c.gone_on-status.new.recorder.disk) image (omega arith) is)
-    c.gone_on-status.ensures.keeps_on has)
+    c.gone_on-status.ensures.records.kept_on has)
 
 pub returns-in-Err-Records-clause-gone_on : goal.returns-in-Err-Records-clause-gone_on
 returns-in-Err-Records-clause-gone_on g c =
@@ -79,13 +78,11 @@ returns-in-Err-Records-clause-gone_on g c =
     let old = g.D.Disk.content c.args.opened.disk in
     let written = g.W.Sink.written c.args.sink.now in
     let now = seen_with told old written in
-    let fault = c.in-Err-Records.fault in
-    let stop = ends.At (journal_cause (stop_of_records fault)) in
-    let cause = c.from.ensures ∙ ap (λ r. stop_of_records r) c.in-Err-Records.fault-is in
+    let stop = ends.At (journal_cause c.in-Err-Records.stop) in
     let status = c.finish_unopened.result in
-    let is : status ≡ status_of stop = c.finish_unopened.ensures.status ∙ ap (λ s. journal_status s) cause in
+    let is : status ≡ status_of stop = c.finish_unopened.ensures.status ∙ ap (λ s. journal_status s) c.in-Err-Records.stop-is in
     let line = subst (λ s. TookOrRose written (g.W.Sink.written c.finish_unopened.new.sink) (journal_line s) (g.W.Sink.faults c.args.sink.now) (g.W.Sink.faults c.finish_unopened.new.sink) (g.W.Sink.shortages c.args.sink.now) (g.W.Sink.shortages c.finish_unopened.new.sink))
-    cause c.finish_unopened.ensures.line in
+    c.in-Err-Records.stop-is c.finish_unopened.ensures.line in
     let goes = subst (λ s. GoesOnTo f (lines_left [] remaining) now now (held_stop s)) c.in-Err-Records.field-0-is (c.in-Err-Records.ensures.stopped told written) in
     kept_still g.D.Disk.content g.D.Disk.images g.D.Disk.moment g.D.Disk.left_since c.args.opened.disk c.restored.new.disk _ c.args.opened.journal c.requires.holds c.in-Err-Records.ensures.holds c.in-Err-Records.ensures.kept c.in-Err-Records.ensures.quiet
     (has_gone_on-held f laws remaining now (outside_of (seen told (kept_on old)) (g.W.Sink.written c.finish_unopened.new.sink)) stop status (g.W.Sink.faults c.args.sink.now) (g.W.Sink.faults c.finish_unopened.new.sink)
@@ -123,7 +120,7 @@ returns-clause-gone_on g c =
 pub returns-in-Ok-clause-lasts : goal.returns-in-Ok-clause-lasts
 returns-in-Ok-clause-lasts g c = λ disk memory.
     let recorder = c.gone_on-status.new.recorder in
-    subst (λ d. Lasts (g.D.Disk.content d) (g.D.Disk.images d)) (sym c.into_disk.ensures) (takes_lasts recorder.journal (g.D.Disk.content recorder.disk) (g.D.Disk.images recorder.disk) (c.gone_on-status.ensures.lasts disk memory).0)
+    subst (λ d. Lasts (g.D.Disk.content d) (g.D.Disk.images d)) (sym c.into_disk.ensures) (takes_lasts recorder.journal (g.D.Disk.content recorder.disk) (g.D.Disk.images recorder.disk) (c.gone_on-status.ensures.records.lasts disk memory).0)
 
 pub returns-in-Err-Records-clause-lasts : goal.returns-in-Err-Records-clause-lasts
 returns-in-Err-Records-clause-lasts g c = λ disk memory.
@@ -149,29 +146,40 @@ gone_on-status-requires-clause-restores g c =
 pub returns-in-Ok-clause-devices : goal.returns-in-Ok-clause-devices
 returns-in-Ok-clause-devices g c =
     let ran = c.gone_on-status in
-    devices-on (g.S.Source.faults c.restored.new.source) (g.S.Source.faults ran.new.source) (g.W.Sink.faults c.args.sink.now) (g.W.Sink.faults ran.new.sink) (g.L.Link.faults c.args.link.now) (g.L.Link.faults ran.new.link)
-    (g.D.Disk.faults c.new-recorder.result.disk) (g.D.Disk.faults ran.new.recorder.disk) (g.S.Source.faults c.args.source.now) (g.D.Disk.faults c.args.opened.disk) (g.D.Disk.faults c.into_disk.result) ran.result _
-    c.in-Ok.ensures.source.steady (ap g.D.Disk.faults c.new-recorder.ensures.disk ∙ c.in-Ok.ensures.disk.steady) (ap g.D.Disk.faults (sym c.into_disk.ensures)) ran.ensures.devices
+    record {
+      tells = devices-on (g.S.Source.faults c.restored.new.source) (g.S.Source.faults ran.new.source) (g.W.Sink.faults c.args.sink.now) (g.W.Sink.faults ran.new.sink) (g.L.Link.faults c.args.link.now) (g.L.Link.faults ran.new.link)
+          (g.D.Disk.faults c.new-recorder.result.disk) (g.D.Disk.faults ran.new.recorder.disk) (g.S.Source.faults c.args.source.now) (g.D.Disk.faults c.args.opened.disk) (g.D.Disk.faults c.into_disk.result) ran.result _
+          c.in-Ok.ensures.source.steady (ap g.D.Disk.faults c.new-recorder.ensures.disk ∙ c.in-Ok.ensures.disk.steady) (ap g.D.Disk.faults (sym c.into_disk.ensures)) ran.ensures.devices.tells;
+      began = ran.ensures.devices.began;
+      line = ran.ensures.devices.line;
+    }
 
 pub returns-in-Err-Records-clause-devices : goal.returns-in-Err-Records-clause-devices
 returns-in-Err-Records-clause-devices g c =
-    let fault = c.in-Err-Records.fault in
+    let stop = c.in-Err-Records.stop in
     let before = g.D.Disk.faults c.args.opened.disk in
     let now = g.D.Disk.faults c.restored.new.disk in
     let same = subst (HeldSource (g.S.Source.faults c.args.source.now) (g.S.Source.faults c.restored.new.source)) c.in-Err-Records.field-0-is c.in-Err-Records.ensures.source.cause in
-    let cause : RecordsCause before now fault = subst (HeldCause before now) c.in-Err-Records.field-0-is c.in-Err-Records.ensures.disk.cause in
-    let stop = c.from.ensures ∙ ap (λ r. stop_of_records r) c.in-Err-Records.fault-is in
-    devices-unopened (g.S.Source.faults c.args.source.now) (g.S.Source.faults c.restored.new.source) (g.W.Sink.faults c.args.sink.now) (g.W.Sink.faults c.args.sink.now) (g.W.Sink.faults c.finish_unopened.new.sink) 0 0 (g.L.Link.faults c.args.link.now) (g.L.Link.faults c.args.link.now)
-    before now c.finish_unopened.result _ c.finish_unopened.ensures.known same refl
-    (λ six. records_rose before now fault cause (sym stop ∙ c.finish_unopened.ensures.disk six))
-    (λ other. records_same before now fault cause (λ e. other (c.finish_unopened.ensures.status ∙ ap (λ s. journal_status s) (stop ∙ e))))
+    let cause : RecordsCause before now stop = subst (HeldCause before now) c.in-Err-Records.field-0-is c.in-Err-Records.ensures.disk.cause in
+    record {
+      tells = devices-unopened (g.S.Source.faults c.args.source.now) (g.S.Source.faults c.restored.new.source) (g.W.Sink.faults c.args.sink.now) (g.W.Sink.faults c.args.sink.now) (g.W.Sink.faults c.finish_unopened.new.sink) 0 0 (g.L.Link.faults c.args.link.now) (g.L.Link.faults c.args.link.now)
+          before now c.finish_unopened.result _ c.finish_unopened.ensures.known same refl
+          (λ six. subst (RecordsCause before now) (sym c.in-Err-Records.stop-is ∙ c.finish_unopened.ensures.disk six) cause)
+          (λ other. records_same before now stop cause (λ e. other (c.finish_unopened.ensures.status ∙ ap (λ s. journal_status s) (c.in-Err-Records.stop-is ∙ e))));
+      began = refl;
+      line = counts-took _ _ _ c.finish_unopened.result _ _ _ _ c.finish_unopened.ensures.line;
+    }
 
 pub returns-clause-devices : goal.returns-clause-devices
 returns-clause-devices g c =
     let stop = c.in-Err-Input.stop in
     let before = g.D.Disk.faults c.args.opened.disk in
     let now = g.D.Disk.faults c.restored.new.disk in
-    devices-stopped (g.S.Source.faults c.args.source.now) (g.S.Source.faults c.restored.new.source) (g.W.Sink.faults c.args.sink.now) (g.W.Sink.faults c.args.sink.now) (g.W.Sink.faults c.finish.new.sink) 0 0 (g.L.Link.faults c.args.link.now) (g.L.Link.faults c.args.link.now)
-    before now c.finish.result _ (input stop) (c.finish.ensures.status ∙ ap (λ s. stop_status (input s)) c.in-Err-Input.stop-is)
-    (subst (HeldSource (g.S.Source.faults c.args.source.now) (g.S.Source.faults c.restored.new.source)) c.in-Err-Input.field-0-is c.in-Err-Input.ensures.source.cause)
-    refl c.finish.ensures.later refl (subst (HeldCause before now) c.in-Err-Input.field-0-is c.in-Err-Input.ensures.disk.cause)
+    record {
+      tells = devices-stopped (g.S.Source.faults c.args.source.now) (g.S.Source.faults c.restored.new.source) (g.W.Sink.faults c.args.sink.now) (g.W.Sink.faults c.args.sink.now) (g.W.Sink.faults c.finish.new.sink) 0 0 (g.L.Link.faults c.args.link.now) (g.L.Link.faults c.args.link.now)
+          before now c.finish.result _ (input stop) (c.finish.ensures.status ∙ ap (λ s. stop_status (input s)) c.in-Err-Input.stop-is)
+          (subst (HeldSource (g.S.Source.faults c.args.source.now) (g.S.Source.faults c.restored.new.source)) c.in-Err-Input.field-0-is c.in-Err-Input.ensures.source.cause)
+          refl c.finish.ensures.later refl (subst (HeldCause before now) c.in-Err-Input.field-0-is c.in-Err-Input.ensures.disk.cause);
+      began = refl;
+      line = counts-took _ _ _ c.finish.result _ _ _ _ c.finish.ensures.line;
+    }

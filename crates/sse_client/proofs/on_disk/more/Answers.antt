@@ -1,15 +1,14 @@
 use Rattle.std.proofs.Common.{◌≡◌, ◌∙◌, [], refl, ap, inl, inr, subst, sym}
 use Rattle.std.proofs.lemmas.Bool.{true≢false}
 use Rattle.std.specs.Prelude.{IfSome}
-use Rattle.client_journal.specs.Faults.{stop_of_reopen}
-use Rattle.client_journal.specs.declared.faults.ReopenFault.TheVariants as reopens
 use Rattle.keyed_fn.specs.KeyedFn.{keyed_fn}
-use Rattle.script_run_texts.specs.Stops.{journal_line, journal_status}
-use Rattle.sse_outside.specs.Fronts.{TookOrRose}
+use Rattle.script_run_texts.specs.Stops.{journal_status}
+use Rattle.script_run_texts.specs.declared.journal_stop.JournalStop.TheVariants as journals
 use Rattle.sse_client.proofs.Devices.{devices-on, devices-unopened}
 use Rattle.sse_client.proofs.ResumedRuns.{for_all}
+use Rattle.sse_client.proofs.LastLine.{counts-took}
 use Rattle.sse_client.proofs.KeptOnDisk.{behind_start, gives_own}
-use Rattle.sse_client.proofs.RunsOnDisk.{not_reopened, reopen_disk, reopen_key, unopened}
+use Rattle.sse_client.proofs.RunsOnDisk.{not_reopened, unopened}
 use Rattle.sse_client.proofs.WholeRun.{IfSome-then}
 use Rattle.sse_client.specs.OnDisk.{HasGoneOn, IsNotReopened, seen_with}
 use Rattle.sse_client.specs.Stands.{outside_of, seen}
@@ -40,7 +39,7 @@ returns-in-Ok-clause-more g c =
 
 pub returns-in-Err-clause-more : goal.returns-in-Err-clause-more
 returns-in-Err-clause-more g c =
-    let fault = c.in-Err.fault in
+    let stop = c.in-Err.stop in
     let content = g.D.Disk.content c.args.disk in
     let written = g.W.Sink.written c.args.sink.now in
     let written' = g.W.Sink.written c.finish_unopened.new.sink in
@@ -49,10 +48,10 @@ returns-in-Err-clause-more g c =
     let s0 = g.W.Sink.shortages c.args.sink.now in
     let s2 = g.W.Sink.shortages c.finish_unopened.new.sink in
     inl (
-      unopened IsNotReopened (stop_of_reopen fault) (g.L.Link.transcript c.args.link.now) content (g.D.Disk.content c.reopen.new.disk) written written' c.finish_unopened.result f0 f2 s0 s2
-          (not_reopened fault content (λ e. c.in-Err.ensures.no_journal (search e)))
-          (λ disk memory. c.in-Err.ensures.same_refused (λ e. disk (ap (λ r. stop_of_reopen r) (let same : fault ≡ reopens.Disk = cc in same))) (λ e. memory (ap (λ r. stop_of_reopen r) (let same : fault ≡ reopens.Memory = cc in same))))
-          (subst (λ s. TookOrRose written written' (journal_line s) f0 f2 s0 s2) c.from.ensures c.finish_unopened.ensures.line) (c.finish_unopened.ensures.status ∙ ap (λ s. journal_status s) c.from.ensures),
+      unopened IsNotReopened stop (g.L.Link.transcript c.args.link.now) content (g.D.Disk.content c.reopen.new.disk) written written' c.finish_unopened.result f0 f2 s0 s2
+          (not_reopened stop content (λ e. c.in-Err.ensures.no_journal (search e)) (λ e. c.in-Err.ensures.never_has_records (search e)) (λ number e. c.in-Err.ensures.never_bad_record number (search e)) (λ e. c.in-Err.ensures.never_wrong_key (search e)))
+          (λ disk memory. c.in-Err.ensures.same_refused (λ e. disk (let same : stop ≡ journals.Disk = cc in same)) (λ e. memory (let same : stop ≡ journals.Memory = cc in same)))
+          c.finish_unopened.ensures.line c.finish_unopened.ensures.status,
       elim c.in-Err.ensures.any_moment [ inl synced ↦ inl synced | inr refused ↦ inr refused.1 ],
     )
 
@@ -61,7 +60,7 @@ returns-in-Err-clause-lasts g c = λ disk memory other. elim c.finish_unopened.e
   | inl six ↦ absurd (disk six)
   | inr (inl seven) ↦ absurd (memory seven)
   | inr (inr (inl ten)) ↦ absurd (other ten)
-  | inr (inr (inr eleven)) ↦ absurd (reopen_key c.in-Err.fault (sym c.from.ensures ∙ c.finish_unopened.ensures.key eleven))
+  | inr (inr (inr eleven)) ↦ absurd (let key = c.finish_unopened.ensures.key eleven in c.in-Err.ensures.never_wrong_key (search key))
 ]
 
 pub returns-in-Ok-clause-accepted : goal.returns-in-Ok-clause-accepted
@@ -86,24 +85,30 @@ returns-in-Ok-clause-accepted g c =
 
 pub returns-in-Err-clause-accepted : goal.returns-in-Err-clause-accepted
 returns-in-Err-clause-accepted g c =
-    let fault = c.in-Err.fault in
-    let is = c.finish_unopened.ensures.status ∙ ap (λ s. journal_status s) c.from.ensures in
+    let stop = c.in-Err.stop in
+    let is = c.finish_unopened.ensures.status in
     IfSome-then (g.D.Disk.content c.args.disk) _ _ (λ file goes some disk memory. absurd (
-    let ok = goes some
-    (λ e. disk (is ∙ ap (λ r. journal_status (stop_of_reopen r)) (let same : fault ≡ reopens.Disk = cc in same)))
-    (λ e. memory (is ∙ ap (λ r. journal_status (stop_of_reopen r)) (let same : fault ≡ reopens.Memory = cc in same))) in cc)) c.in-Err.ensures.accepted
+    let ok = goes some (λ e. disk (is ∙ ap (λ s. journal_status s) (let same : stop ≡ journals.Disk = cc in same))) (λ e. memory (is ∙ ap (λ s. journal_status s) (let same : stop ≡ journals.Memory = cc in same))) in cc)) c.in-Err.ensures.accepted
 
 pub returns-in-Ok-clause-devices : goal.returns-in-Ok-clause-devices
 returns-in-Ok-clause-devices g c =
     let ran = c.go_on_from in
-    devices-on (g.S.Source.faults c.args.source.now) (g.S.Source.faults ran.new.source) (g.W.Sink.faults c.args.sink.now) (g.W.Sink.faults ran.new.sink) (g.L.Link.faults c.args.link.now) (g.L.Link.faults ran.new.link)
-    (g.D.Disk.faults c.reopen.new.disk) (g.D.Disk.faults ran.result.1) (g.S.Source.faults c.args.source.now) (g.D.Disk.faults c.args.disk) (g.D.Disk.faults ran.result.1) ran.result.0 _
-    refl (c.in-Ok.ensures.steady (λ e. absurd (cc))) refl ran.ensures.devices
+    record {
+      tells = devices-on (g.S.Source.faults c.args.source.now) (g.S.Source.faults ran.new.source) (g.W.Sink.faults c.args.sink.now) (g.W.Sink.faults ran.new.sink) (g.L.Link.faults c.args.link.now) (g.L.Link.faults ran.new.link)
+          (g.D.Disk.faults c.reopen.new.disk) (g.D.Disk.faults ran.result.1) (g.S.Source.faults c.args.source.now) (g.D.Disk.faults c.args.disk) (g.D.Disk.faults ran.result.1) ran.result.0 _
+          refl (c.in-Ok.ensures.steady (λ e. absurd (cc))) refl ran.ensures.devices.tells;
+      began = ran.ensures.devices.began;
+      line = ran.ensures.devices.line;
+    }
 
 pub returns-in-Err-clause-devices : goal.returns-in-Err-clause-devices
 returns-in-Err-clause-devices g c =
-    let fault = c.in-Err.fault in
-    devices-unopened (g.S.Source.faults c.args.source.now) (g.S.Source.faults c.args.source.now) (g.W.Sink.faults c.args.sink.now) (g.W.Sink.faults c.args.sink.now) (g.W.Sink.faults c.finish_unopened.new.sink) 0 0 (g.L.Link.faults c.args.link.now) (g.L.Link.faults c.args.link.now)
-    (g.D.Disk.faults c.args.disk) (g.D.Disk.faults c.reopen.new.disk) c.finish_unopened.result _ c.finish_unopened.ensures.known refl refl
-    (λ six. let e = reopen_disk fault (sym c.from.ensures ∙ c.finish_unopened.ensures.disk six) in c.in-Err.ensures.failed (search e))
-    (λ other. c.in-Err.ensures.steady (λ e. other (c.finish_unopened.ensures.status ∙ ap (λ s. journal_status s) (c.from.ensures ∙ ap (λ r. stop_of_reopen r) (let same : fault ≡ reopens.Disk = cc in same)))))
+    let stop = c.in-Err.stop in
+    record {
+      tells = devices-unopened (g.S.Source.faults c.args.source.now) (g.S.Source.faults c.args.source.now) (g.W.Sink.faults c.args.sink.now) (g.W.Sink.faults c.args.sink.now) (g.W.Sink.faults c.finish_unopened.new.sink) 0 0 (g.L.Link.faults c.args.link.now) (g.L.Link.faults c.args.link.now)
+          (g.D.Disk.faults c.args.disk) (g.D.Disk.faults c.reopen.new.disk) c.finish_unopened.result _ c.finish_unopened.ensures.known refl refl
+          (λ six. let e = c.finish_unopened.ensures.disk six in c.in-Err.ensures.failed (search e))
+          (λ other. c.in-Err.ensures.steady (λ e. other (c.finish_unopened.ensures.status ∙ ap (λ s. journal_status s) (let same : stop ≡ journals.Disk = cc in same))));
+      began = refl;
+      line = counts-took _ _ _ c.finish_unopened.result _ _ _ _ c.finish_unopened.ensures.line;
+    }

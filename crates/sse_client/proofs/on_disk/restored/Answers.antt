@@ -1,5 +1,5 @@
 use Rattle.std.proofs.Common.{◌≡◌, ℕ, ◌+◌, [], Option, List, ap, sym, subst, ◌∙◌}
-use Rattle.client_journal.specs.declared.faults.RecordsFault.TheVariants as records
+use Rattle.script_run_texts.specs.declared.journal_stop.JournalStop.TheVariants as journals
 use Rattle.keyed_fn.specs.KeyFormulas.{mark_of}
 use Rattle.keyed_fn.specs.KeyedFn.{keyed_fn}
 use Rattle.script_run_texts.specs.declared.input_stop.InputStop.TheVariants as inputs
@@ -41,14 +41,14 @@ returns-in_err-rebuilt-clause-stopped g c =
     let left = lines_left [] remaining in
     let content = g.D.Disk.content c.args.disk.now in
     let key = c.in_ok-key.key in
-    let fault = c.in_err-rebuilt.field-0.0 in
+    let stop = c.in_err-rebuilt.field-0.0 in
     let next = c.key_line.new.input.number + 1 in
     let behind = lines_left c.key_line.new.input.pending (g.S.Source.remaining c.key_line.new.source) in
-    IfErr-from c.from_residual-in_err-rebuilt.result (held.Records fault) (λ (s : HeldUp). (told : Told) (written : Option (List ℕ)) → GoesOnTo f left (seen_with told content written) (seen_with told content written) (held_stop s)) c.from_residual-in_err-rebuilt.ensures.1
-    (λ told written. goes_on-unrestored f left (seen_with told content written) key next behind fault
+    IfErr-from c.from_residual-in_err-rebuilt.result (held.Records stop) (λ (s : HeldUp). (told : Told) (written : Option (List ℕ)) → GoesOnTo f left (seen_with told content written) (seen_with told content written) (held_stop s)) c.from_residual-in_err-rebuilt.ensures.1
+    (λ told written. goes_on-unrestored f left (seen_with told content written) key next behind stop
     (found_from_start c.in_ok-input.input.number c.in_ok-input.input.pending remaining c.in_ok-input.ensures.number c.in_ok-input.ensures.pending key next behind c.in_ok-key.ensures.found)
-    (unrestored f key c.args.journal.now content (g.D.Disk.images c.args.disk.now) c.requires.holds fault (λ n e payloads of. c.in_err-rebuilt.ensures.bad n (search e) payloads of)
-    (λ e payloads of. c.in_err-rebuilt.ensures.wrong (search e) payloads of) (λ payloads of e. c.in_err-rebuilt.ensures.no_journal payloads of (search e))))
+    (unrestored f key c.args.journal.now content (g.D.Disk.images c.args.disk.now) c.requires.holds stop (λ n e payloads of. c.in_err-rebuilt.ensures.bad n (search e) payloads of)
+    (λ e payloads of. c.in_err-rebuilt.ensures.wrong (search e) payloads of) (λ payloads of e. c.in_err-rebuilt.ensures.no_journal payloads of (search e)) (λ e. c.in_err-rebuilt.ensures.never_has_records (search e))))
 
 pub returns-in-Recorded-clause-restored : goal.returns-in-Recorded-clause-restored
 returns-in-Recorded-clause-restored g c =
@@ -89,7 +89,7 @@ returns-clause-stopped g c = λ told written.
     let next = c.key_line.new.input.number + 1 in
     let behind = lines_left c.key_line.new.input.pending (g.S.Source.remaining c.key_line.new.source) in
     let w = c.in_ok-rebuilt.ensures.rebuilt in
-    goes_on-unrestored f (lines_left [] remaining) (seen_with told content written) key next behind records.NoJournal
+    goes_on-unrestored f (lines_left [] remaining) (seen_with told content written) key next behind journals.NoJournal
     (found_from_start c.in_ok-input.input.number c.in_ok-input.input.pending remaining c.in_ok-input.ensures.number c.in_ok-input.ensures.pending key next behind c.in_ok-key.ensures.found)
     (unrestored-fresh f key c.args.journal.now content (g.D.Disk.images c.args.disk.now) c.requires.holds c.in_ok-rebuilt.rebuilt c.in-Fresh.field-0 w (c.in-Fresh.ensures.restored w.payloads w.taken) c.requires.some)
 

@@ -24,7 +24,7 @@ returns-in-Err-clause-sends g c = λ frames planned numbered. (refl, c.in-Err.en
 
 pub returns-clause-stands : goal.returns-clause-stands
 returns-clause-stands g c = λ f.
-    let run : Run = record { setup = setup_with c.args.setup.docs.documents c.args.setup.planned.b c.args.setup.planned.big c.args.setup.planned.pad; later = [] } in
+    let run : Run = record { setup = setup_with c.args.setup.planned.docs.documents c.args.setup.planned.b c.args.setup.planned.big c.args.setup.planned.pad; later = [] } in
     let keys = keys_under c.args.setup.client.key (Some run) in
     subst (StandsFor f keys at_first run) (sym c.in_ok-ready.ensures.ready) (c.commit.ensures.stands f keys)
 

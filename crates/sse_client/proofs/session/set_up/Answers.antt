@@ -2,6 +2,7 @@ use Rattle.std.proofs.Common.{ℕ, ◌∷◌, [], List, refl, sym, ap, subst, �
 use Rattle.client_core.specs.Payloads.{setup_payload}
 use Rattle.def_script_meaning.specs.Carries.{Keeps}
 use Rattle.client_core.specs.declared.planned.Planned.{Planned}
+use Rattle.client_registry.specs.Document.{Document}
 use Rattle.client_registry.specs.Run.{at_first}
 use Rattle.client_registry.specs.Setup.{setup_with}
 use Rattle.index_setup.proofs.BuildErrors.{size_accepted}
@@ -31,19 +32,20 @@ returns-in_ok-send_setup-in-Ok-clause-takes g c =
     let new = seen (g.L.Link.transcript c.send_setup.new.link) (g.R.Recorder.kept c.send_setup.new.recorder) in
     let key = c.in-Collecting.client.key in
     let docs = c.in-Collecting.docs.documents in
-    let s = setup_with docs c.args.numbers.b c.args.numbers.big c.args.numbers.pad in
+    let s = setup_with docs c.args.sizes.b c.args.sizes.big c.args.sizes.pad in
     let frames : List FrameText = frames_of_setup (key_table f key s) at_first s in
     let shape = c.in-Ok.ensures.shape in
     let done = c.in_ok-send_setup-in-Ok.field-0 in
     let at : IsCollecting f key docs c.in-Collecting.docs.keys c.args.stage = λ place a.
     let here : IsAt f (Collecting c.in-Collecting.client c.in-Collecting.docs) place = subst (λ (s : Stage). IsAt f s place) c.in-Collecting.is a in
     (here.key, here.stands.0, here.stands.1, here.hashed) in
-    let ready : IsReady f key (record { setup = s; later = [] }) done.0 = subst (λ (p : ℕ × ℕ × ℕ). IsReady f key (record { setup = setup_with docs p.0 p.1 p.2; later = [] }) done.0) (λ i. (shape.0 i, shape.1 i, c.in-Ok.ensures.pad i)) (c.in_ok-send_setup-in-Ok.ensures.stands f) in
+    let ready : IsReady f key (record { setup = s; later = [] }) done.0 = subst (λ (p : List Document × ℕ × ℕ × ℕ). IsReady f key (record { setup = setup_with p.0 p.1 p.2 p.3; later = [] }) done.0)
+    (λ i. ((c.in-Ok.ensures.documents i).documents, shape.0 i, shape.1 i, c.in-Ok.ensures.pad i)) (c.in_ok-send_setup-in-Ok.ensures.stands f) in
     let spelled = c.in-Ok.ensures.payload in
     let sends = c.in_ok-send_setup-in-Ok.ensures.sends frames c.in-Ok.ensures.frames (frames_of_setup-are_numbered (key_table f key s) at_first s) in
-    takes_if_sent f key old new c.args.stage docs c.in-Collecting.docs.keys c.args.numbers.b c.args.numbers.big c.args.numbers.pad at c.in-Ok.ensures.accepted c.in-Ok.planned.own_words c.in-Ok.planned.own_blocks c.in-Ok.ensures.own_words c.in-Ok.ensures.own_blocks
+    takes_if_sent f key old new c.args.stage docs c.in-Collecting.docs.keys c.args.sizes.b c.args.sizes.big c.args.sizes.pad at c.in-Ok.ensures.accepted c.in-Ok.planned.own_words c.in-Ok.planned.own_blocks c.in-Ok.ensures.own_words c.in-Ok.ensures.own_blocks
     done.0 done.1 (subst (λ payload. Keeps old.kept new.kept (payload ∷ [])) spelled sends.0) sends.1 c.in_ok-send_setup-in-Ok.ensures.shown c.in_ok-send_setup-in-Ok.ensures.accepted ready
-    c.in_ok-send_setup-in-Ok.ensures.key c.in_ok-send_setup-in-Ok.ensures.hash_keys
+    c.in_ok-send_setup-in-Ok.ensures.key (c.in_ok-send_setup-in-Ok.ensures.hash_keys ∙ (λ i. (c.in-Ok.ensures.documents i).keys))
 
 pub returns-in_err-send_setup-in-Ok-clause-stops : goal.returns-in_err-send_setup-in-Ok-clause-stops
 returns-in_err-send_setup-in-Ok-clause-stops g c =
@@ -52,15 +54,15 @@ returns-in_err-send_setup-in-Ok-clause-stops g c =
     let new = seen (g.L.Link.transcript c.send_setup.new.link) (g.R.Recorder.kept c.send_setup.new.recorder) in
     let key = c.in-Collecting.client.key in
     let docs = c.in-Collecting.docs.documents in
-    let s = setup_with docs c.args.numbers.b c.args.numbers.big c.args.numbers.pad in
+    let s = setup_with docs c.args.sizes.b c.args.sizes.big c.args.sizes.pad in
     let frames : List FrameText = frames_of_setup (key_table f key s) at_first s in
     let stop = c.in_err-send_setup-in-Ok.field-0.0 in
     let spelled = c.in-Ok.ensures.payload in
     let at : IsCollecting f key docs c.in-Collecting.docs.keys c.args.stage = λ place a.
     let here : IsAt f (Collecting c.in-Collecting.client c.in-Collecting.docs) place = subst (λ (s : Stage). IsAt f s place) c.in-Collecting.is a in
     (here.key, here.stands.0, here.stands.1, here.hashed) in
-    IfErr-from c.from_residual.result stop (λ e. StopsWithin f c.args.stage (requests.SetupLine c.args.numbers.b c.args.numbers.big c.args.numbers.pad) old new (command_cause e)) c.from_residual.ensures.1
-    (stops_if_sent f key old new c.args.stage docs c.in-Collecting.docs.keys c.args.numbers.b c.args.numbers.big c.args.numbers.pad at c.in-Ok.ensures.accepted (Stage × LineResult) (setup_payload c.in-Ok.planned) stop spelled
+    IfErr-from c.from_residual.result stop (λ e. StopsWithin f c.args.stage (requests.SetupLine c.args.sizes.b c.args.sizes.big c.args.sizes.pad) old new (command_cause e)) c.from_residual.ensures.1
+    (stops_if_sent f key old new c.args.stage docs c.in-Collecting.docs.keys c.args.sizes.b c.args.sizes.big c.args.sizes.pad at c.in-Ok.ensures.accepted (Stage × LineResult) (setup_payload c.in-Ok.planned) stop spelled
     (c.in_err-send_setup-in-Ok.ensures.sends frames c.in-Ok.ensures.frames (frames_of_setup-are_numbered (key_table f key s) at_first s)))
 
 pub returns-in-Err-setup_refusal-clause-stops :
@@ -77,7 +79,7 @@ returns-in-Err-setup_refusal-clause-stops g c =
     (here.key, here.stands.0, here.stands.1, here.hashed) in
     λ place a written.
     let p = at place a in
-    stops-plan f key docs c.args.numbers.b c.args.numbers.big c.args.numbers.pad place p.0 p.1 p.2 Planned c.in-Err.fault (record { refused = plan.refused; clash = plan.clash; built = plan.built }) old stop
+    stops-plan f key docs c.args.sizes.b c.args.sizes.big c.args.sizes.pad place p.0 p.1 p.2 Planned c.in-Err.fault (record { refused = plan.refused; clash = plan.clash; built = plan.built }) old stop
     (sym c.in-Err-setup_refusal.ensures) written
 
 pub returns-in-Ok-setup_refusal-clause-takes :
@@ -87,19 +89,20 @@ returns-in-Ok-setup_refusal-clause-takes g c =
     let old = seen (g.L.Link.transcript c.args.link.now) (g.R.Recorder.kept c.args.recorder.now) in
     let docs = c.in-Collecting.docs.documents in
     let shown = c.in-Ok-setup_refusal.refusal in
-    let next : Stage = Collecting c.in-Collecting.client c.in-Collecting.docs in
+    let next : Stage = Collecting c.in-Collecting.client c.in-Err.kept in
     let came : LineResult = line_results.Refused shown in
     let plan = c.in-Err.ensures in
     λ place a.
-    let here : IsAt f next place = subst (λ (s : Stage). IsAt f s place) c.in-Collecting.is a in
-    takes-refused_setup f c.in-Collecting.client.key docs c.args.numbers.b c.args.numbers.big c.args.numbers.pad place here.key here.stands.0 here.stands.1 Planned c.in-Err.fault
-    (record { refused = plan.refused; clash = plan.clash; built = plan.built }) old next came shown refl refl here (sym c.in-Ok-setup_refusal.ensures)
+    let here : IsAt f (Collecting c.in-Collecting.client c.in-Collecting.docs) place = subst (λ (s : Stage). IsAt f s place) c.in-Collecting.is a in
+    let still : IsAt f next place = subst (λ d. IsAt f (Collecting c.in-Collecting.client d) place) (sym c.in-Err.ensures.kept) here in
+    takes-refused_setup f c.in-Collecting.client.key docs c.args.sizes.b c.args.sizes.big c.args.sizes.pad place here.key here.stands.0 here.stands.1 Planned c.in-Err.fault
+    (record { refused = plan.refused; clash = plan.clash; built = plan.built }) old next came shown refl refl still (sym c.in-Ok-setup_refusal.ensures)
 
 pub returns-in-Searching-clause-takes : goal.returns-in-Searching-clause-takes
 returns-in-Searching-clause-takes g c = λ place a.
     let f = keyed_fn g.K.Keyed.prf g.K.Keyed.pad in
     let here : IsAt f (Searching c.in-Searching.client) place = subst (λ (s : Stage). IsAt f s place) c.in-Searching.is a in
-    takes-set_up_already f _ _ _ place c.args.numbers.b c.args.numbers.big c.args.numbers.pad (is_up f c.in-Searching.client place here) refl refl here
+    takes-set_up_already f _ _ _ place c.args.sizes.b c.args.sizes.big c.args.sizes.pad (is_up f c.in-Searching.client place here) refl refl here
 
 pub returns-in_ok-send_setup-in-Ok-clause-same_key : goal.returns-in_ok-send_setup-in-Ok-clause-same_key
 returns-in_ok-send_setup-in-Ok-clause-same_key g c = c.in_ok-send_setup-in-Ok.ensures.key ∙ ap key_of (sym c.in-Collecting.is)
@@ -107,17 +110,17 @@ returns-in_ok-send_setup-in-Ok-clause-same_key g c = c.in_ok-send_setup-in-Ok.en
 pub returns-in_err-send_setup-in-Ok-clause-may_stop :
     goal.returns-in_err-send_setup-in-Ok-clause-may_stop
 returns-in_err-send_setup-in-Ok-clause-may_stop g c =
-    may_stop c.from_residual.result (MayStop (keyed_fn g.K.Keyed.prf g.K.Keyed.pad) c.args.stage (lines.SetupLine c.args.numbers.b c.args.numbers.big c.args.numbers.pad))
-    (subst (λ s. MayStop (keyed_fn g.K.Keyed.prf g.K.Keyed.pad) s (lines.SetupLine c.args.numbers.b c.args.numbers.big c.args.numbers.pad)) (sym c.in-Collecting.is)
-    (size_accepted (keyed_fn g.K.Keyed.prf g.K.Keyed.pad) c.in-Collecting.client.key (setup_with c.in-Collecting.docs.documents c.args.numbers.b c.args.numbers.big c.args.numbers.pad) c.in-Ok.ensures.accepted))
+    may_stop c.from_residual.result (MayStop (keyed_fn g.K.Keyed.prf g.K.Keyed.pad) c.args.stage (lines.SetupLine c.args.sizes.b c.args.sizes.big c.args.sizes.pad))
+    (subst (λ s. MayStop (keyed_fn g.K.Keyed.prf g.K.Keyed.pad) s (lines.SetupLine c.args.sizes.b c.args.sizes.big c.args.sizes.pad)) (sym c.in-Collecting.is)
+    (size_accepted (keyed_fn g.K.Keyed.prf g.K.Keyed.pad) c.in-Collecting.client.key (setup_with c.in-Collecting.docs.documents c.args.sizes.b c.args.sizes.big c.args.sizes.pad) c.in-Ok.ensures.accepted))
 
 pub returns-in-Err-setup_refusal-clause-may_stop :
     goal.returns-in-Err-setup_refusal-clause-may_stop
 returns-in-Err-setup_refusal-clause-may_stop g c =
     let plan = c.in-Err.ensures in
-    let why = stopped_plan (keyed_fn g.K.Keyed.prf g.K.Keyed.pad) c.in-Collecting.client.key (setup_with c.in-Collecting.docs.documents c.args.numbers.b c.args.numbers.big c.args.numbers.pad) Planned c.in-Err.fault (record { refused = plan.refused; clash = plan.clash; built = plan.built })
+    let why = stopped_plan (keyed_fn g.K.Keyed.prf g.K.Keyed.pad) c.in-Collecting.client.key (setup_with c.in-Collecting.docs.documents c.args.sizes.b c.args.sizes.big c.args.sizes.pad) Planned c.in-Err.fault (record { refused = plan.refused; clash = plan.clash; built = plan.built })
     c.in-Err-setup_refusal.stop (sym c.in-Err-setup_refusal.ensures) in
-    subst (λ s. MayStop (keyed_fn g.K.Keyed.prf g.K.Keyed.pad) s (lines.SetupLine c.args.numbers.b c.args.numbers.big c.args.numbers.pad)) (sym c.in-Collecting.is) why.0
+    subst (λ s. MayStop (keyed_fn g.K.Keyed.prf g.K.Keyed.pad) s (lines.SetupLine c.args.sizes.b c.args.sizes.big c.args.sizes.pad)) (sym c.in-Collecting.is) why.0
 
 pub returns-in-Err-setup_refusal-clause-keeps_on : goal.returns-in-Err-setup_refusal-clause-keeps_on
 returns-in-Err-setup_refusal-clause-keeps_on g c = keeps-same g.R.Recorder.kept g.R.Recorder.moment g.R.Recorder.left_since c.args.recorder.now (g.met.R.Recorder.at_rest c.args.recorder.now c.requires.whole)
