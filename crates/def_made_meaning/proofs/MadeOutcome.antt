@@ -42,7 +42,7 @@ use Rattle.def_script_meaning.specs.Carries.{Outside}
 use Rattle.def_script_meaning.specs.Lines.{Line, Request, line_read, script_lines}
 use Rattle.def_script_meaning.specs.Lines as lines
 use Rattle.def_script_meaning.specs.Meaning.{follow, meaning, meant_from}
-use Rattle.def_script_meaning.specs.Outcome.{Collects, Does, Outcome, Place, SetsUp, after, is_refusal, outcome, unless}
+use Rattle.def_script_meaning.specs.Outcome.{Collects, Does, Finds, Outcome, Place, Says, SetsUp, after, is_refusal, outcome, unless}
 use Rattle.def_script_meaning.specs.Refused.{add_refusal, counter_refusal, delete_refusal, frame_refusal}
 use Rattle.def_script_meaning.specs.Runs.{Ended, Opens}
 use Rattle.def_script_meaning.specs.Stops.{AtEnd, status_of}
@@ -154,8 +154,8 @@ module _ (seed : ℕ) (key : List ℕ) (n : ℕ) (few : n ≤ 10000) where
   deletes_one cs id left some short there rest =
       let none : delete_refusal (with_commands cs) id ≡ None =
       λ i. if ne_eqb id 0 (λ e. omega (arith, e, some)) i then Some Zero else if not (there i) then Some (UnknownDocument id) else frame_none cs short i in
-      one_line (behind cs) (lines.Del id) (Does (Delete id ∷ []) (shown.Deleted id)) left
-      (ap (λ (r : Option Refusal). unless r (Does (Delete id ∷ []) (shown.Deleted id))) none) refl rest
+      one_line (behind cs) (lines.Del id) (Does (Delete id ∷ []) (Says (shown.Deleted id))) left
+      (ap (λ (r : Option Refusal). unless r (Does (Delete id ∷ []) (Says (shown.Deleted id)))) none) refl rest
 
   -- whether a document is live after a deletion
   live_deleted : (cs : List Command) (id x : ℕ) (b : Bool) → not (x == id) ≡ b → live_now (cs ++ Delete id ∷ []) x ≡ (b && live_now cs x)
@@ -239,8 +239,8 @@ module _ (seed : ℕ) (key : List ℕ) (n : ℕ) (few : n ≤ 10000) where
       let sound = document_refusal-made seed id some (omega (arith, small)) in
       let none : add_refusal (with_commands cs) (made_doc seed id) ≡ None =
       λ i. option_or (sound i) (if new i then Some (AlreadyLive id) else option_or (counter_none cs (made_doc seed id) short i) (frame_none cs short i)) in
-      one_line (behind cs) (lines.AddLine id (made_words seed id)) (Does (Add (made_doc seed id) ∷ []) (shown.Added id)) left
-      (ap (λ (r : Option Refusal). unless r (Does (Add (made_doc seed id) ∷ []) (shown.Added id))) none) refl rest
+      one_line (behind cs) (lines.AddLine id (made_words seed id)) (Does (Add (made_doc seed id) ∷ []) (Says (shown.Added id))) left
+      (ap (λ (r : Option Refusal). unless r (Does (Add (made_doc seed id) ∷ []) (Says (shown.Added id)))) none) refl rest
 
   -- another document isn't live after an addition where it wasn't before
   not_live_added : (cs : List Command) (id x : ℕ) → x ≢ id → live_now cs x ≡ false → live_now (cs ++ Add (made_doc seed id) ∷ []) x ≡ false
@@ -309,7 +309,7 @@ module _ (seed : ℕ) (key : List ℕ) (n : ℕ) (few : n ≤ 10000) where
   finds s zero cs within = λ number. refl
   finds s (suc more) cs within =
       let word = searched_word seed s in
-      let result = Does (commands.Search word ∷ []) (shown.Found (matching_in (with_commands cs) word)) in
+      let result = Does (commands.Search word ∷ []) (Finds (matching_in (with_commands cs) word)) in
       let none : bad_word 0 (word ∷ []) ≡ None = ap (λ (r : Option WordFault). option_or (option_and_then (word_refused 0) r) None) (searched_is_word s (omega (arith, within))) in
       one_line (behind cs) (lines.Find word) result (map (searched_line seed) (range_with_len (s + 1) more))
       (ap (λ (r : Option Refusal). unless r result) none) refl

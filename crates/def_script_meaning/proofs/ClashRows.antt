@@ -10,7 +10,7 @@ use Rattle.sse_script.specs.Shown.{LabelClash, PlaceClash, NumberClash}
 use Rattle.sse_script.specs.Shown.{Added, Deleted}
 use Rattle.script_documents.specs.LineDocument.{document}
 use Rattle.def_script_meaning.specs.Carries.{clash_in_hand}
-use Rattle.def_script_meaning.specs.Outcome.{Place, opened, SetsUp, Does}
+use Rattle.def_script_meaning.specs.Outcome.{Place, Says, opened, SetsUp, Does}
 
 abbrev toy : KeyedFn
 toy = keyed_fn toy_prf toy_pad
@@ -44,13 +44,13 @@ places_of_a_setup : clash_in_hand toy (opened key) (SetsUp (setup_of (document 1
 places_of_a_setup = refl
 
 -- the first of its words has another label
-labels_of_an_addition : clash_in_hand toy (behind []) (Does (Add (document 5 (b ∷ da ∷ ac ∷ [])) ∷ []) (Added 5)) ≡ Some (LabelClash 1 2)
+labels_of_an_addition : clash_in_hand toy (behind []) (Does (Add (document 5 (b ∷ da ∷ ac ∷ [])) ∷ []) (Says (Added 5))) ≡ Some (LabelClash 1 2)
 labels_of_an_addition = refl
 
 -- one of the words has an addition more
-no_collision_of_an_addition : clash_in_hand toy (behind (Add (document 7 (da ∷ [])) ∷ [])) (Does (Add (document 5 (b ∷ da ∷ ac ∷ [])) ∷ []) (Added 5)) ≡ None
+no_collision_of_an_addition : clash_in_hand toy (behind (Add (document 7 (da ∷ [])) ∷ [])) (Does (Add (document 5 (b ∷ da ∷ ac ∷ [])) ∷ []) (Says (Added 5))) ≡ None
 no_collision_of_an_addition = refl
 
 numbers_of_a_deletion :
-    clash_in_hand toy (behind (Add (document 7 (da ∷ [])) ∷ Add (document 5 (b ∷ da ∷ ac ∷ [])) ∷ [])) (Does (Delete 5 ∷ []) (Deleted 5)) ≡ Some (NumberClash 1 2)
+    clash_in_hand toy (behind (Add (document 7 (da ∷ [])) ∷ Add (document 5 (b ∷ da ∷ ac ∷ [])) ∷ [])) (Does (Delete 5 ∷ []) (Says (Deleted 5))) ≡ Some (NumberClash 1 2)
 numbers_of_a_deletion = refl

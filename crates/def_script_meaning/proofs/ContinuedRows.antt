@@ -25,14 +25,14 @@ use Rattle.sse_model.proofs.CollisionTest.{IsCollisionFree-from_test}
 use Rattle.sse_model.specs.Drawn.{IsCollisionFree}
 use Rattle.sse_model.specs.Epochs.{keys_under}
 use Rattle.sse_model.specs.Histories.{table_of, frames_sent}
-use Rattle.sse_script.specs.Shown.{Added, Found}
+use Rattle.sse_script.specs.Shown.{Added}
 use Rattle.def_script_meaning.specs.Carries.{Carries, frames_by, records_by}
 use Rattle.def_script_meaning.specs.Continues.{at_run, GoesOn, frames_since, Continued}
 use Rattle.def_script_meaning.specs.Headline.{IsOverHonest}
 use Rattle.def_script_meaning.specs.Lines.{Command as CommandLine}
 use Rattle.def_script_meaning.specs.Lines.{Line, Doc, SetupLine, AddLine, Find}
 use Rattle.def_script_meaning.specs.Meaning.{follow}
-use Rattle.def_script_meaning.specs.Outcome.{Place, Outcome, Does, opened}
+use Rattle.def_script_meaning.specs.Outcome.{Place, Says, Finds, Outcome, Does, opened}
 use Rattle.def_script_meaning.specs.Runs.{Ended, ended, IsGreeted}
 use Rattle.def_script_meaning.specs.Stops.{AtEnd}
 use Rattle.def_script_meaning.proofs.ContinuedSessions.{continued, since_is_answered}
@@ -85,13 +85,13 @@ next_row = held_row.next
 -- The session.
 
 abbrev adding : List FrameText
-adding = frames_by toy (at_run key docs run) (Does (Add (document 5 (a ∷ [])) ∷ []) (Added 5))
+adding = frames_by toy (at_run key docs run) (Does (Add (document 5 (a ∷ [])) ∷ []) (Says (Added 5)))
 
 abbrev added : Place
 added = at_run key docs (record { setup = setup; later = Add (document 5 (a ∷ [])) ∷ [] })
 
 abbrev finds : Outcome
-finds = Does (Search a ∷ []) (Found (1 ∷ 5 ∷ []))
+finds = Does (Search a ∷ []) (Finds (1 ∷ 5 ∷ []))
 
 abbrev asking : List FrameText
 asking = frames_by toy added finds
@@ -103,7 +103,7 @@ abbrev passing : List Event
 passing = greeted ++ acknowledged 3 adding ++ map sent asking ++ received (Page true (1 ∷ 5 ∷ [])) ∷ []
 
 abbrev records : List (List ℕ)
-records = records_by toy (at_run key docs run) (Does (Add (document 5 (a ∷ [])) ∷ []) (Added 5))
+records = records_by toy (at_run key docs run) (Does (Add (document 5 (a ∷ [])) ∷ []) (Says (Added 5)))
 
 abbrev added_text : List ℕ
 added_text = codes "added 5\n"
@@ -111,7 +111,7 @@ added_text = codes "added 5\n"
 abbrev text : List ℕ
 text = added_text ++ codes "found 2: 1 5\n"
 
-adds_row : Carries toy (at_run key docs run) (Does (Add (document 5 (a ∷ [])) ∷ []) (Added 5)) (seen greeted [] []) (seen (greeted ++ acknowledged 3 adding) records added_text)
+adds_row : Carries toy (at_run key docs run) (Does (Add (document 5 (a ∷ [])) ∷ []) (Says (Added 5))) (seen greeted [] []) (seen (greeted ++ acknowledged 3 adding) records added_text)
 unfolding digits
 adds_row = record {
   kept = refl;

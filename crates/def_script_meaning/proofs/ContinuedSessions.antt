@@ -39,6 +39,7 @@ use Rattle.def_script_meaning.specs.Goes.{Passes, HasPassed, Goes}
 use Rattle.def_script_meaning.specs.Headline.{IsOverHonest, IsUndisturbed}
 use Rattle.def_script_meaning.specs.Lines.{Line}
 use Rattle.def_script_meaning.specs.Meaning.{Meaning, follow}
+use Rattle.def_script_meaning.specs.Outcome.{said}
 use Rattle.def_script_meaning.specs.Recorded.{records_in}
 use Rattle.def_script_meaning.specs.Runs.{Ended, Ends}
 use Rattle.def_script_meaning.specs.Session.{IsFree}
@@ -226,7 +227,7 @@ module _ (f : KeyedFn) (laws : IsKeyedFn f) (key : List ℕ) (run : Run) (before
               ∙ in_order-shown_in_turn (longer commands (Some run)) kept_end
               ∙ ap found_in_turn (sym history)
               ∙ finds-follow (at_run key docs run) number lines refused) in
-              let own_text : text_with g.goes.answers m.shown ≡ flat_map text_of m.shown =
+              let own_text : text_with g.goes.answers m.shown ≡ flat_map text_of (map said m.shown) =
               ap (λ found. flat_map text_of (with_answers found m.shown)) (ap (map in_order) all.0 ∙ answers) ∙ ap (flat_map text_of) (with_answers-finds m.shown) in
               record {
                 status_is = ap status_of well.0;

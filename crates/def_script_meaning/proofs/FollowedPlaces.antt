@@ -17,31 +17,25 @@ use Rattle.sse_model.proofs.Counts.{length-frames_of_setup}
 use Rattle.sse_model.specs.Histories.{frames_sent, frames_of_first, frames_of_next, table_of, HasNoCollision}
 use Rattle.sse_model.specs.Names.{Table, table}
 use Rattle.sse_model.specs.Wire.{frames_of, next_number}
-use Rattle.sse_script.specs.Shown.{Shown, SetUp, Added, Deleted, Found, Resumed, Refused, Stopped}
 use Rattle.script_documents.specs.LineDocument.{document}
 use Rattle.def_script_meaning.specs.Carries.{keys_at, frames_by, collision_cause, clash_in_hand}
 use Rattle.def_script_meaning.specs.Goes.{frames_in_hand, frames_of_last}
 use Rattle.def_script_meaning.specs.Lines as script
 use Rattle.def_script_meaning.specs.Lines.{Line, Empty, Key, Request}
 use Rattle.def_script_meaning.specs.Meaning.{follow, meant_from}
-use Rattle.def_script_meaning.specs.Outcome.{Place, Outcome, Collects, Refuses, SetsUp, Does, opened, outcome, after, shown_by, is_refusal}
+use Rattle.def_script_meaning.specs.Outcome.{Place, Printed, Says, Finds, Outcome, Collects, Refuses, SetsUp, Does, opened, outcome, after, shown_by, is_refusal}
 use Rattle.def_script_meaning.proofs.Outcomes.{by_cases}
 
 -- the answers in printed lines
-abbrev pub finds : List Shown → List (List ℕ)
+abbrev pub finds : List Printed → List (List ℕ)
 finds [] = []
-finds (Found ids ∷ shown) = ids ∷ finds shown
-finds (line ∷ shown) = finds shown
+finds (Says line ∷ shown) = finds shown
+finds (Finds ids ∷ shown) = ids ∷ finds shown
 
-pub finds-append : (xs ys : List Shown) → finds (xs ++ ys) ≡ finds xs ++ finds ys
+pub finds-append : (xs ys : List Printed) → finds (xs ++ ys) ≡ finds xs ++ finds ys
 finds-append [] ys = refl
-finds-append (SetUp words blocks ∷ xs) ys = finds-append xs ys
-finds-append (Added id ∷ xs) ys = finds-append xs ys
-finds-append (Deleted id ∷ xs) ys = finds-append xs ys
-finds-append (Found ids ∷ xs) ys = ap (λ rest. ids ∷ rest) (finds-append xs ys)
-finds-append (Resumed frames ∷ xs) ys = finds-append xs ys
-finds-append (Refused refusal ∷ xs) ys = finds-append xs ys
-finds-append (Stopped cause ∷ xs) ys = finds-append xs ys
+finds-append (Says line ∷ xs) ys = finds-append xs ys
+finds-append (Finds ids ∷ xs) ys = ap (λ rest. ids ∷ rest) (finds-append xs ys)
 
 -- one command after a history sends at most one frame, and is its last
 one_command : (f : KeyedFn) (keys : ℕ → List ℕ) (h : History) (c : Command) → (commands : List Command) → commands ≡ c ∷ [] → length (frames_of_next f keys h commands) ≤ frames_in_hand (longer commands h)

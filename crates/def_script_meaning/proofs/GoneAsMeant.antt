@@ -14,7 +14,7 @@ use Rattle.sse_frames.specs.Replies.{IsIdentifier}
 use Rattle.def_link_events.specs.Events.{Event}
 use Rattle.sse_model.proofs.ExchangeLaws.{exchange-append, searches-append}
 use Rattle.sse_script.specs.Shown.{Cause, BadWords, BadLine, SourceFault, LinkFault, DiskFault, NoMemory, LabelClash, PlaceClash, NumberClash, Clash, PeerElsewhere, BadReply, NoJournal, HasRecords, BadRecord, WrongKey}
-use Rattle.sse_script.specs.Shown.{Shown, SetUp, Added, Deleted, Found, Resumed, Refused, Stopped}
+use Rattle.sse_script.specs.Shown.{Found}
 use Rattle.sse_script.specs.Stops.{cause_status}
 use Rattle.sse_script.specs.Texts.{text_of}
 use Rattle.sse_outside.specs.Kept.{Kept, with_records}
@@ -22,6 +22,7 @@ use Rattle.def_script_meaning.specs.Carries.{Keeps, with_answers, text_with}
 use Rattle.def_script_meaning.specs.Exchange.{Told, Adds, AreExchanged, ShowsInReplies, as_event, bare}
 use Rattle.def_script_meaning.specs.Goes.{IsLeft, Passes, Prints}
 use Rattle.def_script_meaning.specs.HelloExchange.{ShowsInAnswer}
+use Rattle.def_script_meaning.specs.Outcome.{Printed, Says, Finds}
 use Rattle.def_script_meaning.specs.Stops.{status_of}
 use Rattle.def_script_meaning.specs.Runs.{Ended}
 use Rattle.def_script_meaning.proofs.FollowedPlaces.{finds}
@@ -67,19 +68,14 @@ append_known-nothing None = refl
 append_known-nothing (Some bytes) = ap (λ b. Some b) (append-nil bytes)
 
 -- where there are as many answers as the first lines have searches, the lines after them take the answers after
-with_answers-append : (xs ys : List (List ℕ)) (s t : List Shown) → length xs ≡ length (finds s) → with_answers (xs ++ ys) (s ++ t) ≡ with_answers xs s ++ with_answers ys t
+with_answers-append : (xs ys : List (List ℕ)) (s t : List Printed) → length xs ≡ length (finds s) → with_answers (xs ++ ys) (s ++ t) ≡ with_answers xs s ++ with_answers ys t
 with_answers-append [] ys [] t count = refl
 with_answers-append (ids ∷ xs) ys [] t count = absurd (omega (arith, count))
-with_answers-append xs ys (SetUp words blocks ∷ s) t count = ap (λ rest. SetUp words blocks ∷ rest) (with_answers-append xs ys s t count)
-with_answers-append xs ys (Added id ∷ s) t count = ap (λ rest. Added id ∷ rest) (with_answers-append xs ys s t count)
-with_answers-append xs ys (Deleted id ∷ s) t count = ap (λ rest. Deleted id ∷ rest) (with_answers-append xs ys s t count)
-with_answers-append [] ys (Found found ∷ s) t count = absurd (omega (arith, count))
-with_answers-append (ids ∷ xs) ys (Found found ∷ s) t count = ap (λ rest. Found ids ∷ rest) (with_answers-append xs ys s t (omega (arith, count)))
-with_answers-append xs ys (Resumed frames ∷ s) t count = ap (λ rest. Resumed frames ∷ rest) (with_answers-append xs ys s t count)
-with_answers-append xs ys (Refused refusal ∷ s) t count = ap (λ rest. Refused refusal ∷ rest) (with_answers-append xs ys s t count)
-with_answers-append xs ys (Stopped cause ∷ s) t count = ap (λ rest. Stopped cause ∷ rest) (with_answers-append xs ys s t count)
+with_answers-append xs ys (Says line ∷ s) t count = ap (λ rest. line ∷ rest) (with_answers-append xs ys s t count)
+with_answers-append [] ys (Finds found ∷ s) t count = absurd (omega (arith, count))
+with_answers-append (ids ∷ xs) ys (Finds found ∷ s) t count = ap (λ rest. Found ids ∷ rest) (with_answers-append xs ys s t (omega (arith, count)))
 
-pub text_with-append : (xs ys : List (List ℕ)) (s t : List Shown) → length xs ≡ length (finds s) → text_with (xs ++ ys) (s ++ t) ≡ text_with xs s ++ text_with ys t
+pub text_with-append : (xs ys : List (List ℕ)) (s t : List Printed) → length xs ≡ length (finds s) → text_with (xs ++ ys) (s ++ t) ≡ text_with xs s ++ text_with ys t
 text_with-append xs ys s t count =
     ap (λ answers. flat_map text_of (with_answers answers (s ++ t))) (map-append in_order xs ys)
     ∙ ap (flat_map text_of) (with_answers-append (map in_order xs) (map in_order ys) s t (length-map xs in_order ∙ count))

@@ -27,7 +27,7 @@ use Rattle.sse_model.proofs.ExchangeLaws.{session-exchange, searches-sent}
 use Rattle.sse_model.proofs.HistoryLaws.{frames_sent-in_grammar, HasNoCollision-first}
 use Rattle.sse_model.specs.Epochs.{keys_under}
 use Rattle.sse_script.specs.Shown.{Cause}
-use Rattle.sse_script.specs.Shown.{Shown, SetUp, Added, Deleted, Found, Resumed, Refused, Stopped}
+use Rattle.sse_script.specs.Shown.{Found}
 use Rattle.sse_script.specs.Stops.{cause_status}
 use Rattle.sse_script.specs.Texts.{text_of}
 use Rattle.sse_outside.specs.Kept.{with_records}
@@ -37,7 +37,7 @@ use Rattle.def_script_meaning.specs.Goes.{frames_in_hand, Passes, IsOpened, HasP
 use Rattle.def_script_meaning.specs.Headline.{IsOverHonest, IsUndisturbed, Headline}
 use Rattle.def_script_meaning.specs.Lines.{Line, Empty, Key, Command, script_lines}
 use Rattle.def_script_meaning.specs.Meaning.{Meaning, meant_from, meaning}
-use Rattle.def_script_meaning.specs.Outcome.{opened}
+use Rattle.def_script_meaning.specs.Outcome.{Printed, Says, Finds, said, opened}
 use Rattle.def_script_meaning.specs.Runs.{Ended, Opens, Ends}
 use Rattle.def_script_meaning.specs.Recorded.{records_with}
 use Rattle.def_script_meaning.specs.Session.{session_with, session_of, frames_with, frames_of, IsFree}
@@ -205,15 +205,10 @@ module _ (f : KeyedFn) (low high : ℕ) (frames : (next : ℕ) → List FrameTex
       )
 
 -- lines that are given their own answers are the same
-pub with_answers-finds : (shown : List Shown) → with_answers (finds shown) shown ≡ shown
+pub with_answers-finds : (shown : List Printed) → with_answers (finds shown) shown ≡ map said shown
 with_answers-finds [] = refl
-with_answers-finds (SetUp words blocks ∷ shown) = ap (λ rest. SetUp words blocks ∷ rest) (with_answers-finds shown)
-with_answers-finds (Added id ∷ shown) = ap (λ rest. Added id ∷ rest) (with_answers-finds shown)
-with_answers-finds (Deleted id ∷ shown) = ap (λ rest. Deleted id ∷ rest) (with_answers-finds shown)
-with_answers-finds (Found ids ∷ shown) = ap (λ rest. Found ids ∷ rest) (with_answers-finds shown)
-with_answers-finds (Resumed frames ∷ shown) = ap (λ rest. Resumed frames ∷ rest) (with_answers-finds shown)
-with_answers-finds (Refused refusal ∷ shown) = ap (λ rest. Refused refusal ∷ rest) (with_answers-finds shown)
-with_answers-finds (Stopped cause ∷ shown) = ap (λ rest. Stopped cause ∷ rest) (with_answers-finds shown)
+with_answers-finds (Says line ∷ shown) = ap (λ rest. line ∷ rest) (with_answers-finds shown)
+with_answers-finds (Finds ids ∷ shown) = ap (λ rest. Found ids ∷ rest) (with_answers-finds shown)
 
 -- the first part of a history has no collision where the whole has none
 pub IsFree-first : (f : KeyedFn) (key whole_key : Option (List ℕ)) (part whole : History) → (key ≡ None) ⊎ (key ≡ whole_key) → IsFirstOf part whole → IsFree f whole_key whole → IsFree f key part
@@ -317,7 +312,7 @@ module _ (f : KeyedFn) (laws : IsKeyedFn f) (bytes : List ℕ) (now : Outside) (
       ]
 
       -- so the lines that were printed are the meaning's
-      own_text : text_with g.answers m.shown ≡ flat_map text_of m.shown
+      own_text : text_with g.answers m.shown ≡ flat_map text_of (map said m.shown)
       own_text = ap (λ answers. flat_map text_of (with_answers answers m.shown))
           (ap (map in_order) whole.answers ∙ in_order-shown_in_turn m.history kept ∙ finds-meant 1 (script_lines bytes))
           ∙ ap (flat_map text_of) (with_answers-finds m.shown)

@@ -48,7 +48,7 @@ events_received (r ∷ rs) = ap (λ more. Received (reply_bytes r) ∷ more) (ev
 
 -- The kinds of replies.
 
-abbrev kind_of : List ℕ → ℕ
+abbrev pub kind_of : List ℕ → ℕ
 kind_of reply = slice_index reply 4
 
 -- the kind of the replies that are to come
@@ -333,7 +333,7 @@ first_given asks (ids ∷ left) given = given.0
 -- where frames that are left are cut at such a server, the cause is no collision and no bad reply
 pub cut_outside : (f : KeyedFn) (mid end : Served) (frames : List FrameText) (left : List (List ℕ)) (cut : List Event) (cause : Cause) → AllByRecursion InGrammar frames → AllByRecursion IsAnswer left
     → (steps f mid.state frames).1 ≡ replied left frames → IsServed f mid (map bare cut) end → IsCut frames cut cause → cause_status cause ≤ 7
-cut_outside f mid end [] left cut cause grammar given replies served is = omega (arith, ap cause_status is.1)
+cut_outside f mid end [] left cut cause grammar given replies served is = absurd is
 cut_outside f mid end (frame ∷ frames) left [] cause grammar given replies served (inl link) = omega (arith, ap cause_status link)
 cut_outside f mid end (frame ∷ frames) left [] cause grammar given replies served (inr memory) = omega (arith, ap cause_status memory)
 cut_outside f mid end (frame ∷ frames) left (Received bytes ∷ cut) cause grammar given replies served is = absurd is

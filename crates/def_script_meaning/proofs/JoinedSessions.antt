@@ -1,19 +1,14 @@
 -- Two sessions of one history. What a whole run leaves, where nothing disturbed it, is what a run supposes that goes on: its records open
 -- to its history without the searches, and its server took all frames of that. And the second session is the history's after the first.
 use Rattle.std.proofs.Common.{◌≡◌, ℕ, List, [], ◌∷◌, ◌++◌, length, map, take, drop, filter, Option, Some, None, refl, sym, ap, ◌∙◌, arith}
-use Rattle.std.specs.Prelude.{flat_map}
 use Rattle.std.specs.Option.{option_map_or}
 use Rattle.std.proofs.Math.Seq.{drop-append_seam, take-length}
 use Rattle.std.proofs.lemmas.List.{drop-map, length-take, map-append}
-use Rattle.std.proofs.lemmas.List.Elements.{filter-append}
 use Rattle.client_records.proofs.RecordedLaws.{opens-records}
 use Rattle.client_records.specs.Openings.{Opens}
-use Rattle.client_registry.proofs.LiveLaws.{shown-updates}
-use Rattle.client_registry.specs.Command.{Command, Add, Delete, Search, is_update}
-use Rattle.client_registry.specs.Histories.{IsKept, longer, shown_by, shown_in_turn}
-use Rattle.client_registry.specs.Live.{shown}
-use Rattle.client_registry.specs.Over.{over}
-use Rattle.client_registry.specs.Run.{History, Run, at_first}
+use Rattle.client_registry.specs.Command.{Command}
+use Rattle.client_registry.specs.Histories.{IsKept, longer}
+use Rattle.client_registry.specs.Run.{History, Run}
 use Rattle.client_registry.specs.Sized.{update_frames}
 use Rattle.keyed_fn.specs.KeyFormulas.{mark_of}
 use Rattle.keyed_fn.specs.KeyedFn.{KeyedFn, IsKeyedFn}
@@ -24,16 +19,13 @@ use Rattle.server_core.specs.Step.{answers, step, steps}
 use Rattle.def_agreement.proofs.Histories.{history_held}
 use Rattle.def_agreement.specs.Agreement.{shown_behind}
 use Rattle.def_agreement.specs.TakenFrames.{Expects}
-use Rattle.sse_frames.specs.Exchange.{exchange, greeting}
+use Rattle.sse_frames.specs.Exchange.{exchange}
 use Rattle.sse_frames.specs.Frames.{FrameText, Hello, SetupBegin, SetupDict, SetupArray, SetupEnd, AddFrame, DeleteFrame, SearchFrame}
 use Rattle.sse_frames.specs.Replies.{ReplyText}
-use Rattle.sse_model.proofs.ExchangeLaws.{exchange-append, searches-sent, session-exchange}
 use Rattle.sse_model.proofs.HistoryLaws.{frames_sent-longer}
-use Rattle.sse_model.proofs.Prefixes.{frames_by}
-use Rattle.sse_model.proofs.Updates.{frames-updates, frames_of-updates, is_no_search, next_number-updates}
+use Rattle.sse_model.proofs.Updates.{is_no_search}
 use Rattle.sse_model.specs.Epochs.{keys_under}
-use Rattle.sse_model.specs.Histories.{HasNoCollision, table_of}
-use Rattle.sse_model.specs.Wire.{frames_of, next_number}
+use Rattle.sse_model.specs.Histories.{HasNoCollision}
 use Rattle.def_script_meaning.specs.Carries.{Outside}
 use Rattle.def_script_meaning.specs.Continues.{frames_since}
 use Rattle.def_script_meaning.specs.Exchange.{as_event, bare}
@@ -43,9 +35,10 @@ use Rattle.def_script_meaning.specs.Meaning.{Meaning}
 use Rattle.def_script_meaning.specs.Recorded.{records_in}
 use Rattle.def_script_meaning.specs.Rejoins.{frames_under, HasTaken, Rejoined}
 use Rattle.def_script_meaning.specs.Session.{session_with}
-use Rattle.def_script_meaning.proofs.ContinuedSessions.{shown_in_turn-longer}
 use Rattle.def_script_meaning.proofs.RejoinedSessions.{length-frames_under}
 use Rattle.def_script_meaning.proofs.Simulated.{session_with-simulated}
+use Rattle.def_script_meaning.proofs.SimulatedAfter.{own_passed, session_with-longer}
+use Rattle.def_script_meaning.proofs.UpdatesAlone.{frames_alone, frames_since-updates, shown_behind-updates, updates_again}
 
 -- The server.
 
@@ -67,19 +60,9 @@ steps-updates f s (DeleteFrame q numbers ∷ frames) = steps-updates f (step f s
 steps-updates f s (SearchFrame token ∷ frames) =
     steps-updates f s frames ∙ ap (λ state. (steps f state frames).0) (sym (unchanged s (refusal s (SearchFrame token)) (answers f s (SearchFrame token))))
 
-pub updates_again : (cs : List Command) → filter is_update (filter is_update cs) ≡ filter is_update cs
-updates_again [] = refl
-updates_again (Add d ∷ cs) = ap (λ (rest : List Command). Add d ∷ rest) (updates_again cs)
-updates_again (Delete id ∷ cs) = ap (λ (rest : List Command). Delete id ∷ rest) (updates_again cs)
-updates_again (Search word ∷ cs) = updates_again cs
-
 module _ (f : KeyedFn) (key : List ℕ) (run : Run) where
   abbrev keys : ℕ → List ℕ
   keys = keys_under key (Some run)
-
-  -- the frames of a run's updates are those of the run that are no search's
-  pub frames_alone : frames_under f key (Some (updates_of run)) ≡ filter is_no_search (frames_under f key (Some run))
-  frames_alone = frames-updates (table_of f keys run) at_first run.setup run.later
 
   pub count_alone : update_frames (updates_of run) ≡ update_frames run
   count_alone = omega (arith, ap length (updates_again run.later))
@@ -98,40 +81,9 @@ module _ (f : KeyedFn) (key : List ℕ) (run : Run) where
         sent =
             stored
             ∙ sym (steps-updates f start (frames_under f key (Some run)))
-            ∙ ap (λ fs. (steps f start fs).0) (sym frames_alone ∙ sym (take-length alone) ∙ ap (λ n. take n alone) count);
+            ∙ ap (λ fs. (steps f start fs).0) (sym (frames_alone f key run) ∙ sym (take-length alone) ∙ ap (λ n. take n alone) count);
         number = omega (arith, ap (λ (s : ServerState). s.next) stored, (history_held f keys run start laws kept free expects).next);
       }
-
--- Frames and answers behind a run.
-
-module _ (f : KeyedFn) (key : List ℕ) (run : Run) where
-  one_more : (past alone : List Command) (c : Command) → filter is_update past ≡ filter is_update alone → filter is_update (past ++ c ∷ []) ≡ filter is_update (alone ++ c ∷ [])
-  one_more past alone c same = filter-append is_update past (c ∷ []) ∙ ap (λ cs. cs ++ filter is_update (c ∷ [])) same ∙ sym (filter-append is_update alone (c ∷ []))
-
-  later_frames : (past alone more : List Command) → filter is_update past ≡ filter is_update alone
-      → flat_map (λ fs. fs) (over (frames_by (table_of f (keys_under key (Some run)) run) at_first run.setup) past more)
-      ≡ flat_map (λ fs. fs) (over (frames_by (table_of f (keys_under key (Some run)) run) at_first run.setup) alone more)
-  later_frames past alone [] same = refl
-  later_frames past alone (c ∷ more) same =
-      let t = table_of f (keys_under key (Some run)) run in
-      let by : (cs : List Command) → frames_by t at_first run.setup (filter is_update cs) c ≡ frames_by t at_first run.setup cs c =
-      λ cs. ap (λ q. frames_of t at_first.epoch run.setup q (filter is_update cs) c) (next_number-updates at_first run.setup cs) ∙ frames_of-updates t at_first.epoch run.setup (next_number at_first run.setup cs) cs c in
-      λ i. (sym (by past) ∙ ap (λ cs. frames_by t at_first run.setup cs c) same ∙ by alone) i ++ later_frames (past ++ c ∷ []) (alone ++ c ∷ []) more (one_more past alone c same) i
-
-  later_shown : (past alone more : List Command) → filter is_update past ≡ filter is_update alone
-      → flat_map (λ r. r) (over (shown_by run.setup) past more) ≡ flat_map (λ r. r) (over (shown_by run.setup) alone more)
-  later_shown past alone [] same = refl
-  later_shown past alone (Add d ∷ more) same = later_shown (past ++ Add d ∷ []) (alone ++ Add d ∷ []) more (one_more past alone (Add d) same)
-  later_shown past alone (Delete id ∷ more) same = later_shown (past ++ Delete id ∷ []) (alone ++ Delete id ∷ []) more (one_more past alone (Delete id) same)
-  later_shown past alone (Search word ∷ more) same = λ i.
-      (sym (shown-updates run.setup past word) ∙ ap (λ cs. shown run.setup cs word) same ∙ shown-updates run.setup alone word) i
-      ∷ later_shown (past ++ Search word ∷ []) (alone ++ Search word ∷ []) more (one_more past alone (Search word) same) i
-
-  pub frames_since-updates : (more : List Command) → frames_since f key (updates_of run) more ≡ frames_since f key run more
-  frames_since-updates more = later_frames (filter is_update run.later) run.later more (updates_again run.later)
-
-  pub shown_behind-updates : (more : List Command) → shown_behind (updates_of run) more ≡ shown_behind run more
-  shown_behind-updates more = later_shown (filter is_update run.later) run.later more (updates_again run.later)
 
 -- Both sessions.
 
@@ -164,25 +116,12 @@ module _ (f : KeyedFn) (key : List ℕ) (run : Run) (start : ServerState) (m n :
       ∙ ap (drop 2) second.passed
       ∙ (λ i. map as_event (exchange (shown_behind-updates f key run more i) (frames_behind i)))
 
-  passed_first : map bare first.events ≡ map as_event (greeting 0 ++ exchange (shown_in_turn (Some run)) (frames_under f key (Some run)))
-  passed_first =
-      first.session
-      ∙ (λ i. map as_event (session_with f (key_is i) (run_is i)))
-      ∙ ap (map as_event) (session-exchange f (keys_under key (Some run)) (Some run))
-
   one : map bare (first.events ++ drop 2 second.events) ≡ map as_event (session_with f (Some key) whole)
   one =
-      let keys = keys_under key (Some run) in
-      let xs = frames_under f key (Some run) in
-      let ys = frames_since f key run more in
-      let a = shown_in_turn (Some run) in
-      let b = shown_behind run more in
       map-append bare first.events (drop 2 second.events)
-      ∙ (λ i. passed_first i ++ passed_second i)
-      ∙ sym (map-append as_event (greeting 0 ++ exchange a xs) (exchange b ys))
-      ∙ ap (λ passed. map as_event (greeting 0 ++ passed)) (sym (exchange-append xs ys a b (sym (searches-sent f keys (Some run)))))
-      ∙ (λ i. map as_event (greeting 0 ++ exchange (sym (shown_in_turn-longer run more) i) (sym (frames_sent-longer f keys (Some run) more) i)))
-      ∙ ap (map as_event) (sym (session-exchange f keys whole))
+      ∙ (λ i. (first.session ∙ (λ i. map as_event (session_with f (key_is i) (run_is i)))) i ++ passed_second i)
+      ∙ sym (map-append as_event (session_with f (Some key) (Some run)) (own_passed f key run more))
+      ∙ ap (map as_event) (sym (session_with-longer f key run more))
 
   -- Promise P147, also here
   -- are one session of the history with the searches of the first

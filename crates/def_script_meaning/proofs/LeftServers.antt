@@ -22,11 +22,12 @@ use Rattle.sse_frames.specs.Frames.{FrameText, Hello, SetupBegin, SetupDict, Set
 use Rattle.sse_model.proofs.Updates.{is_no_search}
 use Rattle.def_script_meaning.proofs.Headline.{frames_left, history_is_answered, shown_with}
 use Rattle.def_script_meaning.proofs.Honest.{IsBehindGreeting}
-use Rattle.def_script_meaning.proofs.JoinedSessions.{frames_alone, steps-updates, updates_again}
+use Rattle.def_script_meaning.proofs.JoinedSessions.{steps-updates}
 use Rattle.def_script_meaning.proofs.Kept.{IsKeptAt, IsWithinItem, kept_follow}
 use Rattle.def_script_meaning.proofs.RejoinedSessions.{GoesRejoining, frames_left_after, goes_rejoining, length-frames_under}
 use Rattle.def_script_meaning.proofs.RunGoes.{goes}
 use Rattle.def_script_meaning.proofs.Stepped.{AreBehindGreeting, none_greets, none_refused, step_taken}
+use Rattle.def_script_meaning.proofs.UpdatesAlone.{frames_alone, updates_again}
 use Rattle.def_script_meaning.proofs.Within.{meaning_is_kept}
 use Rattle.def_script_meaning.specs.Carries.{Outside}
 use Rattle.def_script_meaning.specs.Continues.{at_run}

@@ -8,11 +8,14 @@ pub mod GoneAsMeant
 pub mod RunGoes
 pub mod Honest
 pub mod PartsLeft
+pub mod Acknowledged
 pub mod Sent
 pub mod Simulated
 pub mod Recorded
 pub mod Headline
 pub mod ContinuedSessions
+pub mod UpdatesAlone
+pub mod SimulatedAfter
 pub mod RejoinedSessions
 pub mod Stepped
 pub mod JoinedSessions
@@ -22,3 +25,4 @@ mod UpdateRows
 mod ContinuedRows
 mod ClashRows
 pub mod RecordedBehind
+pub mod SessionsInARow

@@ -7,11 +7,11 @@ use Rattle.client_registry.specs.Live.{matching_in}
 use Rattle.client_registry.specs.Setup.{setup_with}
 use Rattle.sse_script.specs.declared.refusal.Refusal.{Refusal}
 use Rattle.sse_script.specs.declared.refusal.Refusal.TheVariants.{NotSetUp, SetUpAlready}
-use Rattle.sse_script.specs.Shown.{Added, Deleted, Found}
+use Rattle.sse_script.specs.Shown.{Added, Deleted}
 use Rattle.script_documents.specs.LineDocument.{document}
 use Rattle.script_documents.specs.Refused.{bad_word, collect_refusal}
 use Rattle.def_script_meaning.specs.Lines.{Request, Doc, SetupLine, AddLine, Del, Find}
-use Rattle.def_script_meaning.specs.Outcome.{Place, Outcome, Collects, Refuses, SetsUp, Does, unless, before_setup, after_setup, outcome}
+use Rattle.def_script_meaning.specs.Outcome.{Place, Says, Finds, Outcome, Collects, Refuses, SetsUp, Does, unless, before_setup, after_setup, outcome}
 use Rattle.def_script_meaning.specs.Refused.{index_refusal, add_refusal, delete_refusal}
 
 module _ (place : Place) (line : Request) (P : Outcome → Type 0) where
@@ -22,9 +22,9 @@ module _ (place : Place) (line : Request) (P : Outcome → Type 0) where
         → P (Collects (document id words))
     pub sets_up : (b big pad : ℕ) → is_set_up place.history ≡ false → index_refusal place.documents b big pad ≡ None → P (SetsUp (setup_with place.documents b big pad))
     pub adds : (id : ℕ) (words : List (List ℕ)) → line ≡ AddLine id words → is_set_up place.history ≡ true → add_refusal place.history (document id words) ≡ None
-        → P (Does (Add (document id words) ∷ []) (Added id))
-    pub deletes : (id : ℕ) → line ≡ Del id → is_set_up place.history ≡ true → delete_refusal place.history id ≡ None → P (Does (Delete id ∷ []) (Deleted id))
-    pub finds : (word : List ℕ) → is_set_up place.history ≡ true → bad_word 0 (word ∷ []) ≡ None → P (Does (Search word ∷ []) (Found (matching_in place.history word)))
+        → P (Does (Add (document id words) ∷ []) (Says (Added id)))
+    pub deletes : (id : ℕ) → line ≡ Del id → is_set_up place.history ≡ true → delete_refusal place.history id ≡ None → P (Does (Delete id ∷ []) (Says (Deleted id)))
+    pub finds : (word : List ℕ) → is_set_up place.history ≡ true → bad_word 0 (word ∷ []) ≡ None → P (Does (Search word ∷ []) (Finds (matching_in place.history word)))
 
   module _ (cases : ByCases) where
     if_not : (r : Option Refusal) (result : Outcome) → (r ≡ None → P result) → P (unless r result)

@@ -29,7 +29,7 @@ part_of_left f end left cut (inr (inl (cause, stops, is))) = by left cut is
   where
     by : (left : List FrameText) (cut : List Event) → IsCut left cut cause → IsPartOf left cut
     by left [] is = tt
-    by [] (event ∷ events) is = absurd (let none : event ∷ events ≡ [] = is.0 in cc)
+    by [] (event ∷ events) is = absurd is
     by (frame ∷ left) (Sent bytes mark ∷ events) is = (is.0, (is.1.0, is.1.1))
     by (frame ∷ left) (Received bytes ∷ events) is = absurd is
 part_of_left f end left cut (inr (inr (inl disk))) = subst (IsPartOf left) (sym disk.0) tt

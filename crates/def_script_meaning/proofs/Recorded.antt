@@ -241,11 +241,11 @@ module _ (f : KeyedFn) where
 
       since-stopped : KeptSince f place.key place.history now end
       since-stopped = elim s.within [
-        | inl c ↦ since-clash c
-        | inr (inl c) ↦ since-memory c
-        | inr (inr (inl u)) ↦ since-unkept u
-        | inr (inr (inr (inl c))) ↦ since-cut c
-        | inr (inr (inr (inr u))) ↦ since-unprinted u
+        | inl (inl c) ↦ since-clash c
+        | inl (inr (inl c)) ↦ since-memory c
+        | inl (inr (inr (inl u))) ↦ since-unkept u
+        | inl (inr (inr (inr c))) ↦ since-cut c
+        | inr u ↦ since-unprinted u
       ]
 
     -- A line that is carried out.

@@ -1,23 +1,28 @@
 -- The records that are kept of a run that goes on after a history and the frames that it sends are of one history after it.
-use Rattle.std.proofs.Common.{◌≡◌, ℕ, suc, ◌+◌, ◌≤◌, inl, inr, false, List, [], ◌∷◌, ◌++◌, length, map, take, drop, Some, refl, sym, ap, ◌∙◌, subst, arith, length-append}
+use Rattle.std.proofs.Common.{◌≡◌, ℕ, suc, ◌+◌, ◌<◌, ◌≤◌, inl, inr, false, List, [], ◌∷◌, ◌++◌, length, map, take, drop, Some, refl, sym, ap, ◌∙◌, subst, arith, length-append}
 use Rattle.std.specs.Prelude.{Option}
 use Rattle.std.proofs.Math.Seq.{take-append-add, take-length}
-use Rattle.std.proofs.lemmas.List.{append-nil, drop-append-le, map-append}
-use Rattle.client_registry.proofs.HistoryLaws.{IsFirstOf-same}
-use Rattle.client_registry.specs.Histories.{IsFirstOf}
+use Rattle.std.specs.List.{AllByRecursion}
+use Rattle.std.proofs.lemmas.List.{append-nil, drop-append-le, length-map, length-take, map-append}
+use Rattle.client_registry.proofs.HistoryLaws.{IsFirstOf-same, IsKept-first}
+use Rattle.client_registry.specs.Histories.{IsFirstOf, IsKept}
 use Rattle.client_registry.specs.Run.{Run}
 use Rattle.keyed_fn.specs.KeyedFn.{KeyedFn}
 use Rattle.def_link_events.specs.Events.{Event}
+use Rattle.sse_frames.specs.Exchange.{greeting}
 use Rattle.sse_frames.specs.Frames.{FrameText, Hello, frame_bytes}
 use Rattle.def_script_meaning.specs.Carries.{Outside}
 use Rattle.def_script_meaning.specs.Continues.{at_run}
-use Rattle.def_script_meaning.specs.Exchange.{Told, Adds, sent_in}
+use Rattle.def_script_meaning.specs.Exchange.{Told, Adds, as_event, bare, sent_in}
 use Rattle.def_script_meaning.specs.Lines.{Line}
+use Rattle.def_script_meaning.specs.Meaning.{follow}
 use Rattle.def_script_meaning.specs.Recorded.{KeepsFirst, records_in}
 use Rattle.def_script_meaning.specs.Rejoins.{HasCaughtUp, HasSent, IsRecordedBehind, Rejoins, StopsShort, StopsUntold, frames_under, lacking}
 use Rattle.def_script_meaning.specs.Runs.{Ended, IsGreeted, IsTurnedAway, Runs}
 use Rattle.def_script_meaning.specs.Stops.{status_of}
 use Rattle.def_script_meaning.proofs.GoneAsMeant.{Adds-joined, Adds-nothing, Keeps-nothing, front_more}
+use Rattle.def_script_meaning.proofs.Kept.{IsKeptAt, IsWithinItem, kept_follow}
+use Rattle.def_script_meaning.proofs.RunGoes.{went}
 use Rattle.def_script_meaning.proofs.Recorded.{KeptSince, kept_since, sent_in-cut_short, sent_in-exchanged}
 use Rattle.def_script_meaning.proofs.Sent.{sent_in-append, sent_in-bare, sent_in-turned}
 
@@ -25,10 +30,14 @@ module _ (f : KeyedFn) (key : List ℕ) (run : Run) (low high number : ℕ) (lin
   abbrev own : List FrameText
   own = frames_under f key (Some run)
 
+  -- before any frame but Hello this server had replied that it expects the update of this number
+  abbrev HasReplied : (next : ℕ) → List Event → Type 0
+  HasReplied next events = 1 < length (sent_in events) → map bare (take 2 events) ≡ map as_event (greeting next)
+
   -- a run that took no record and sent the first of these
-  none_taken : end.key ≡ Some key → end.history ≡ Some run → end.outside.kept ≡ now.kept → (next : ℕ) (events : List Event) → Adds now.told end.outside.told events
-      → (count : ℕ) → sent_in events ≡ map frame_bytes (take count (Hello ∷ drop next own)) → IsRecordedBehind f key run now end
-  none_taken same_key history unkept next events adds count sent = record {
+  none_taken : end.key ≡ Some key → end.history ≡ Some run → end.outside.kept ≡ now.kept → (next : ℕ) → next ≤ length own → (events : List Event) → Adds now.told end.outside.told events
+      → HasReplied next events → (count : ℕ) → sent_in events ≡ map frame_bytes (take count (Hello ∷ drop next own)) → IsRecordedBehind f key run now end
+  none_taken same_key history unkept next within events adds replied count sent = record {
     same_key = same_key;
     held = Some run;
     since = IsFirstOf-same (Some run);
@@ -40,8 +49,10 @@ module _ (f : KeyedFn) (key : List ℕ) (run : Run) (low high number : ℕ) (lin
     kept = inl (unkept ∙ Keeps-nothing now.kept);
     most = omega arith;
     next = next;
+    within = within;
     events = events;
     adds = adds;
+    replied = replied;
     count = count;
     sent = sent;
     whole = λ disk memory clash. sym history;
@@ -51,13 +62,18 @@ module _ (f : KeyedFn) (key : List ℕ) (run : Run) (low high number : ℕ) (lin
   away a =
       let turned = sent_in-turned low high a.away.events a.cause a.away.turned in
       let more = front_more turned.0 (Hello ∷ []) (drop 0 own) in
-      none_taken a.same_key a.history a.unkept 0 a.away.events a.away.adds more.0 (turned.1 ∙ ap (map frame_bytes) (sym more.1))
+      let alone : length (sent_in a.away.events) ≤ 1 =
+      omega (arith, ap length turned.1, length-map (take turned.0 (Hello ∷ [])) frame_bytes, length-take turned.0 (Hello ∷ [])) in
+      none_taken a.same_key a.history a.unkept 0 (omega arith) a.away.events a.away.adds (λ more. absurd (omega (arith, more, alone))) more.0 (turned.1 ∙ ap (map frame_bytes) (sym more.1))
 
-  -- Behind the greeting.
+  -- After the greeting, with a server that expects no number after those of the history's frames.
 
-  module _ (greeted : Outside) (g : IsGreeted low high now greeted) where
+  module _ (few : high ≤ length own) (greeted : Outside) (g : IsGreeted low high now greeted) where
     abbrev next : ℕ
     next = g.greets.next
+
+    abbrev within : next ≤ length own
+    within = omega (arith, few, g.greets.most)
 
     abbrev left : List FrameText
     left = lacking f key run next
@@ -68,20 +84,30 @@ module _ (f : KeyedFn) (key : List ℕ) (run : Run) (low high number : ℕ) (lin
         sent_in-append g.greets.events events
         ∙ (λ i. (sym (sent_in-bare g.greets.events) ∙ ap sent_in g.greets.each) i ++ sent i)
 
+    replied : (events : List Event) → HasReplied next (g.greets.events ++ events)
+    replied events more = ap (map bare) (both g.greets.events g.greets.each) ∙ g.greets.each
+      where
+        both : (first : List Event) → map bare first ≡ map as_event (greeting next) → take 2 (first ++ events) ≡ first
+        both [] e = absurd (cc)
+        both (x ∷ []) e = absurd (cc)
+        both (x ∷ y ∷ []) e = refl
+        both (x ∷ y ∷ z ∷ first) e = absurd (cc)
+
     joined : (events : List Event) → Adds greeted.told end.outside.told events → Adds now.told end.outside.told (g.greets.events ++ events)
     joined events adds = Adds-joined now.told greeted.told end.outside.told g.greets.events events g.greets.adds adds
 
     -- so many of the frames that the server lacks
     lacking_sent : end.key ≡ Some key → end.history ≡ Some run → end.outside.kept ≡ now.kept → (events : List Event) → Adds greeted.told end.outside.told events
         → (count : ℕ) → sent_in events ≡ map frame_bytes (take count left) → IsRecordedBehind f key run now end
-    lacking_sent same_key history unkept events adds count sent = none_taken same_key history unkept next (g.greets.events ++ events) (joined events adds) (suc count) (behind events (take count left) sent)
+    lacking_sent same_key history unkept events adds count sent = none_taken same_key history unkept next within (g.greets.events ++ events) (joined events adds) (replied events) (suc count) (behind events (take count left) sent)
 
     short : StopsShort f left key run greeted end → IsRecordedBehind f key run now end
     short s = elim s.short [
       | inl (events, adds, cut) ↦
           let sent = sent_in-cut_short left events s.cause cut in
           lacking_sent s.same_key s.history (s.unkept ∙ g.unkept) events adds sent.0 sent.1
-      | inr (same, why, free) ↦ lacking_sent s.same_key s.history (s.unkept ∙ g.unkept) [] (same ∙ Adds-nothing greeted.told) 0 refl
+      | inr (inl unsent) ↦ lacking_sent s.same_key s.history (s.unkept ∙ g.unkept) [] (unsent.0 ∙ Adds-nothing greeted.told) 0 refl
+      | inr (inr (same, why, free)) ↦ lacking_sent s.same_key s.history (s.unkept ∙ g.unkept) [] (same ∙ Adds-nothing greeted.told) 0 refl
     ]
 
     -- all of them
@@ -94,12 +120,12 @@ module _ (f : KeyedFn) (key : List ℕ) (run : Run) (low high number : ℕ) (lin
         (whole_sent greeted.told end.outside.told u.sent ∙ ap (map frame_bytes) (sym (take-length left)))
 
     -- and the lines behind
-    module _ (few : high ≤ length own) (later : Outside) (caught : HasCaughtUp left greeted later) (runs : Runs f (at_run key [] run) number lines false later end) where
+    module _ (later : Outside) (caught : HasCaughtUp left greeted later) (runs : Runs f (at_run key [] run) number lines false later end) where
       abbrev w : KeptSince f key (Some run) later end
       w = kept_since f (at_run key [] run) number lines false later end runs
 
       frames_is : drop next (frames_under f key w.held) ≡ left ++ w.more
-      frames_is = ap (drop next) w.frames ∙ drop-append-le next own w.more (omega (arith, few, g.greets.most))
+      frames_is = ap (drop next) w.frames ∙ drop-append-le next own w.more within
 
       went_on : IsRecordedBehind f key run now end
       went_on = record {
@@ -114,7 +140,9 @@ module _ (f : KeyedFn) (key : List ℕ) (run : Run) (low high number : ℕ) (lin
         kept = subst (λ kept. KeepsFirst w.all w.records (status_of end.stop) kept end.outside.kept) (caught.unkept ∙ g.unkept) w.kept;
         most = omega (arith, w.most, ap length w.are, ap length w.all_are, length-append (records_in f key (Some run)) w.records, length-append (records_in f key (Some run)) w.all);
         next = next;
+        within = within;
         events = g.greets.events ++ (caught.sent.events ++ w.events);
+        replied = replied (caught.sent.events ++ w.events);
         adds = joined (caught.sent.events ++ w.events) (Adds-joined greeted.told later.told end.outside.told caught.sent.events w.events caught.sent.adds w.adds);
         count = suc (length left + w.count);
         sent =
@@ -127,9 +155,18 @@ module _ (f : KeyedFn) (key : List ℕ) (run : Run) (low high number : ℕ) (lin
         whole = w.whole;
       }
 
-  -- of a server that expects no number behind the history's frames
   pub recorded_behind : high ≤ length own → Rejoins f low high key run number lines now end → IsRecordedBehind f key run now end
   recorded_behind few (inl a) = away a
-  recorded_behind few (inr (greeted, g, inl s)) = short greeted g s
-  recorded_behind few (inr (greeted, g, inr (inl u))) = untold greeted g u
-  recorded_behind few (inr (greeted, g, inr (inr (later, caught, runs)))) = went_on greeted g few later caught runs
+  recorded_behind few (inr (greeted, g, inl s)) = short few greeted g s
+  recorded_behind few (inr (greeted, g, inr (inl u))) = untold few greeted g u
+  recorded_behind few (inr (greeted, g, inr (inr (later, caught, runs)))) = went_on few greeted g later caught runs
+
+  -- the history up to its stop keeps all limits
+  pub rejoined_is_kept : (n : ℕ) → AllByRecursion IsWithinItem lines → IsKeptAt n (at_run key [] run) → Rejoins f low high key run number lines now end → IsKept end.history
+  rejoined_is_kept n within_all kept (inl a) = subst IsKept (sym a.history) kept.history
+  rejoined_is_kept n within_all kept (inr (greeted, g, inl s)) = subst IsKept (sym s.history) kept.history
+  rejoined_is_kept n within_all kept (inr (greeted, g, inr (inl u))) = subst IsKept (sym u.history) kept.history
+  rejoined_is_kept n within_all kept (inr (greeted, g, inr (inr (later, caught, runs)))) =
+      IsKept-first end.history (follow (at_run key [] run) number lines false).history
+      (went f n (at_run key [] run) number lines false later end within_all kept runs).history
+      (kept_follow n (at_run key [] run) number lines false within_all kept).0

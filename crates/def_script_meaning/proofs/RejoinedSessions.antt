@@ -40,11 +40,12 @@ use Rattle.sse_script.specs.Texts.{text_of}
 use Rattle.sse_outside.specs.Kept.{with_records}
 use Rattle.def_script_meaning.specs.Carries.{Keeps, Outside, text_with, with_answers}
 use Rattle.def_script_meaning.specs.Continues.{at_run, frames_since}
-use Rattle.def_script_meaning.specs.Exchange.{Adds, as_event}
+use Rattle.def_script_meaning.specs.Exchange.{Adds, as_event, bare}
 use Rattle.def_script_meaning.specs.Goes.{frames_in_hand, Passes, IsOpened, HasPassed}
 use Rattle.def_script_meaning.specs.Headline.{IsOverHonest, IsUndisturbed}
 use Rattle.def_script_meaning.specs.Lines.{Line}
 use Rattle.def_script_meaning.specs.Meaning.{Meaning, follow}
+use Rattle.def_script_meaning.specs.Outcome.{said}
 use Rattle.def_script_meaning.specs.Recorded.{records_in}
 use Rattle.def_script_meaning.specs.Rejoins.{frames_under, HasTaken, lacking, StopsShort, StopsUntold, HasCaughtUp, Rejoins, Rejoined}
 use Rattle.def_script_meaning.specs.Runs.{Ended, Ends, IsGreeted, Runs}
@@ -56,7 +57,8 @@ use Rattle.def_script_meaning.proofs.GoneAsMeant.{Adds-joined, Adds-nothing, Are
 use Rattle.def_script_meaning.proofs.Headline.{AreAnswered, history_is_answered, session_left, session_outside, session_whole, opened_over, same_events, with_answers-finds, few, IsFree-first}
 use Rattle.def_script_meaning.proofs.Kept.{IsWithinItem, IsKeptAt, kept_follow}
 use Rattle.def_script_meaning.proofs.Recorded.{KeepsFirst-all, records-longer, kept_since}
-use Rattle.def_script_meaning.proofs.RunGoes.{Passes-cut, clash_status, cut_status, turned_status, Went, went}
+use Rattle.def_script_meaning.proofs.RunGoes.{Passes-cut, clash_status, cut_status, turned_status, unsent_left, Went, went}
+use Rattle.def_script_meaning.proofs.SimulatedAfter.{simulated_after}
 
 -- After some frames of which none is a search.
 
@@ -206,7 +208,21 @@ module _ (f : KeyedFn) (laws : IsKeyedFn f) (key : List ℕ) (run : Run) (update
       short : StopsShort f lacked key run greeted end → GoesRejoining
       short s = elim s.short [
         | inl cut ↦ stopped_open cut.2.answers s.same_key s.history (Passes-cut f lacked greeted.told end cut.0 s.cause s.stops cut.1 (few_lacking g.greets.next g.greets.least s.history) cut.2)
-        | inr clash ↦
+        | inr (inl unsent) ↦
+            let memory : end.stop ≡ At NoMemory = s.stops ∙ ap (λ c. At c) unsent.1 in
+            stopped_open [] s.same_key s.history (record {
+              events = [];
+              adds = unsent.0 ∙ Adds-nothing greeted.told;
+              n = 0;
+              before = [];
+              cut = [];
+              parts = refl;
+              exchanged = AreExchanged-none;
+              most = let few = few_lacking g.greets.next g.greets.least s.history in omega (arith, few);
+              left = unsent_left f end lacked memory;
+              whole = λ low_status. absurd (omega (arith, low_status, ap status_of memory));
+            })
+        | inr (inr clash) ↦
             let status : status_of end.stop ≡ 8 = ap status_of s.stops ∙ clash_status (Some clash.1.0) s.cause (ap (λ c. Some c) (sym clash.1.1)) in
             stopped_open [] s.same_key s.history (record {
               events = [];
@@ -355,7 +371,8 @@ module _ (f : KeyedFn) (laws : IsKeyedFn f) (key : List ℕ) (run : Run) (update
           short_status : (frames : List FrameText) (greeted : Outside) (s : StopsShort f frames key run greeted end) → 5 ≤ cause_status s.cause
           short_status frames greeted s = elim s.short [
             | inl cut ↦ cut_status (drop cut.2.n frames) cut.2.cut s.cause cut.2.one_more
-            | inr clash ↦ omega (arith, clash_status (Some clash.1.0) s.cause (ap (λ c. Some c) (sym clash.1.1)))
+            | inr (inl unsent) ↦ omega (arith, ap cause_status unsent.1)
+            | inr (inr clash) ↦ omega (arith, clash_status (Some clash.1.0) s.cause (ap (λ c. Some c) (sym clash.1.1)))
           ]
 
           untold_status : (frames : List FrameText) (greeted : Outside) → StopsUntold frames key run greeted end → 4 ≤ status_of end.stop
@@ -378,9 +395,11 @@ module _ (f : KeyedFn) (laws : IsKeyedFn f) (key : List ℕ) (run : Run) (update
               ap (to_send cs) had.number ∙ sym (frames_behind next cs had.within) ∙ ap (λ h. drop next (frames_under f key h)) (sym history) in
               -- the answers, each in order, are those of the lines
               let answers : map in_order (shown_behind run cs) ≡ finds m.shown = answers_found cs history in
-              let own_text : text_with v.answers m.shown ≡ flat_map text_of m.shown =
+              let own_text : text_with v.answers m.shown ≡ flat_map text_of (map said m.shown) =
               ap (λ found. flat_map text_of (with_answers found m.shown)) (ap (map in_order) passed.0 ∙ answers) ∙ ap (flat_map text_of) (with_answers-finds m.shown) in
               let line = text_of (Resumed (length (lacking f key run next))) in
+              let exchanged : map bare (o.greets.events ++ o.passes.events) ≡ map as_event (greeting next ++ exchange (shown_behind run cs) (drop next (frames_under f key m.history))) =
+              passed.2 ∙ (λ i. map as_event (greeting (had.number i) ++ exchange (shown_behind run cs) (behind i))) in
               record {
                 status_is = ap status_of well.0;
                 q = ends.q;
@@ -389,15 +408,18 @@ module _ (f : KeyedFn) (laws : IsKeyedFn f) (key : List ℕ) (run : Run) (update
                     ∙ (λ i. append_known (well.2 i) (take ends.q (stop_text (well.0 i))))
                     ∙ append_known-twice later.written (text_with v.answers m.shown) (take ends.q (stop_text m.end))
                     ∙ ap (λ text. append_known later.written (text ++ take ends.q (stop_text m.end))) own_text
-                    ∙ ap (λ written. append_known written (flat_map text_of m.shown ++ take ends.q (stop_text m.end)))
+                    ∙ ap (λ written. append_known written (flat_map text_of (map said m.shown) ++ take ends.q (stop_text m.end)))
                     (caught.printed ∙ (λ i. append_known (g.unprinted i) (text_of (Resumed (length (lacking f key run (number i)))))))
-                    ∙ append_known-twice now.written line (flat_map text_of m.shown ++ take ends.q (stop_text m.end))
-                    ∙ ap (append_known now.written) (sym (append_assoc line (flat_map text_of m.shown) (take ends.q (stop_text m.end))));
+                    ∙ append_known-twice now.written line (flat_map text_of (map said m.shown) ++ take ends.q (stop_text m.end))
+                    ∙ ap (append_known now.written) (sym (append_assoc line (flat_map text_of (map said m.shown)) (take ends.q (stop_text m.end))));
                 more = cs;
                 history = history;
                 events = o.greets.events ++ o.passes.events;
                 adds = subst (λ told. Adds now.told told (o.greets.events ++ o.passes.events)) (sym ends.told) (Adds-joined now.told o.greeted end.outside.told o.greets.events o.passes.events o.greets.adds o.passes.adds);
-                passed = passed.2 ∙ (λ i. map as_event (greeting (had.number i) ++ exchange (shown_behind run cs) (behind i)));
+                passed = exchanged;
+                simulated =
+                    simulated_after f key run cs next (o.greets.events ++ o.passes.events) (subst IsKept history kept) (omega (arith, had.within, length-frames_under f key run updates))
+                    (exchanged ∙ ap (λ h. map as_event (greeting next ++ exchange (shown_behind run cs) (drop next (frames_under f key h)))) history);
                 kept = ends.kept ∙ kept_on greeted g later caught runs low_status;
                 stored = passed.1 ∙ ap (λ fs. (steps f before fs).0) behind ∙ stored_whole cs history;
               }

@@ -1,5 +1,5 @@
 -- What short scripts print and how they end, by their meaning; each line was computed apart from these definitions.
-use Rattle.std.proofs.Common.{◌≡◌, ℕ, List, [], ◌∷◌, ◌++◌, flat_map, refl}
+use Rattle.std.proofs.Common.{◌≡◌, ℕ, List, [], ◌∷◌, ◌++◌, flat_map, map, refl}
 use Rattle.std.specs.Prelude.{codes, replicate}
 use Rattle.std.specs.Fmt.{digits}
 use Rattle.std.specs.Str.{is_utf8, chars}
@@ -10,6 +10,7 @@ use Rattle.sse_script.specs.Texts.{text_of}
 use Rattle.def_script_meaning.specs.Carries.{with_answers}
 use Rattle.def_script_meaning.specs.Lines.{lines_in}
 use Rattle.def_script_meaning.specs.Meaning.{Meaning, meant}
+use Rattle.def_script_meaning.specs.Outcome.{Finds, said}
 use Rattle.def_script_meaning.specs.Stops.{stop_text, status_of}
 use lib.Utf8.{encode}
 
@@ -22,7 +23,7 @@ of_lines lines = meant (lines_in lines)
 
 -- all that is printed for these lines after the key line
 abbrev printed : List (List ℕ) → List ℕ
-printed lines = flat_map text_of (of_lines (key_zero ∷ lines)).shown ++ stop_text (of_lines (key_zero ∷ lines)).end
+printed lines = flat_map text_of (map said (of_lines (key_zero ∷ lines)).shown) ++ stop_text (of_lines (key_zero ∷ lines)).end
 
 found_in_order :
     printed (codes "doc 9 a b" ∷ codes "doc 3 a" ∷ codes "setup 4 4" ∷ codes "find a" ∷ codes "find z" ∷ [])
@@ -168,5 +169,5 @@ unfolding hex_on_literals utf8_valid_len is_utf8 chars encode
 status_of_bad_line = refl
 
 -- other answers than the right ones stand in their places
-other_answers : with_answers ((77 ∷ []) ∷ []) (Found (3 ∷ 9 ∷ []) ∷ Found (4 ∷ []) ∷ []) ≡ Found (77 ∷ []) ∷ Found [] ∷ []
+other_answers : with_answers ((77 ∷ []) ∷ []) (Finds (3 ∷ 9 ∷ []) ∷ Finds (4 ∷ []) ∷ []) ≡ Found (77 ∷ []) ∷ Found [] ∷ []
 other_answers = refl

@@ -21,7 +21,7 @@ use Rattle.sse_script.specs.Stops.{cause_status}
 use Rattle.sse_script.specs.TextLines.{lines_of}
 use Rattle.def_script_meaning.specs.Carries.{Outside, keys_at, frames_by, collision_cause, clash_in_hand, text_with, Carries, FindsClash, LacksMemory, IsUnkept, IsCutShort, IsUnprinted}
 use Rattle.def_script_meaning.specs.Exchange.{Told, Adds, AreCut, IsCut}
-use Rattle.def_script_meaning.specs.Goes.{frames_in_hand, Passes, Prints, GoesFirst}
+use Rattle.def_script_meaning.specs.Goes.{frames_in_hand, IsLeft, Passes, Prints, GoesFirst}
 use Rattle.def_script_meaning.specs.HelloExchange.{IsTurned}
 use Rattle.def_script_meaning.specs.Lines.{Line, Empty, Key, Command, Request, script_lines}
 use Rattle.def_script_meaning.specs.Meaning.{Meaning, showing, follow, meant_from, meaning}
@@ -43,7 +43,7 @@ clash_status (Some (Places first second)) cause e = ap cause_status (let same : 
 clash_status (Some (Numbers first second)) cause e = ap cause_status (let same : cause ≡ collision_cause (Numbers first second) = cc in same)
 
 pub cut_status : (left : List FrameText) (cut : List Event) (cause : Cause) → IsCut left cut cause → 5 ≤ cause_status cause
-cut_status [] cut cause is = omega (arith, ap cause_status is.1)
+cut_status [] cut cause is = absurd is
 cut_status (frame ∷ left) [] cause (inl link) = omega (arith, ap cause_status link)
 cut_status (frame ∷ left) [] cause (inr memory) = omega (arith, ap cause_status memory)
 cut_status (frame ∷ left) (Sent bytes mark ∷ cut) cause is = shows_status (asked frame) is.1.0 cause is.1.2
@@ -57,6 +57,11 @@ turned_status low high (Sent bytes mark ∷ Received reply ∷ []) cause is = an
 turned_status low high (Received bytes ∷ events) cause is = absurd is
 turned_status low high (Sent bytes mark ∷ Sent more other ∷ events) cause is = absurd is
 turned_status low high (Sent bytes mark ∷ Received reply ∷ event ∷ events) cause is = absurd is
+
+-- why nothing was sent of frames that are left, out of memory: unless none is left
+pub unsent_left : (f : KeyedFn) (end : Ended) (frames : List FrameText) → end.stop ≡ At NoMemory → IsLeft f end frames []
+unsent_left f end [] memory = inl (refl, refl, omega (arith, ap status_of memory))
+unsent_left f end (frame ∷ frames) memory = inr (inl (NoMemory, memory, inr refl))
 
 -- a cut exchange is what passed of these frames
 pub Passes-cut : (f : KeyedFn) (frames : List FrameText) (now : Told) (end : Ended) (events : List Event) (cause : Cause) → end.stop ≡ At cause → Adds now end.outside.told events → length frames ≤ frames_in_hand end.history → (c : AreCut frames events cause)
@@ -179,7 +184,7 @@ module _ (f : KeyedFn) where
               exchanged = AreExchanged-none;
               left = elim which [
                 | inl disk ↦ inr (inr (inl (refl, stops ∙ ap (λ c. At c) disk)))
-                | inr memory ↦ inr (inl (NoMemory, stops ∙ ap (λ c. At c) memory, nothing_of (frames_by f place result)))
+                | inr memory ↦ unsent_left f end (frames_by f place result) (stops ∙ ap (λ c. At c) memory)
               ];
               most = omega (arith, few_in_hand);
               whole = λ few. absurd (omega (arith, few, status));
@@ -187,10 +192,6 @@ module _ (f : KeyedFn) where
             prints = Prints-none whole [] now.written end.outside.written unprinted;
             ended_well = λ few. absurd (omega (arith, few, status));
           }
-        where
-          nothing_of : (frames : List FrameText) → IsCut frames [] NoMemory
-          nothing_of [] = (refl, refl)
-          nothing_of (frame ∷ frames) = inr refl
 
       went-memory : LacksMemory now end.outside end.stop → Went f place.key place.history whole now end
       went-memory c = went-unsent NoMemory c.stops (inr refl) (ap (λ (o : Outside). o.told) c.nothing) (ap (λ (o : Outside). o.written) c.nothing)
@@ -240,11 +241,11 @@ module _ (f : KeyedFn) where
 
       went-stopped : Went f place.key place.history whole now end
       went-stopped = elim s.within [
-        | inl c ↦ went-clash c
-        | inr (inl c) ↦ went-memory c
-        | inr (inr (inl u)) ↦ went-unkept u
-        | inr (inr (inr (inl c))) ↦ went-cut c
-        | inr (inr (inr (inr u))) ↦ went-unprinted u
+        | inl (inl c) ↦ went-clash c
+        | inl (inr (inl c)) ↦ went-memory c
+        | inl (inr (inr (inl u))) ↦ went-unkept u
+        | inl (inr (inr (inr c))) ↦ went-cut c
+        | inr u ↦ went-unprinted u
       ]
 
     -- A line that is carried out.

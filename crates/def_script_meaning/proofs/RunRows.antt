@@ -32,7 +32,6 @@ use Rattle.sse_model.proofs.HistoryLaws.{frames_sent-in_grammar}
 use Rattle.sse_model.specs.Drawn.{IsCollisionFree}
 use Rattle.sse_model.specs.Histories.{table_of}
 use Rattle.sse_script.specs.Shown.{DiskFault, LinkFault}
-use Rattle.sse_script.specs.Shown.{Found}
 use Rattle.script_documents.specs.LineDocument.{document}
 use Rattle.def_script_meaning.proofs.Headline.{headline}
 use Rattle.def_script_meaning.proofs.Within.{meaning_is_kept}
@@ -45,7 +44,7 @@ use Rattle.def_script_meaning.specs.HelloExchange.{IsTurned}
 use Rattle.def_script_meaning.specs.Headline.{IsOverHonest, IsUndisturbed, Headline}
 use Rattle.def_script_meaning.specs.Lines.{script_lines}
 use Rattle.def_script_meaning.specs.Meaning.{meaning}
-use Rattle.def_script_meaning.specs.Outcome.{Place, opened, Collects, SetsUp, Does}
+use Rattle.def_script_meaning.specs.Outcome.{Place, Finds, opened, Collects, SetsUp, Does}
 use Rattle.def_script_meaning.specs.Runs.{Ended, ended, Opens, IsGreeted}
 use Rattle.def_script_meaning.specs.Stops.{AtEnd, At}
 use lib.Utf8.{encode}
@@ -97,7 +96,7 @@ abbrev pub greeting : List Event
 greeting = sent Hello ∷ received (Next 0) ∷ []
 
 abbrev asking : List FrameText
-asking = frames_by toy searching (Does (Search a ∷ []) (Found (1 ∷ [])))
+asking = frames_by toy searching (Does (Search a ∷ []) (Finds (1 ∷ [])))
 
 abbrev answered : List Event
 answered = map sent asking ++ received (Page true (1 ∷ [])) ∷ []
@@ -147,7 +146,7 @@ sets_up_row = record {
   printed = refl;
 }
 
-finds_row : Carries toy searching (Does (Search a ∷ []) (Found (1 ∷ []))) (seen (greeting ++ acknowledged 0 setting_up) set_up_records set_up_text) (seen passing set_up_records (set_up_text ++ found_text))
+finds_row : Carries toy searching (Does (Search a ∷ []) (Finds (1 ∷ []))) (seen (greeting ++ acknowledged 0 setting_up) set_up_records set_up_text) (seen passing set_up_records (set_up_text ++ found_text))
 unfolding digits
 finds_row = record {
   kept = refl;
@@ -179,7 +178,7 @@ opens_row = inr (inr (
 ))
 
 -- over a link that lies, what was received is printed
-lies_row : Carries toy searching (Does (Search a ∷ []) (Found (1 ∷ []))) (seen [] [] []) (seen (map sent asking ++ received (Page true (77 ∷ [])) ∷ []) [] (codes "found 1: 77\n"))
+lies_row : Carries toy searching (Does (Search a ∷ []) (Finds (1 ∷ []))) (seen [] [] []) (seen (map sent asking ++ received (Page true (77 ∷ [])) ∷ []) [] (codes "found 1: 77\n"))
 unfolding digits
 lies_row = record {
   kept = refl;
@@ -283,7 +282,7 @@ in_setup events cut = inr (inr (
   inr (inr (
     seen greeting [] [],
     collects_row (seen greeting [] []),
-    inr (inl (record { within = inr (inr (inr (inl (record { cause = LinkFault; stops = refl; kept = refl; events = events; adds = refl; cut = cut; no_clash = λ some. refl; unprinted = refl })))); key = refl; history = refl })),
+    inr (inl (record { within = inl (inr (inr (inr (record { cause = LinkFault; stops = refl; kept = refl; events = events; adds = refl; cut = cut; no_clash = λ some. refl; unprinted = refl })))); key = refl; history = refl })),
   )),
 ))
 
@@ -298,7 +297,7 @@ in_search events cut = inr (inr (
     inr (inr (
       seen (greeting ++ acknowledged 0 setting_up) set_up_records set_up_text,
       sets_up_row,
-      inr (inl (record { within = inr (inr (inr (inl (record { cause = LinkFault; stops = refl; kept = refl; events = events; adds = refl; cut = cut; no_clash = λ some. refl; unprinted = refl })))); key = refl; history = refl })),
+      inr (inl (record { within = inl (inr (inr (inr (record { cause = LinkFault; stops = refl; kept = refl; events = events; adds = refl; cut = cut; no_clash = λ some. refl; unprinted = refl })))); key = refl; history = refl })),
     )),
   )),
 ))
@@ -317,14 +316,14 @@ refused_record refused kept = inr (inr (
     seen greeting [] [],
     collects_row (seen greeting [] []),
     inr (inl (record {
-      within = inr (inr (inl (record {
+      within = inl (inr (inr (inl (record {
         stops = inl refl;
         some = λ e. absurd (cc);
         no_clash = refl;
         unsent = refl;
         kept = elim kept [ inl none ↦ inl (ap (λ r. record { records = Some []; refused = r }) none) | inr all ↦ inr (ap (λ r. record { records = Some []; refused = r }) all) ];
         unprinted = refl;
-      })));
+      }))));
       key = refl;
       history = refl;
     })),

@@ -47,7 +47,7 @@ sent_in-exchange answers (frame ∷ frames) =
     ap (λ rest. frame_bytes frame ∷ rest) (sent_in-replies (expected (first_answer answers) (asked frame)) _ ∙ sent_in-exchange (answers_behind (asked frame) answers) frames)
 
 pub sent_in-cut : (left : List FrameText) (cut : List Event) (cause : Cause) → IsCut left cut cause → (k : ℕ) × (sent_in cut ≡ map frame_bytes (take k left))
-sent_in-cut [] cut cause is = (0, ap sent_in is.0)
+sent_in-cut [] cut cause is = absurd is
 sent_in-cut (frame ∷ left) [] cause is = (0, refl)
 sent_in-cut (frame ∷ left) (Sent bytes mark ∷ cut) cause is = (1, λ i. is.0 i ∷ (ap sent_in is.1.1 ∙ sent_in-received is.1.0) i)
 sent_in-cut (frame ∷ left) (Received bytes ∷ cut) cause is = absurd is

@@ -25,7 +25,7 @@ use Rattle.sse_model.proofs.HistoryLaws.{frames_sent-in_grammar}
 use Rattle.sse_model.specs.Drawn.{IsCollisionFree}
 use Rattle.sse_model.specs.Histories.{table_of}
 use Rattle.sse_script.specs.Shown.{LinkFault, LabelClash}
-use Rattle.sse_script.specs.Shown.{Added, Deleted, Found}
+use Rattle.sse_script.specs.Shown.{Added, Deleted}
 use Rattle.script_documents.specs.LineDocument.{document}
 use Rattle.def_script_meaning.proofs.GoneAsMeant.{AreExchanged-none, append_known-nothing}
 use Rattle.def_script_meaning.proofs.Headline.{headline}
@@ -36,7 +36,7 @@ use Rattle.def_script_meaning.specs.Exchange.{AreCut, IsAwaiting}
 use Rattle.def_script_meaning.specs.Headline.{IsOverHonest, Headline}
 use Rattle.def_script_meaning.specs.Lines.{script_lines}
 use Rattle.def_script_meaning.specs.Meaning.{meaning}
-use Rattle.def_script_meaning.specs.Outcome.{Place, Outcome, Does}
+use Rattle.def_script_meaning.specs.Outcome.{Place, Says, Finds, Outcome, Does}
 use Rattle.def_script_meaning.specs.Runs.{Ended, ended, Opens}
 use Rattle.def_script_meaning.specs.Stops.{AtEnd, At}
 use lib.Utf8.{encode}
@@ -60,16 +60,16 @@ behind n = record place { history = Some (record { setup = setup; later = take n
 -- What each comes to, and its frames.
 
 abbrev adds : Outcome
-adds = Does (Add (document 5 (a ∷ [])) ∷ []) (Added 5)
+adds = Does (Add (document 5 (a ∷ [])) ∷ []) (Says (Added 5))
 
 abbrev deletes : Outcome
-deletes = Does (Delete 5 ∷ []) (Deleted 5)
+deletes = Does (Delete 5 ∷ []) (Says (Deleted 5))
 
 abbrev adds_again : Outcome
-adds_again = Does (Add (document 5 (a ∷ c ∷ [])) ∷ []) (Added 5)
+adds_again = Does (Add (document 5 (a ∷ c ∷ [])) ∷ []) (Says (Added 5))
 
 abbrev finds : Outcome
-finds = Does (Search a ∷ []) (Found (1 ∷ 5 ∷ []))
+finds = Does (Search a ∷ []) (Finds (1 ∷ 5 ∷ []))
 
 abbrev adding : List FrameText
 adding = frames_by toy (behind 0) adds
@@ -259,7 +259,7 @@ after_an_addition = inr (inr (
       seen set_up set_up_records set_up_text,
       sets_up_row,
       inr (inl (record {
-        within = inr (inr (inr (inl (record { cause = LinkFault; stops = refl; kept = refl; events = take 1 (acknowledged 3 adding); adds = refl; cut = cut_frame _ [] 3 refl; no_clash = λ some. refl; unprinted = refl }))));
+        within = inl (inr (inr (inr (record { cause = LinkFault; stops = refl; kept = refl; events = take 1 (acknowledged 3 adding); adds = refl; cut = cut_frame _ [] 3 refl; no_clash = λ some. refl; unprinted = refl }))));
         key = refl;
         history = refl;
       })),
@@ -282,7 +282,7 @@ after_a_deletion = inr (inr (
         seen added added_records added_text,
         adds_row,
         inr (inl (record {
-          within = inr (inr (inr (inl (record { cause = LinkFault; stops = refl; kept = refl; events = take 1 (acknowledged 4 deleting); adds = refl; cut = cut_frame _ [] 4 refl; no_clash = λ some. refl; unprinted = refl }))));
+          within = inl (inr (inr (inr (record { cause = LinkFault; stops = refl; kept = refl; events = take 1 (acknowledged 4 deleting); adds = refl; cut = cut_frame _ [] 4 refl; no_clash = λ some. refl; unprinted = refl }))));
           key = refl;
           history = refl;
         })),
@@ -310,7 +310,7 @@ collides_row = inr (inr (
     inr (inr (
       seen set_up set_up_records set_up_text,
       sets_up_row,
-      inr (inl (record { within = inl (record { cause = LabelClash 0 1; found = refl; stops = refl; nothing = refl }); key = refl; history = refl })),
+      inr (inl (record { within = inl (inl (record { cause = LabelClash 0 1; found = refl; stops = refl; nothing = refl })); key = refl; history = refl })),
     )),
   )),
 ))

@@ -18,7 +18,7 @@ use Rattle.sse_outside.specs.Fronts.{TookFront}
 use Rattle.sse_outside.specs.Kept.{Kept, with_records, with_refused}
 use Rattle.sse_script.specs.Texts.{text_of}
 use Rattle.def_script_meaning.specs.Exchange.{Told, Adds, AreExchanged, AreCut}
-use Rattle.def_script_meaning.specs.Outcome.{Place, Outcome, Collects, Refuses, SetsUp, Does, shown_by}
+use Rattle.def_script_meaning.specs.Outcome.{Place, Printed, Says, Finds, Outcome, Collects, Refuses, SetsUp, Does, shown_by}
 use Rattle.def_script_meaning.specs.Stops.{Stop, SinkFault, At}
 
 -- these records were taken behind those that were kept before
@@ -66,13 +66,13 @@ abbrev pub clash_in_hand : KeyedFn → Place → Outcome → Option Cause
 clash_in_hand f place result = option_map collision_cause (collision_by f place result)
 
 -- the printed lines where the searches have these answers
-abbrev pub with_answers : List (List ℕ) → List Shown → List Shown
+abbrev pub with_answers : List (List ℕ) → List Printed → List Shown
 with_answers answers [] = []
-with_answers answers (Found found ∷ shown) = Found (first_answer answers) ∷ with_answers (drop 1 answers) shown
-with_answers answers (line ∷ shown) = line ∷ with_answers answers shown
+with_answers answers (Says line ∷ shown) = line ∷ with_answers answers shown
+with_answers answers (Finds ids ∷ shown) = Found (first_answer answers) ∷ with_answers (drop 1 answers) shown
 
 -- their text, the identifiers of each answer rising
-abbrev pub text_with : List (List ℕ) → List Shown → List ℕ
+abbrev pub text_with : List (List ℕ) → List Printed → List ℕ
 text_with answers shown = flat_map text_of (with_answers (map in_order answers) shown)
 
 -- all frames of a line were exchanged, with these answers to its searches; none of the values compared in them are equal
@@ -133,6 +133,6 @@ pub record IsUnprinted (f : KeyedFn) (place : Place) (result : Outcome) (now end
   pub sent : IsSent f place result now.told end.told answers
   pub printed : TookFront now.written end.written (text_with answers (shown_by result))
 
+-- it stops a run before its printing: so not all its frames were exchanged, if they are an update's
 abbrev pub StopsIn : KeyedFn → Place → Outcome → Outside → Outside → Stop → Type 0
-StopsIn f place result now end stop =
-    FindsClash f place result now end stop ⊎ LacksMemory now end stop ⊎ IsUnkept f place result now end stop ⊎ IsCutShort f place result now end stop ⊎ IsUnprinted f place result now end stop
+StopsIn f place result now end stop = FindsClash f place result now end stop ⊎ LacksMemory now end stop ⊎ IsUnkept f place result now end stop ⊎ IsCutShort f place result now end stop

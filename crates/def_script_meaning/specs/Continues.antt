@@ -21,7 +21,7 @@ use Rattle.def_script_meaning.specs.Carries.{Keeps, Outside}
 use Rattle.def_script_meaning.specs.Exchange.{Adds, as_event, bare}
 use Rattle.def_script_meaning.specs.Lines.{Line}
 use Rattle.def_script_meaning.specs.Meaning.{Meaning}
-use Rattle.def_script_meaning.specs.Outcome.{Place}
+use Rattle.def_script_meaning.specs.Outcome.{Place, said}
 use Rattle.def_script_meaning.specs.Runs.{Ended, IsGreeted, IsTurnedAway, Runs}
 use Rattle.def_script_meaning.specs.Stops.{status_of, stop_text}
 
@@ -44,7 +44,7 @@ frames_since f key run more = frames_of_next f (keys_under key (Some run)) (Some
 pub record Continued (f : KeyedFn) (before : ServerState) (key : List ℕ) (run : Run) (m : Meaning) (now last : Outside) (status : ℕ) (behind : ServerState) : Type 0 where
   pub status_is : status ≡ status_of m.end
   pub q : ℕ
-  pub printed : last.written ≡ append_known now.written (flat_map text_of m.shown ++ take q (stop_text m.end))
+  pub printed : last.written ≡ append_known now.written (flat_map text_of (map said m.shown) ++ take q (stop_text m.end))
   pub more : List Command
   pub history : m.history ≡ longer more (Some run)
   pub events : List Event

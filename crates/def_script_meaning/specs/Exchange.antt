@@ -1,7 +1,7 @@
 -- The traffic over a link after the greeting, when frames have the replies that they must have, and when they don't.
 use Rattle.std.specs.Prelude.{◌≡◌, ◌≢◌, ◌⊎◌, ◌≤◌, ◌^◌, ℕ, List, [], ◌∷◌, ◌++◌, length, map, take, drop, All, Option, option_map}
 use Rattle.sse_frames.specs.Exchange as texts
-use Rattle.sse_frames.specs.Exchange.{Asked, asked, expected, exchange, searches}
+use Rattle.sse_frames.specs.Exchange.{Asked, ForAnswer, asked, expected, exchange, searches}
 use Rattle.sse_frames.specs.Frames.{FrameText, frame_bytes}
 use Rattle.sse_frames.specs.Replies as reply
 use Rattle.sse_frames.specs.Replies.{ReplyText, InReplies, IsIdentifier, reply_bytes}
@@ -75,10 +75,16 @@ pub record IsBadReply (asks : Asked) (replies : List (List ℕ)) (start : List �
   pub not_allowed : IsAllowed asks replies → ⊥
   pub no_notice : (notice : ReplyText) → InReplies notice → IsNotice asks notice → reply ≡ reply_bytes notice → ⊥
 
+-- the replies after which the client can run out of memory: those to a search, the last page too, since it lists the identifiers of each;
+-- and those to an update before its acknowledgement, which takes no memory
+abbrev pub IsOutOfMemory : Asked → List (List ℕ) → Type 0
+IsOutOfMemory ForAnswer replies = IsAllowed ForAnswer replies
+IsOutOfMemory asks replies = IsAwaiting asks replies
+
 -- the cause for which a run stops after these replies to a frame
 abbrev pub ShowsInReplies : Asked → List (List ℕ) → Cause → Type 0
 ShowsInReplies asks replies LinkFault = IsAwaiting asks replies ⊎ EndsWith asks replies (reply_bytes reply.StoreFault)
-ShowsInReplies asks replies NoMemory = IsAllowed asks replies ⊎ EndsWith asks replies (reply_bytes reply.NoMemory)
+ShowsInReplies asks replies NoMemory = IsOutOfMemory asks replies ⊎ EndsWith asks replies (reply_bytes reply.NoMemory)
 ShowsInReplies asks replies (Clash what place) = EndsWith asks replies (reply_bytes (reply.Clash what place))
 ShowsInReplies asks replies (BadReply start) = IsBadReply asks replies start
 ShowsInReplies _ _ _ = ⊥
@@ -90,12 +96,12 @@ IsPart frame (Sent bytes mark ∷ events) cause =
     (bytes ≡ frame_bytes frame) × ((replies : List (List ℕ)) × (events ≡ map Received replies) × ShowsInReplies (asked frame) replies cause)
 IsPart frame (Received bytes ∷ events) cause = ⊥
 
--- of the first of these frames at most a part was exchanged; where none is left, memory was wanting
+-- of the first of these frames, which there is, at most a part was exchanged
 abbrev pub IsCut : List FrameText → List Event → Cause → Type 0
-IsCut [] events cause = (events ≡ []) × (cause ≡ NoMemory)
+IsCut [] events cause = ⊥
 IsCut (frame ∷ frames) events cause = IsPart frame events cause
 
--- the first n of these frames were exchanged, and of the next at most a part, before a run stopped for this cause
+-- the first n of these frames, and not all, were exchanged, and of the next one at most a part, before a run stopped for this cause
 pub record AreCut (frames : List FrameText) (events : List Event) (cause : Cause) : Type 0 where
   pub n : ℕ
   pub answers : List (List ℕ)

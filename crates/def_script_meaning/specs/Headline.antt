@@ -13,6 +13,7 @@ use Rattle.sse_script.specs.Texts.{text_of}
 use Rattle.def_script_meaning.specs.Carries.{Keeps, Outside}
 use Rattle.def_script_meaning.specs.Exchange.{Told, Adds, as_event, bare, sent_in}
 use Rattle.def_script_meaning.specs.Meaning.{Meaning}
+use Rattle.def_script_meaning.specs.Outcome.{said}
 use Rattle.def_script_meaning.specs.Recorded.{records_with}
 use Rattle.def_script_meaning.specs.Session.{frames_of, session_of, simulated_with}
 use Rattle.def_script_meaning.specs.Stops.{stop_text, status_of}
@@ -56,7 +57,7 @@ pub record SendsSimulated (f : KeyedFn) (key : Option (List ℕ)) (h : History) 
 pub record Headline (f : KeyedFn) (before : ServerState) (m : Meaning) (now end : Outside) (status : ℕ) (behind : ServerState) : Type 0 where
   pub status_is : status ≡ status_of m.end
   pub q : ℕ
-  pub printed : end.written ≡ append_known now.written (flat_map text_of m.shown ++ take q (stop_text m.end))
+  pub printed : end.written ≡ append_known now.written (flat_map text_of (map said m.shown) ++ take q (stop_text m.end))
   pub events : List Event
   pub adds : Adds now.told end.told events
   pub session : map bare events ≡ map as_event (session_of f m)

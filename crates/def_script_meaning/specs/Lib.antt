@@ -12,5 +12,7 @@ pub mod Goes
 pub mod Recorded
 pub mod Headline
 pub mod Continues
+pub mod SimulatedAfter
 pub mod Rejoins
 pub mod Joined
+pub mod SessionsInARow

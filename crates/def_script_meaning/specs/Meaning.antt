@@ -2,16 +2,16 @@
 use Rattle.std.specs.Prelude.{ℕ, ◌+◌, Bool, false, ◌||◌, List, [], ◌∷◌, ◌++◌, Option, None, Some}
 use Rattle.client_registry.specs.Histories.{empty}
 use Rattle.client_registry.specs.Run.{History}
-use Rattle.sse_script.specs.Shown.{Shown, BadLine}
+use Rattle.sse_script.specs.Shown.{BadLine}
 use Rattle.def_script_meaning.specs.Lines.{Line, Empty, Key, Command, script_lines}
-use Rattle.def_script_meaning.specs.Outcome.{Place, opened, outcome, after, shown_by, is_refusal}
+use Rattle.def_script_meaning.specs.Outcome.{Place, Printed, opened, outcome, after, shown_by, is_refusal}
 use Rattle.def_script_meaning.specs.Stops.{Stop, AtEnd, At}
 
 pub record Meaning : Type 0 where
   -- the key of the script's key line, where it has one
   pub key : Option (List ℕ)
   pub history : History
-  pub shown : List Shown
+  pub shown : List Printed
   -- at the end of the script, or at its first bad line
   pub end : Stop
 
@@ -20,7 +20,7 @@ abbrev pub ends_at : Option (List ℕ) → History → Stop → Meaning
 ends_at key history end = record { key = key; history = history; shown = []; end = end }
 
 -- the same with these lines printed before
-abbrev pub showing : List Shown → Meaning → Meaning
+abbrev pub showing : List Printed → Meaning → Meaning
 showing shown m = record m { shown = shown ++ m.shown }
 
 -- the meaning of lines from a place on, the first of which has this number; whether a command was refused before them.

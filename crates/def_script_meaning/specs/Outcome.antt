@@ -25,13 +25,23 @@ pub record Place : Type 0 where
 abbrev pub opened : List ℕ → Place
 opened key = record { key = key; documents = []; history = empty }
 
+-- a line that is printed: as it stands, or with the identifiers that a search finds
+pub data Printed : Type 0 where
+  Says : Shown → Printed
+  Finds : (ids : List ℕ) → Printed
+
+-- how it reads where the search is answered as it should be
+abbrev pub said : Printed → Shown
+said (Says line) = line
+said (Finds ids) = Found ids
+
 pub data Outcome : Type 0 where
   -- one document more for the setup
   Collects : Document → Outcome
   Refuses : Refusal → Outcome
   SetsUp : Setup → Outcome
   -- commands after the setup, and the line that says they are done
-  Does : List Command → Shown → Outcome
+  Does : List Command → Printed → Outcome
 
 -- refused where there is a cause, else this
 abbrev pub unless : Option Refusal → Outcome → Outcome
@@ -50,9 +60,9 @@ before_setup docs (Find word) = Refuses NotSetUp
 abbrev pub after_setup : History → Request → Outcome
 after_setup h (Doc id words) = Refuses SetUpAlready
 after_setup h (SetupLine b big pad) = Refuses SetUpAlready
-after_setup h (AddLine id words) = unless (add_refusal h (document id words)) (Does (Add (document id words) ∷ []) (Added id))
-after_setup h (Del id) = unless (delete_refusal h id) (Does (Delete id ∷ []) (Deleted id))
-after_setup h (Find word) = unless (bad_word 0 (word ∷ [])) (Does (Search word ∷ []) (Found (matching_in h word)))
+after_setup h (AddLine id words) = unless (add_refusal h (document id words)) (Does (Add (document id words) ∷ []) (Says (Added id)))
+after_setup h (Del id) = unless (delete_refusal h id) (Does (Delete id ∷ []) (Says (Deleted id)))
+after_setup h (Find word) = unless (bad_word 0 (word ∷ [])) (Does (Search word ∷ []) (Finds (matching_in h word)))
 
 -- what a line comes to at a place of the script
 abbrev pub outcome : Place → Request → Outcome
@@ -66,10 +76,10 @@ after (SetsUp s) place = record place { history = begun_by s }
 after (Does commands shown) place = record place { history = longer commands place.history }
 
 -- the lines that it prints
-abbrev pub shown_by : Outcome → List Shown
+abbrev pub shown_by : Outcome → List Printed
 shown_by (Collects d) = []
-shown_by (Refuses refusal) = Refused refusal ∷ []
-shown_by (SetsUp s) = SetUp (length (setup_words s)) (blocks_of s) ∷ []
+shown_by (Refuses refusal) = Says (Refused refusal) ∷ []
+shown_by (SetsUp s) = Says (SetUp (length (setup_words s)) (blocks_of s)) ∷ []
 shown_by (Does commands shown) = shown ∷ []
 
 abbrev pub is_refusal : Outcome → Bool

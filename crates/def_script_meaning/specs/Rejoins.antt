@@ -1,6 +1,6 @@
 -- A session that continues after a run with a server that may be missing the last of its frames: these are sent first, and a line says how many
 -- they were.
-use Rattle.std.specs.Prelude.{◌≡◌, ◌≢◌, ◌⊎◌, ◌≤◌, ℕ, ◌+◌, false, List, [], ◌∷◌, ◌++◌, drop, flat_map, length, map, take, Option, Some}
+use Rattle.std.specs.Prelude.{◌≡◌, ◌≢◌, ◌⊎◌, ◌<◌, ◌≤◌, ℕ, ◌+◌, false, List, [], ◌∷◌, ◌++◌, drop, flat_map, length, map, take, Option, Some}
 use Rattle.std.specs.Io.KnownBytes.{append_known}
 use Rattle.client_records.specs.Recorded.{recorded}
 use Rattle.client_registry.specs.Command.{Command}
@@ -26,9 +26,11 @@ use Rattle.def_script_meaning.specs.Continues.{at_run}
 use Rattle.def_script_meaning.specs.Exchange.{Told, Adds, AreCut, AreExchanged, as_event, bare, sent_in}
 use Rattle.def_script_meaning.specs.Lines.{Line}
 use Rattle.def_script_meaning.specs.Meaning.{Meaning}
+use Rattle.def_script_meaning.specs.Outcome.{said}
 use Rattle.def_script_meaning.specs.Recorded.{KeepsFirst, records_in}
 use Rattle.def_script_meaning.specs.Runs.{Ended, IsGreeted, IsTurnedAway, Runs}
 use Rattle.def_script_meaning.specs.Session.{IsFree}
+use Rattle.def_script_meaning.specs.SimulatedAfter.{HasUpdates, IsSimulatedAfter}
 use Rattle.def_script_meaning.specs.Stops.{At, SinkFault, status_of, stop_text}
 
 -- The server.
@@ -52,11 +54,12 @@ lacking f key run next = drop next (frames_under f key (Some run))
 
 -- The session.
 
--- it stops in these frames: the exchange of them is cut; or before the first of them, as two values of the run are equal that
--- have to differ
+-- it stops in these frames: the exchange of them is cut; or before the first of them, out of memory, or as two values of the run are
+-- equal that have to differ
 abbrev pub IsShort : KeyedFn → List FrameText → (key : List ℕ) → Run → (old new : Told) → Cause → Type 0
 IsShort f frames key run old new cause =
     ((events : List Event) × Adds old new events × AreCut frames events cause)
+    ⊎ ((new ≡ old) × (cause ≡ NoMemory))
     ⊎ ((new ≡ old) × ((c : Collision) × (cause ≡ collision_cause c)) × (IsFree f (Some key) (Some run) → ⊥))
 
 -- it ends there: nothing is printed, and no record is kept
@@ -106,23 +109,26 @@ Rejoins f low high key run number lines now end =
 
 -- between these two moments lines of this meaning were carried out after a run of whose frames the server had those before this
 -- number, with this status. As in a whole run (Headline), but that the line before all others says how many frames the server lacked;
--- that what passed is the greeting and the exchange of the history's frames from that number on; that what is kept are the records
--- after the run's. The server is one that was sent all frames of the history, from its first state on
+-- that what passed is the greeting and the exchange of the history's frames from that number on, which is what the simulator makes after any
+-- earlier run with these updates; that what is kept are the records after the run's. The server is one that was sent all frames of the
+-- history, from its first state on
 pub record Rejoined (f : KeyedFn) (start : ServerState) (key : List ℕ) (run : Run) (next : ℕ) (m : Meaning) (now last : Outside) (status : ℕ) (behind : ServerState) : Type 0 where
   pub status_is : status ≡ status_of m.end
   pub q : ℕ
-  pub printed : last.written ≡ append_known now.written (text_of (Resumed (length (lacking f key run next))) ++ flat_map text_of m.shown ++ take q (stop_text m.end))
+  pub printed : last.written ≡ append_known now.written (text_of (Resumed (length (lacking f key run next))) ++ flat_map text_of (map said m.shown) ++ take q (stop_text m.end))
   pub more : List Command
   pub history : m.history ≡ longer more (Some run)
   pub events : List Event
   pub adds : Adds now.told last.told events
   pub passed : map bare events ≡ map as_event (greeting next ++ exchange (shown_behind run more) (drop next (frames_under f key m.history)))
+  pub simulated : (earlier : Run) → HasUpdates earlier run → IsSimulatedAfter f key earlier more next events
   pub kept : Keeps now.kept last.kept (recorded more)
   pub stored : behind ≡ (steps f start (frames_under f key m.history)).0
 
 -- between these two moments a run that goes on after a history took the records of one after it, behind those of that history: of the one
 -- up to its stop, or of the one before the command in hand, which has at most one record less, and that one may have been refused; and the
--- frames that were sent are Hello and the first of the frames, from a number on, of the history whose records are there
+-- frames that were sent are Hello and the first of the frames, from a number on, of the history whose records are there: after Hello none was
+-- sent unless the server had replied that it expects this number
 pub record IsRecordedBehind (f : KeyedFn) (key : List ℕ) (run : Run) (now : Outside) (end : Ended) : Type 0 where
   pub same_key : end.key ≡ Some key
   pub held : History
@@ -135,8 +141,10 @@ pub record IsRecordedBehind (f : KeyedFn) (key : List ℕ) (run : Run) (now : Ou
   pub kept : KeepsFirst all taken (status_of end.stop) now.kept end.outside.kept
   pub most : length all ≤ length taken + 1
   pub next : ℕ
+  pub within : next ≤ length (frames_under f key (Some run))
   pub events : List Event
   pub adds : Adds now.told end.outside.told events
+  pub replied : 1 < length (sent_in events) → map bare (take 2 events) ≡ map as_event (greeting next)
   pub count : ℕ
   pub sent : sent_in events ≡ map frame_bytes (take count (Hello ∷ drop next (frames_under f key held)))
   -- it lacks the command in hand only where values collided, the disk failed or memory was wanting

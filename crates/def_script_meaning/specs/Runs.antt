@@ -5,7 +5,7 @@ use Rattle.client_registry.specs.Histories.{empty}
 use Rattle.client_registry.specs.Run.{History}
 use Rattle.keyed_fn.specs.KeyedFn.{KeyedFn}
 use Rattle.sse_script.specs.Shown.{Cause, BadLine, SourceFault, NoMemory}
-use Rattle.def_script_meaning.specs.Carries.{Outside, Carries, StopsIn}
+use Rattle.def_script_meaning.specs.Carries.{Outside, Carries, StopsIn, IsUnprinted}
 use Rattle.def_script_meaning.specs.HelloExchange.{Greets, TurnsAway}
 use Rattle.def_script_meaning.specs.Lines.{Line, Empty, Key, Command, lines_in}
 use Rattle.def_script_meaning.specs.Outcome.{Place, Outcome, opened, outcome, after, is_refusal}
@@ -31,9 +31,9 @@ StopsReading now key history end = (end ≡ ended now key history (At SourceFaul
 abbrev pub StopsHere : Outside → Option (List ℕ) → History → Stop → Ended → Type 0
 StopsHere now key history stop end = (end ≡ ended now key history stop) ⊎ StopsReading now key history end
 
--- a run stops in the line in hand
+-- a run stops in the line in hand, before its printing or in it
 pub record Stops (f : KeyedFn) (place : Place) (result : Outcome) (now : Outside) (end : Ended) : Type 0 where
-  pub within : StopsIn f place result now end.outside end.stop
+  pub within : StopsIn f place result now end.outside end.stop ⊎ IsUnprinted f place result now end.outside end.stop
   pub key : end.key ≡ Some place.key
   pub history : end.history ≡ (after result place).history
 

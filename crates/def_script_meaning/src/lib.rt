@@ -5,6 +5,8 @@
 //! are left, from any place: the loop's proof is then short, and a resumed session has the same definition. Each line
 //! has all its frames exchanged and its output printed before the next begins. Definitions and laws, no calls.
 //! Proved: a run that goes line by line comes to what the script means, also one that resumes; two runs in a row are
-//! one session (`one_session`; laws).
+//! one session (`one_session`), and the simulator makes what any number of sessions in a row send
+//! (`sessions_are_simulated`); an acknowledged update stops a run only in its printing (`acknowledged_stops_not`;
+//! laws).
 //! Side: client.
 #![tactic(auto)]

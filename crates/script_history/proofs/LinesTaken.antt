@@ -10,10 +10,9 @@ use Rattle.client_registry.specs.Run.{History, Run}
 use Rattle.script_documents.specs.LineDocument.{document}
 use Rattle.script_documents.specs.Refused.{collect_refusal}
 use Rattle.def_script_meaning.specs.Lines.{Line, Empty, Key, Command, Request, Doc, SetupLine}
-use Rattle.def_script_meaning.specs.Outcome.{Place, Outcome, Collects, Refuses, SetsUp, Does, unless, before_setup, after_setup, after, is_refusal}
+use Rattle.def_script_meaning.specs.Outcome.{Place, Printed, Outcome, Collects, Refuses, SetsUp, Does, unless, before_setup, after_setup, after, is_refusal}
 use Rattle.def_script_meaning.specs.Refused.{index_refusal}
 use Rattle.client_registry.specs.Setup.{setup_with}
-use Rattle.sse_script.specs.Shown.{Shown}
 use Rattle.sse_script.specs.declared.refusal.Refusal.{Refusal}
 use Rattle.sse_script.specs.declared.refusal.Refusal.TheVariants.{HistoryFull}
 use Rattle.script_history.specs.Numbered.{run_after}
@@ -51,7 +50,7 @@ numbered-none (SetsUp s) = refl
 numbered-none (Does commands shown) = refl
 
 -- a command is refused where it is in a run, and then where the history with it can't be numbered
-pub numbered-command : (h : History) (r : Option Refusal) (commands : List Meant) (shown : Shown)
+pub numbered-command : (h : History) (r : Option Refusal) (commands : List Meant) (shown : Printed)
     → numbered h (unless r (Does commands shown)) ≡ unless (option_or r (number_refusal h commands)) (Does commands shown)
 numbered-command h (Some refusal) commands shown = refl
 numbered-command h None commands shown = by (is_full (longer commands h))
@@ -74,7 +73,7 @@ module _ (place : Place) (run : Run) (e : place.history ≡ Some run) where
       subst (λ o. (Some refusal ≡ refusal_in o) × ((after o place).history ≡ Some run)) (sym whole) (refl, e)
 
   -- a command
-  pub command-behind : (request : Request) (r found : Option Refusal) (c : Meant) (shown : Shown) (next : Run) → after_setup (Some run) request ≡ unless r (Does (c ∷ []) shown)
+  pub command-behind : (request : Request) (r found : Option Refusal) (c : Meant) (shown : Printed) (next : Run) → after_setup (Some run) request ≡ unless r (Does (c ∷ []) shown)
       → found ≡ option_or r (number_refusal (Some run) (c ∷ [])) → next ≡ run_after found run c
       → (found ≡ refusal_in (read_outcome place request)) × ((after (read_outcome place request) place).history ≡ Some next)
   command-behind request r found c shown next is same went =

@@ -1,6 +1,6 @@
 -- A reading that no device disturbed, with memory for all of it, did what its script means.
 use Rattle.std.proofs.Common.{◌≡◌, inl, inr, ℕ, ◌+◌, ◌-◌, ◌^◌, Bool, false, ◌||◌, List, [], ◌∷◌, ◌++◌, length, nat_lt, Option, None, Some, refl, sym, ap, subst, ◌∙◌, append_assoc, arith}
-use Rattle.std.specs.Prelude.{filter, flat_map, IfSome, if◌then◌else◌}
+use Rattle.std.specs.Prelude.{filter, flat_map, map, IfSome, if◌then◌else◌}
 use Rattle.std.specs.Io.KnownBytes.{append_known}
 use Rattle.std.proofs.lemmas.Bool.{le-ltb}
 use Rattle.std.proofs.lemmas.List.{append-nil}
@@ -14,8 +14,7 @@ use Rattle.def_script_meaning.proofs.FollowedPlaces.{first-follow}
 use Rattle.def_script_meaning.proofs.Outcomes.{by_cases}
 use Rattle.def_script_meaning.specs.Lines.{Line, Empty, Key, Command, Request, script_lines}
 use Rattle.def_script_meaning.specs.Meaning.{follow, meant_from, meaning}
-use Rattle.def_script_meaning.specs.Outcome.{Place, Refuses, Does, opened, outcome, after, shown_by, is_refusal}
-use Rattle.sse_script.specs.Shown.{Shown}
+use Rattle.def_script_meaning.specs.Outcome.{Place, Printed, said, Refuses, Does, opened, outcome, after, shown_by, is_refusal}
 use Rattle.sse_script.specs.Texts.{text_of}
 use Rattle.sse_script.specs.declared.refusal.Refusal.TheVariants.{HistoryFull}
 use Rattle.script_history.specs.Reads.{ReadEnd, Whole, EndsSo, StopsUnread, StopsPrinting, Reads, ReadsFirst, is_full, numbered, read_outcome, refusal_in, refused_text}
@@ -43,11 +42,11 @@ known-append : (o : Option (List ℕ)) (xs ys : List ℕ) → append_known (appe
 known-append None xs ys = refl
 known-append (Some zs) xs ys = ap (λ ws. Some ws) (append_assoc zs xs ys)
 
-abbrev refusals_text : List Shown → List ℕ
-refusals_text shown = flat_map text_of (filter is_refused_line shown)
+abbrev refusals_text : List Printed → List ℕ
+refusals_text shown = flat_map text_of (filter is_refused_line (map said shown))
 
 -- of a line's printed lines the refusal is read
-text_first : (place : Place) (line : Request) (shown : List Shown)
+text_first : (place : Place) (line : Request) (shown : List Printed)
     → refusals_text (shown_by (outcome place line) ++ shown) ≡ refused_text (refusal_in (outcome place line)) ++ refusals_text shown
 text_first place line shown = by_cases place line (λ o. refusals_text (shown_by o ++ shown) ≡ refused_text (refusal_in o) ++ refusals_text shown) (record {
   refuses = λ refusal. refl;
@@ -82,7 +81,7 @@ same_outcome place line = by_cases place line (λ o. IfSome (after o place).hist
   finds = λ word up e sized. fits _ _ sized;
 })
   where
-    fits : (commands : List Meant) (shown : Shown) → IfSome (longer commands place.history) IsSized → numbered place.history (Does commands shown) ≡ Does commands shown
+    fits : (commands : List Meant) (shown : Printed) → IfSome (longer commands place.history) IsSized → numbered place.history (Does commands shown) ≡ Does commands shown
     fits commands shown sized = ap (λ b. if b then Refuses HistoryFull else Does commands shown) (not_full (longer commands place.history) sized)
 
 -- Readings.

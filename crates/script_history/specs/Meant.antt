@@ -1,8 +1,9 @@
 -- The result of a reading if no device failed and memory sufficed: the script's meaning.
-use Rattle.std.specs.Prelude.{◌≡◌, ◌≢◌, ℕ, List, flat_map, Option, None, Some, Bool, true, false, filter}
+use Rattle.std.specs.Prelude.{◌≡◌, ◌≢◌, ℕ, List, flat_map, map, Option, None, Some, Bool, true, false, filter}
 use Rattle.std.specs.Io.KnownBytes.{append_known}
 use Rattle.client_registry.specs.Run.{History}
 use Rattle.def_script_meaning.specs.Meaning.{Meaning}
+use Rattle.def_script_meaning.specs.Outcome.{said}
 use Rattle.def_script_meaning.specs.Stops as ends
 use Rattle.def_script_meaning.specs.Stops.{Stop}
 use Rattle.sse_script.specs.Shown.{SourceFault, NoMemory, Shown, SetUp, Added, Deleted, Found, Resumed, Refused, Stopped as StoppedLine}
@@ -37,4 +38,4 @@ end_of key history next (ends.At cause) = Stopped (Some cause)
 -- lines the refusals are printed, in their order
 pub record IsReadAs (m : Meaning) (next : ℕ) (now last : Option (List ℕ)) (end : ReadEnd) : Type 0 where
   pub ends : end ≡ end_of m.key m.history next m.end
-  pub printed : last ≡ append_known now (flat_map text_of (filter is_refused_line m.shown))
+  pub printed : last ≡ append_known now (flat_map text_of (filter is_refused_line (map said m.shown)))

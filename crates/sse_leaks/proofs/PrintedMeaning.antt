@@ -1,21 +1,22 @@
 -- What is told of a script, where no device failed and memory wasn't wanting, is what the script means.
-use Rattle.std.proofs.Common.{◌≡◌, ◌≢◌, ◌⊎◌, inl, inr, ℕ, ◌+◌, Bool, List, [], ◌++◌, length, Option, None, Some, refl, sym, ap, subst, ◌∙◌, append_assoc}
-use Rattle.std.specs.Prelude.{filter, flat_map, IfSome}
+use Rattle.std.proofs.Common.{◌≡◌, ◌≢◌, inl, inr, ℕ, ◌+◌, List, [], ◌++◌, length, Option, None, Some, refl, sym, ap, subst, ◌∙◌, append_assoc}
+use Rattle.std.specs.Prelude.{filter, flat_map, map, IfSome}
 use Rattle.std.specs.Io.KnownBytes.{append_known}
 use Rattle.std.proofs.lemmas.List.{append-nil}
-use Rattle.client_registry.specs.Run.{History, Run}
+use Rattle.client_registry.specs.Run.{History}
 use Rattle.client_registry.specs.Sized.{IsSized}
 use Rattle.script_history.proofs.MeaningLaws.{reads-meaning}
-use Rattle.script_history.specs.Meant.{IsCalm, IsReadAs, end_of, is_refused_line}
+use Rattle.script_history.specs.Meant.{IsCalm, end_of, is_refused_line}
 use Rattle.script_history.specs.Reads.{ReadEnd, Whole}
 use Rattle.script_history.specs.Reads.{Stopped as NotRead}
 use Rattle.def_script_meaning.specs.Lines.{script_lines}
-use Rattle.def_script_meaning.specs.Meaning.{Meaning, meaning}
+use Rattle.def_script_meaning.specs.Meaning.{meaning}
+use Rattle.def_script_meaning.specs.Outcome.{said}
 use Rattle.def_script_meaning.specs.Stops.{Stop, AtEnd, SinkFault, At}
 use Rattle.sse_script.specs.Shown.{Cause, SourceFault, NoMemory}
 use Rattle.sse_script.specs.Texts.{text_of}
-use Rattle.script_history.specs.Endings.{StopsTelling, stop_for}
-use Rattle.sse_leaks.specs.LeakReport.{GoesOn, IsPrintedAs, IsPrintedSo, history_lines, lines_at, stop_at}
+use Rattle.script_history.specs.Endings.{stop_for}
+use Rattle.sse_leaks.specs.LeakReport.{GoesOn, IsPrintedAs, IsPrintedSo, lines_at, stop_at}
 
 known-append : (o : Option (List ℕ)) (xs ys : List ℕ) → append_known (append_known o xs) ys ≡ append_known o (xs ++ ys)
 known-append None xs ys = refl
@@ -66,5 +67,5 @@ module _ (stop : Stop) (sink : stop ≢ SinkFault) (source : stop ≢ At SourceF
       let rest = follows m.key m.history next m.end told.between before (subst (λ end. GoesOn end told.between before stop) read.ends told.goes_on) in
       record {
         stop_is = rest.0;
-        printed = rest.1 ∙ ap (λ p. append_known p (lines_at m.end m.history)) read.printed ∙ known-append now (flat_map text_of (filter is_refused_line m.shown)) (lines_at m.end m.history);
+        printed = rest.1 ∙ ap (λ p. append_known p (lines_at m.end m.history)) read.printed ∙ known-append now (flat_map text_of (filter is_refused_line (map said m.shown))) (lines_at m.end m.history);
       }

@@ -1,5 +1,5 @@
 -- The text printed for a script and its leakage: its refusals, the lines of its history's leakage, and the last line of a stop.
-use Rattle.std.specs.Prelude.{◌≡◌, ◌⊎◌, ℕ, List, [], ◌++◌, filter, flat_map, Option, None, Some}
+use Rattle.std.specs.Prelude.{◌≡◌, ◌⊎◌, ℕ, List, [], ◌++◌, filter, flat_map, map, Option, None, Some}
 use Rattle.std.specs.Io.KnownBytes.{append_known}
 use Rattle.std.specs.List.{enumerate_from}
 use Rattle.client_registry.specs.Run.{History, Run, at_first}
@@ -10,6 +10,7 @@ use Rattle.script_history.specs.Reads.{Stopped as NotRead}
 use Rattle.leakage_texts.specs.LeakTexts.{text_of_leak}
 use Rattle.def_script_meaning.specs.Lines.{script_lines}
 use Rattle.def_script_meaning.specs.Meaning.{Meaning}
+use Rattle.def_script_meaning.specs.Outcome.{said}
 use Rattle.def_script_meaning.specs.Stops.{Stop, AtEnd, SinkFault, At, status_of}
 use Rattle.def_leakage.specs.CommandLeaks.{leak}
 use Rattle.sse_script.specs.Shown.{BadLine}
@@ -67,4 +68,4 @@ stop_at None next (At cause) = At cause
 -- then what its history leaks
 pub record IsPrintedAs (m : Meaning) (next : ℕ) (now last : Option (List ℕ)) (stop : Stop) : Type 0 where
   pub stop_is : stop ≡ stop_at m.history next m.end
-  pub printed : last ≡ append_known now (flat_map text_of (filter is_refused_line m.shown) ++ lines_at m.end m.history)
+  pub printed : last ≡ append_known now (flat_map text_of (filter is_refused_line (map said m.shown)) ++ lines_at m.end m.history)

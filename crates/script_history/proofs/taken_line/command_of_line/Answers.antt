@@ -7,8 +7,9 @@ use Rattle.script_documents.specs.LineDocument.{document}
 use Rattle.script_documents.specs.Refused.{bad_word}
 use Rattle.def_script_meaning.specs.Lines as requests
 use Rattle.def_script_meaning.specs.Lines.{line_read}
+use Rattle.def_script_meaning.specs.Outcome.{Says, Finds}
 use Rattle.def_script_meaning.specs.Refused.{add_refusal, delete_refusal}
-use Rattle.sse_script.specs.Shown.{Added, Deleted, Found}
+use Rattle.sse_script.specs.Shown.{Added, Deleted}
 use Rattle.sse_script.specs.Views.{line_view}
 use Rattle.sse_script.specs.declared.line.Line.{Line}
 use Rattle.sse_script.specs.declared.refusal.Refusal.TheVariants.{SetUpAlready}
@@ -30,7 +31,7 @@ returns-in-Add-clause-takes c =
     let own = requests.AddLine c.in-Add.id c.in-Add.words in
     let d = document c.in-Add.id c.in-Add.words in
     IfOk-both c.add.result _ _ _ (λ found same went. of_own (λ q. TakesAfter run q next found) (line_read (line_view c.args.line)) own (ap (λ (line : Line). line_read (line_view line)) c.in-Add.is)
-    (λ place at. command-behind place run at own (add_refusal (Some run) d) found (Add d) (Added c.in-Add.id) next refl same went)) c.add.ensures.found c.add.ensures.after
+    (λ place at. command-behind place run at own (add_refusal (Some run) d) found (Add d) (Says (Added c.in-Add.id)) next refl same went)) c.add.ensures.found c.add.ensures.after
 
 pub returns-in-Add-clause-may_stop : goal.returns-in-Add-clause-may_stop
 returns-in-Add-clause-may_stop c = subst (λ (line : Line). OnErr c.add.result (MayStop (Built c.args.history.now) (line_view line))) (sym c.in-Add.is) c.add.ensures.may_stop
@@ -41,7 +42,7 @@ returns-in-Del-clause-takes c =
     let next = run_of c.delete.new.history in
     let own = requests.Del c.in-Del.id in
     IfOk-both c.delete.result _ _ _ (λ found same went. of_own (λ q. TakesAfter run q next found) (line_read (line_view c.args.line)) own (ap (λ (line : Line). line_read (line_view line)) c.in-Del.is)
-    (λ place at. command-behind place run at own (delete_refusal (Some run) c.in-Del.id) found (Delete c.in-Del.id) (Deleted c.in-Del.id) next refl same went)) c.delete.ensures.found c.delete.ensures.after
+    (λ place at. command-behind place run at own (delete_refusal (Some run) c.in-Del.id) found (Delete c.in-Del.id) (Says (Deleted c.in-Del.id)) next refl same went)) c.delete.ensures.found c.delete.ensures.after
 
 pub returns-in-Del-clause-may_stop : goal.returns-in-Del-clause-may_stop
 returns-in-Del-clause-may_stop c = subst (λ (line : Line). OnErr c.delete.result (MayStop (Built c.args.history.now) (line_view line))) (sym c.in-Del.is) c.delete.ensures.may_stop
@@ -53,7 +54,7 @@ returns-in-Find-clause-takes c =
     let word = c.in-Find.word.now in
     let own = requests.Find word in
     IfOk-both c.find.result _ _ _ (λ found same went. of_own (λ q. TakesAfter run q next found) (line_read (line_view c.args.line)) own (ap (λ (line : Line). line_read (line_view line)) c.in-Find.is)
-    (λ place at. command-behind place run at own (bad_word 0 (word ∷ [])) found (Search word) (Found (matching_in (Some run) word)) next refl same went)) c.find.ensures.found c.find.ensures.after
+    (λ place at. command-behind place run at own (bad_word 0 (word ∷ [])) found (Search word) (Finds (matching_in (Some run) word)) next refl same went)) c.find.ensures.found c.find.ensures.after
 
 pub returns-in-Find-clause-may_stop : goal.returns-in-Find-clause-may_stop
 returns-in-Find-clause-may_stop c = subst (λ (line : Line). OnErr c.find.result (MayStop (Built c.args.history.now) (line_view line))) (sym c.in-Find.is) c.find.ensures.may_stop
