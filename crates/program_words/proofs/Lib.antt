@@ -4,3 +4,4 @@ pub mod HyphenLaws
 pub mod LocalReading
 pub mod NumberLemmas
 pub mod Readings
+mod Rows

@@ -24,7 +24,8 @@ pub enum LocalMode {
     Made(u32, u32),
 }
 
-// Promise P104, also here; clauses: mode, hyphen
+// Promise P104 (caller): Words ask for a made script if and only if they are `gen`, a seed below 1,000,000 and a count from 1 to 10,000.
+//   clauses: mode, hyphen; assumes: enough memory
 /// The mode that the words after the program's name ask for; none where they aren't right.
 ///
 /// `AllocError` where there is no memory to read them in; words of which one begins with a hyphen are none without any.

@@ -1,8 +1,7 @@
 -- Worked cases of the definitions, computed by the checker.
-use Rattle.std.proofs.Common.{◌≡◌, ◌∷◌, [], codes, length, drop, Some, None, refl}
+use Rattle.std.proofs.Common.{◌≡◌, ◌∷◌, [], codes, length, drop, refl}
 use Rattle.std.specs.Fmt.{digits}
 use Rattle.hex.proofs.OnLiterals.{hex_on_literals}
-use Rattle.script_made_lines.specs.Asked.{made_of}
 use Rattle.script_made_lines.specs.Lines.{made_lines, line_text}
 use Rattle.script_made_lines.specs.Summary.{made_summary}
 use Rattle.script_made_lines.specs.Words.{searched_word}
@@ -50,25 +49,3 @@ told = refl
 told_of_nothing : made_summary 1 [] ≡ codes "gen: 1 documents, 0 words, 0 blocks, 0 deleted, 0 added, 200 searches, 0 identifiers\n"
 unfolding digits
 told_of_nothing = refl
-
--- the words
-asked : made_of (codes "gen" ∷ codes "999999" ∷ codes "10000" ∷ []) ≡ Some (record { seed = 999999; documents = 10000 })
-asked = refl
-
-none_asked : made_of (codes "gen" ∷ codes "1" ∷ codes "0" ∷ []) ≡ None
-none_asked = refl
-
-too_many_asked : made_of (codes "gen" ∷ codes "1" ∷ codes "10001" ∷ []) ≡ None
-too_many_asked = refl
-
-leading_zero : made_of (codes "gen" ∷ codes "01" ∷ codes "1" ∷ []) ≡ None
-leading_zero = refl
-
-large_seed : made_of (codes "gen" ∷ codes "1000000" ∷ codes "1" ∷ []) ≡ None
-large_seed = refl
-
-two_words : made_of (codes "gen" ∷ codes "1" ∷ []) ≡ None
-two_words = refl
-
-another_word : made_of (codes "run" ∷ codes "1" ∷ codes "1" ∷ []) ≡ None
-another_word = refl

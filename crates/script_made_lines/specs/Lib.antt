@@ -2,7 +2,6 @@ pub mod Words
 pub mod Lines
 pub mod Script
 pub mod ReadLines
-pub mod Asked
 pub mod Summary
 pub mod SummaryViews
 pub mod Buffer

@@ -1,5 +1,5 @@
-//! A script made from a seed and a number of documents, for `gen SEED N`: the words that ask for it, its text, and
-//! the line that sums up its run (docs/FORMATS.md). It has a key, N documents of made words, a setup, deletions,
+//! A script made from a seed and a number of documents, for `gen SEED N`: its text, and the line that sums up its run
+//! (docs/FORMATS.md). It has a key, N documents of made words, a setup, deletions,
 //! additions and 200 searches. `MadeScript` is a source that holds one line at a time and takes no memory, so a
 //! session runs it like any script. The summary is counted in the printed text, so its definition needs no history.
 //! It depends on `sse_outside` for sources and sinks, and on `sse_script` for lines.
@@ -10,13 +10,14 @@
 
 mod line_at;
 mod line_buffer;
+mod made;
 mod made_line;
+mod number;
 mod printed;
 mod source;
 mod summary;
-mod words;
 
 pub use line_buffer::words_line;
+pub use made::Made;
 pub use source::MadeScript;
 pub use summary::print_summary;
-pub use words::{Made, made_of};

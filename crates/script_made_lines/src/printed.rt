@@ -6,7 +6,7 @@ ghost use Rattle.sse_script.specs.TextLines.{lines_of};
 ghost use Rattle.script_made_lines.specs.Summary as summary;
 ghost use Rattle.script_made_lines.specs.SummaryViews.{counts_view};
 
-use crate::words::number_of;
+use crate::number::number_of;
 use sse_script::Fields;
 
 /// How many words and blocks a setup has.

@@ -16,8 +16,6 @@ use Rattle.script_run_texts.specs.declared.journal_stop.JournalStop.{JournalStop
 use Rattle.script_run_texts.specs.declared.journal_stop.JournalStop.TheVariants as journals
 use Rattle.script_run_texts.specs.declared.peer_stop.PeerStop.{PeerStop}
 use Rattle.script_run_texts.specs.declared.peer_stop.PeerStop.TheVariants as peers
-use Rattle.script_run_texts.specs.declared.plan_stop.PlanStop.{PlanStop}
-use Rattle.script_run_texts.specs.declared.plan_stop.PlanStop.TheVariants as plans
 use Rattle.script_run_texts.specs.declared.stop_cause.StopCause.{StopCause}
 use Rattle.script_run_texts.specs.declared.stop_cause.StopCause.TheVariants as stops
 
@@ -37,14 +35,7 @@ input_cause (inputs.Line number) = BadLine number
 input_cause inputs.Source = SourceFault
 input_cause inputs.Memory = NoMemory
 
--- where a command stops it before anything was sent
-abbrev pub plan_cause : PlanStop → Cause
-plan_cause (plans.LabelClash first second) = LabelClash first second
-plan_cause (plans.PlaceClash first second) = PlaceClash first second
-plan_cause (plans.NumberClash first second) = NumberClash first second
-plan_cause plans.Memory = NoMemory
-
--- where the exchange with the server does; of a reply its first bytes
+-- where the exchange with the server stops it; of a reply its first bytes
 abbrev pub peer_cause : PeerStop → Cause
 peer_cause peers.Link = LinkFault
 peer_cause peers.Memory = NoMemory
@@ -57,9 +48,12 @@ abbrev pub keep_cause : DeviceFault → Cause
 keep_cause devices.Failed = DiskFault
 keep_cause devices.NoMemory = NoMemory
 
--- where a command does
+-- where a command stops it
 abbrev pub command_cause : CommandStop → Cause
-command_cause (commands.Planning stop) = plan_cause stop
+command_cause (commands.LabelClash first second) = LabelClash first second
+command_cause (commands.PlaceClash first second) = PlaceClash first second
+command_cause (commands.NumberClash first second) = NumberClash first second
+command_cause commands.Memory = NoMemory
 command_cause (commands.Keeping fault) = keep_cause fault
 command_cause (commands.Exchange stop) = peer_cause stop
 

@@ -1,4 +1,4 @@
--- The comparison of two scripts: the words that ask for it, and the line between the scripts.
+-- The line between two scripts that are compared.
 use Rattle.std.specs.Prelude.{ℕ, ◌^◌, Bool, false, List, [], ◌∷◌, length, nat_lt, codes, bytes_eq, if◌then◌else◌}
 use Rattle.sse_script.specs.Fields.{fields_of}
 

@@ -1,27 +1,23 @@
 ghost use Rattle.std.specs.Prelude.{◌≡◌};
 
-use crate::{PeerStop, PlanStop};
+use crate::PeerStop;
 use sse_outside::DeviceFault;
 
-/// What ends a run in a command.
+/// What ends a run in a command. The first four end it before the run sends anything of the command.
 #[derive(Drop)]
 pub enum CommandStop {
-    /// It wasn't planned.
-    Planning(PlanStop),
+    /// Two words of the setup, or of a document that is added, have equal labels.
+    LabelClash { first: u32, second: u32 },
+    /// Two blocks of the setup have equal places.
+    PlaceClash { first: u32, second: u32 },
+    /// Two words of a document that is added or deleted have equal revocation numbers.
+    NumberClash { first: u32, second: u32 },
+    /// There is no memory to plan the command.
+    Memory,
     /// Its record wasn't kept, and nothing of it was sent.
     Keeping(DeviceFault),
-    /// It ended in the exchange with the server.
+    /// The exchange with the server ended the run.
     Exchange(PeerStop),
-}
-
-impl From<PlanStop> for CommandStop {
-    ghost use Rattle.script_run_texts.specs.declared.command_stop.CommandStop.TheVariants.{Planning};
-
-    ghost from_gives = { λ plan stop. stop ≡ Planning plan };
-
-    fn from(stop: PlanStop) -> CommandStop {
-        CommandStop::Planning(stop)
-    }
 }
 
 impl From<DeviceFault> for CommandStop {

@@ -1,5 +1,5 @@
 //! The texts of a run: what its command line asks for, its input lines with their numbers, and what it prints. Words
-//! ask for a `Mode`, for a `DiskMode` if a disk keeps the records, or for a comparison of two scripts (`asks_twin`).
+//! ask for a `Mode`, or for a `DiskMode` if a disk keeps the records.
 //! A `LineResult` is the outcome of a line, a `StopCause` is why a run ended early, and a `JournalStop` is why it
 //! ended while its journal was opened; each has a status and a last line. It depends on `sse_script` and
 //! `sse_outside`, and knows no key, link or history.
@@ -15,7 +15,6 @@ mod journal_stop;
 mod last_lines;
 mod line_result;
 mod peer_stop;
-mod plan_stop;
 mod stop_cause;
 mod twin_line;
 mod words;
@@ -27,6 +26,5 @@ pub use journal_stop::JournalStop;
 pub use last_lines::{finish, finish_unopened};
 pub use line_result::LineResult;
 pub use peer_stop::{PeerStop, ReplyStart};
-pub use plan_stop::PlanStop;
 pub use stop_cause::StopCause;
-pub use words::{DiskMode, Mode, asks_twin, disk_mode_of, mode_of};
+pub use words::{DiskMode, Mode, disk_mode_of, mode_of};

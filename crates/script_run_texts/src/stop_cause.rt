@@ -1,9 +1,9 @@
 ghost use Rattle.std.specs.Prelude.{◌≡◌, ◌≢◌, ◌≤◌, option_map};
-ghost use Rattle.script_run_texts.specs.Stops.{input_cause, peer_cause, plan_cause, stop_cause, stop_status};
+ghost use Rattle.script_run_texts.specs.Stops.{command_cause, input_cause, peer_cause, stop_cause, stop_status};
 ghost use Rattle.sse_script.specs.ShownViews.{cause_view};
 ghost use Rattle.sse_script.specs.Stops.{cause_status};
 
-use crate::{CommandStop, InputStop, PeerStop, PlanStop};
+use crate::{CommandStop, InputStop, PeerStop};
 use sse_outside::DeviceFault;
 use sse_script::Cause;
 use std::alloc::{AllocError, AllocFailed};
@@ -40,8 +40,10 @@ impl StopCause {
             StopCause::Input(InputStop::Memory) => 7,
             StopCause::Sink => 4,
             StopCause::Memory => 7,
-            StopCause::Command(CommandStop::Planning(PlanStop::Memory)) => 7,
-            StopCause::Command(CommandStop::Planning(_)) => 8,
+            StopCause::Command(CommandStop::LabelClash { .. }) => 8,
+            StopCause::Command(CommandStop::PlaceClash { .. }) => 8,
+            StopCause::Command(CommandStop::NumberClash { .. }) => 8,
+            StopCause::Command(CommandStop::Memory) => 7,
             StopCause::Command(CommandStop::Keeping(DeviceFault::Failed)) => 6,
             StopCause::Command(CommandStop::Keeping(DeviceFault::NoMemory)) => 7,
             StopCause::Command(CommandStop::Exchange(stop)) => peer_status(stop),
@@ -57,12 +59,7 @@ impl StopCause {
             StopCause::Input(stop) => Some(cause_of_input(*stop)),
             StopCause::Sink => None,
             StopCause::Memory => Some(Cause::NoMemory),
-            StopCause::Command(CommandStop::Planning(stop)) => Some(cause_of_plan(*stop)),
-            StopCause::Command(CommandStop::Keeping(DeviceFault::Failed)) => Some(Cause::DiskFault),
-            StopCause::Command(CommandStop::Keeping(DeviceFault::NoMemory)) => Some(
-                Cause::NoMemory,
-            ),
-            StopCause::Command(CommandStop::Exchange(stop)) => Some(cause_of_peer(stop)),
+            StopCause::Command(stop) => Some(cause_of_command(stop)),
         }
     }
 }
@@ -93,19 +90,31 @@ fn cause_of_input(stop: InputStop) -> Cause<'static>
     }
 }
 
-/// The cause where a command ended it before anything was sent.
-fn cause_of_plan(stop: PlanStop) -> Cause<'static>
-    ensures { cause_view result ≡ plan_cause stop }
+/// The cause that is printed if a command ended the run.
+fn cause_of_command(stop: &CommandStop) -> Cause<'_>
+    ensures { cause_view result ≡ command_cause stop.now }
 {
     match stop {
-        PlanStop::LabelClash { first, second } => Cause::LabelClash { first, second },
-        PlanStop::PlaceClash { first, second } => Cause::PlaceClash { first, second },
-        PlanStop::NumberClash { first, second } => Cause::NumberClash { first, second },
-        PlanStop::Memory => Cause::NoMemory,
+        CommandStop::LabelClash { first, second } => Cause::LabelClash {
+            first: *first,
+            second: *second,
+        },
+        CommandStop::PlaceClash { first, second } => Cause::PlaceClash {
+            first: *first,
+            second: *second,
+        },
+        CommandStop::NumberClash { first, second } => Cause::NumberClash {
+            first: *first,
+            second: *second,
+        },
+        CommandStop::Memory => Cause::NoMemory,
+        CommandStop::Keeping(DeviceFault::Failed) => Cause::DiskFault,
+        CommandStop::Keeping(DeviceFault::NoMemory) => Cause::NoMemory,
+        CommandStop::Exchange(stop) => cause_of_peer(stop),
     }
 }
 
-/// The cause where the exchange with the server did.
+/// The cause if that was the exchange with the server.
 fn cause_of_peer(stop: &PeerStop) -> Cause<'_>
     ensures { cause_view result ≡ peer_cause stop.now }
 {

@@ -1,5 +1,4 @@
 ghost use Rattle.std.specs.Prelude.{◌≡◌, map, option_map, string_bytes};
-ghost use Rattle.script_run_texts.specs.Twins as twins;
 ghost use Rattle.script_run_texts.specs.Words as asks;
 ghost use Rattle.script_run_texts.specs.Words.{disk_mode_view, mode_view};
 
@@ -38,15 +37,5 @@ pub fn disk_mode_of(words: &[String]) -> Option<DiskMode>
         [word] if word.as_str() == "run" => Some(DiskMode::Run),
         [word] if word.as_str() == "more" => Some(DiskMode::More),
         _ => None,
-    }
-}
-
-/// Whether the words are `twin` alone: compare what two scripts leak. No run has them.
-pub fn asks_twin(words: &[String]) -> bool
-    ensures { result ≡ twins.is_twin (map (λ word. string_bytes word) words.now) }
-{
-    match words {
-        [word] => word.as_str() == "twin",
-        _ => false,
     }
 }

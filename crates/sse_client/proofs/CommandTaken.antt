@@ -37,7 +37,7 @@ use Rattle.def_script_meaning.specs.Carries.{Keeps, keys_at, frames_by, records_
 use Rattle.sse_outside.specs.Kept.{Kept, with_refused}
 use Rattle.def_script_meaning.specs.Exchange.{Told, AreExchanged, AreCut}
 use Rattle.def_script_meaning.specs.Lines.{Line, Command, Request, Doc, SetupLine, Find}
-use Rattle.def_script_meaning.specs.Outcome.{Place, Outcome, Collects, Refuses, SetsUp, Does, unless, before_setup, after_setup, outcome, after}
+use Rattle.def_script_meaning.specs.Outcome.{Place, Finds, Outcome, Collects, Refuses, SetsUp, Does, unless, before_setup, after_setup, outcome, after}
 use Rattle.def_script_meaning.specs.Refused.{index_refusal, size_refused}
 use Rattle.def_script_meaning.specs.Stops.{At}
 use Rattle.sse_client.specs.SetupFaults.{setup_answer}
@@ -46,15 +46,13 @@ use Rattle.sse_client.specs.Exchanges.{HasExchanged, HasSearched, HasCut}
 use Rattle.sse_client.specs.RecordKept.{SendsKept}
 use Rattle.script_run_texts.specs.LineResultViews.{line_result_view, refuses}
 use Rattle.sse_client.specs.Stands.{IsReady, IsStage, IsAt, Seen, seen, GoesOn, Takes, StopsWithin, outside_of}
-use Rattle.script_run_texts.specs.Stops.{command_cause, keep_cause, plan_cause}
+use Rattle.script_run_texts.specs.Stops.{command_cause, keep_cause}
 use Rattle.script_run_texts.specs.declared.line_result.LineResult.{LineResult}
 use Rattle.script_run_texts.specs.declared.line_result.LineResult.TheVariants as line_results
 use Rattle.script_run_texts.specs.declared.command_stop.CommandStop.{CommandStop}
 use Rattle.script_run_texts.specs.declared.command_stop.CommandStop.TheVariants as commands
 use Rattle.sse_outside.specs.declared.device_fault.DeviceFault.{DeviceFault}
 use Rattle.sse_outside.specs.declared.device_fault.DeviceFault.TheVariants as devices
-use Rattle.script_run_texts.specs.declared.plan_stop.PlanStop.{PlanStop}
-use Rattle.script_run_texts.specs.declared.plan_stop.PlanStop.TheVariants as plans
 use Rattle.sse_client.specs.declared.session.Stage.{Stage}
 use Rattle.sse_client.specs.declared.session.Stage.TheVariants.{Collecting, Searching}
 use Rattle.sse_client.proofs.PlansOfUpdates.{StandsFor-search}
@@ -116,7 +114,7 @@ takes-doc f now id texts docs new next came (Err (faults.Refused shown)) place n
         let line : shown ≡ refusal = cc in
         subst (GoesOn f now now next came place) (sym (comes-doc place id texts docs (Some refusal) none same e))
         (goes-refused f now next came place refusal (ap line_result_view is ∙ ap (λ l. says.Refused l ∷ []) line) (ap refuses is) (at place.documents place (h.kept ∙ same) refl))
-takes-doc f now id texts docs new next came (Err faults.NoMemory) place none same at h a = let no : Ok came ≡ Err plans.Memory = a.memory refl in absurd (cc)
+takes-doc f now id texts docs new next came (Err faults.NoMemory) place none same at h a = let no : Ok came ≡ Err commands.Memory = a.memory refl in absurd (cc)
 
 -- A search.
 
@@ -131,7 +129,7 @@ no_clash-search f key word (Some run) = refl
 
 module _ (f : KeyedFn) (place : Place) (word : List ℕ) where
   abbrev searching : Outcome
-  searching = Does (Search word ∷ []) (says.Found (matching_in place.history word))
+  searching = Does (Search word ∷ []) (Finds (matching_in place.history word))
 
   comes-find : (r : Option Refusal) → is_set_up place.history ≡ true → bad_word 0 (word ∷ []) ≡ r → outcome place (Find word) ≡ unless r searching
   comes-find r up e = behind place (Find word) up ∙ ap (λ r. unless r searching) e
@@ -165,7 +163,7 @@ module _ (f : KeyedFn) (place : Place) (word : List ℕ) where
         → (written : Option (List ℕ)) → StopsIn f place (outcome place (Find word)) (outside_of (seen old kept) written) (outside_of (seen new kept) written) (At c)
     stops-find key c same good cut written =
         subst (λ result. StopsIn f place result (outside_of (seen old kept) written) (outside_of (seen new kept) written) (At c)) (sym (comes-find None up good))
-        (inr (inr (inr (inl (record {
+        (inr (inr (inr (record {
           cause = c;
           stops = refl;
           kept = Keeps-nothing kept;
@@ -174,10 +172,10 @@ module _ (f : KeyedFn) (place : Place) (word : List ℕ) where
           cut = subst (λ fs. AreCut fs cut.events c) (token_at key same up) cut.cut;
           no_clash = λ _. no_clash;
           unprinted = refl;
-        })))))
+        }))))
 
   -- a field that is no word is refused
-  pub takes-bad_word : {T : Type 0} (now : Seen) (next : Stage) (came : LineResult) (fault : LineFault) (answer : Result LineResult PlanStop) → is_set_up place.history ≡ true → IsAnswer {T = T} (Err fault) answer → answer ≡ Ok came
+  pub takes-bad_word : {T : Type 0} (now : Seen) (next : Stage) (came : LineResult) (fault : LineFault) (answer : Result LineResult CommandStop) → is_set_up place.history ≡ true → IsAnswer {T = T} (Err fault) answer → answer ≡ Ok came
       → SaysRefusal fault (bad_word 0 (word ∷ [])) → IsAt f next place → GoesOn f now now next came place (outcome place (Find word))
   takes-bad_word now next came (faults.Refused shown) answer up a ok tells at = by (bad_word 0 (word ∷ [])) refl tells
     where
@@ -190,19 +188,19 @@ module _ (f : KeyedFn) (place : Place) (word : List ℕ) where
           let line : shown ≡ refusal = cc in
           subst (GoesOn f now now next came place) (sym (comes-find (Some refusal) up e))
           (goes-refused f now next came place refusal (ap line_result_view is ∙ ap (λ l. says.Refused l ∷ []) line) (ap refuses is) at)
-  takes-bad_word now next came faults.NoMemory answer up a ok tells at = let no : answer ≡ Err plans.Memory = a.memory refl in absurd (cc)
+  takes-bad_word now next came faults.NoMemory answer up a ok tells at = let no : answer ≡ Err commands.Memory = a.memory refl in absurd (cc)
 
 -- where there was no memory before anything was sent, the run stops there
 pub stops-memory : (f : KeyedFn) (now : Seen) (place : Place) (result : Outcome) (written : Option (List ℕ)) → StopsIn f place result (outside_of now written) (outside_of now written) (At says.NoMemory)
 stops-memory f now place result written = inr (inl (record { stops = refl; nothing = refl }))
 
 -- a field's fault that isn't a refusal is want of memory
-pub stops-bad_word : {T : Type 0} (f : KeyedFn) (now : Seen) (place : Place) (result : Outcome) (written : Option (List ℕ)) (fault : LineFault) (answer : Result LineResult PlanStop) (stop : PlanStop) → IsAnswer {T = T} (Err fault) answer → answer ≡ Err stop
-    → StopsIn f place result (outside_of now written) (outside_of now written) (At (plan_cause stop))
+pub stops-bad_word : {T : Type 0} (f : KeyedFn) (now : Seen) (place : Place) (result : Outcome) (written : Option (List ℕ)) (fault : LineFault) (answer : Result LineResult CommandStop) (stop : CommandStop) → IsAnswer {T = T} (Err fault) answer → answer ≡ Err stop
+    → StopsIn f place result (outside_of now written) (outside_of now written) (At (command_cause stop))
 stops-bad_word f now place result written (faults.Refused shown) answer stop a err = let no : answer ≡ Ok (line_results.Refused shown) = a.refused shown refl in absurd (cc)
 stops-bad_word f now place result written faults.NoMemory answer stop a err =
-    let is : plans.Memory ≡ stop = cc (a.memory refl, err) in
-    subst (λ s. StopsIn f place result (outside_of now written) (outside_of now written) (At (plan_cause s))) is (stops-memory f now place result written)
+    let is : commands.Memory ≡ stop = cc (a.memory refl, err) in
+    subst (λ s. StopsIn f place result (outside_of now written) (outside_of now written) (At (command_cause s))) is (stops-memory f now place result written)
 
 -- where there was no memory for a command that sends nothing
 pub stops_if_memory : (f : KeyedFn) (now : Seen) (stage : Stage) (request : Request) → StopsWithin f stage request now now says.NoMemory
@@ -225,7 +223,10 @@ searching_still f client place word good at = record {
 -- a command that sends these frames behind its record stops the run where the record is refused, or the frames are cut
 pub stops-kept : (T : Type 0) (f : KeyedFn) (place : Place) (result : Outcome) (old new : Seen) (written : Option (List ℕ)) (frames : List FrameText) (payload : List ℕ) → frames ≡ frames_by f place result → payload ∷ [] ≡ records_by f place result
     → clash_in_hand f place result ≡ None → (stop : CommandStop) → SendsKept {T = T} payload old new frames (Err stop) → StopsIn f place result (outside_of old written) (outside_of new written) (At (command_cause stop))
-stops-kept T f place result old new written frames payload same spelled no_clash (commands.Planning stop) sends = absurd sends
+stops-kept T f place result old new written frames payload same spelled no_clash (commands.LabelClash first second) sends = absurd sends
+stops-kept T f place result old new written frames payload same spelled no_clash (commands.PlaceClash first second) sends = absurd sends
+stops-kept T f place result old new written frames payload same spelled no_clash (commands.NumberClash first second) sends = absurd sends
+stops-kept T f place result old new written frames payload same spelled no_clash commands.Memory sends = absurd sends
 stops-kept T f place result old new written frames payload same spelled no_clash (commands.Keeping fault) sends = inr (inr (inl (record {
   stops = kept_stop fault;
   some = λ none. some (spelled ∙ none);
@@ -241,7 +242,7 @@ stops-kept T f place result old new written frames payload same spelled no_clash
 
     some : payload ∷ [] ≡ [] → ⊥
     some e = cc
-stops-kept T f place result old new written frames payload same spelled no_clash (commands.Exchange stop) sends = inr (inr (inr (inl (record {
+stops-kept T f place result old new written frames payload same spelled no_clash (commands.Exchange stop) sends = inr (inr (inr (record {
   cause = command_cause (commands.Exchange stop);
   stops = refl;
   kept = subst (Keeps old.kept new.kept) spelled sends.0;
@@ -250,7 +251,7 @@ stops-kept T f place result old new written frames payload same spelled no_clash
   cut = subst (λ fs. AreCut fs sends.1.events (command_cause (commands.Exchange stop))) same sends.1.cut;
   no_clash = λ _. no_clash;
   unprinted = refl;
-}))))
+})))
 
 -- A setup.
 
@@ -320,14 +321,14 @@ module _ (f : KeyedFn) (key : List ℕ) (docs : List Document) (b big pad : ℕ)
           (goes-refused f now next came place shown view refused at)
 
       -- equal labels and equal places stop the run at the setup, and so does want of memory
-      pub stops-plan : (stop : PlanStop) → setup_answer fault ≡ Err stop → (written : Option (List ℕ))
-          → StopsIn f place (outcome place (SetupLine b big pad)) (outside_of now written) (outside_of now written) (At (plan_cause stop))
+      pub stops-plan : (stop : CommandStop) → setup_answer fault ≡ Err stop → (written : Option (List ℕ))
+          → StopsIn f place (outcome place (SetupLine b big pad)) (outside_of now written) (outside_of now written) (At (command_cause stop))
       stops-plan stop answer written =
           let why = stopped_plan f key s T fault plan stop answer in
           elim why.1 [
-            | inl found ↦ subst (λ result. StopsIn f place result (outside_of now written) (outside_of now written) (At (plan_cause stop))) (sym (comes-set_up why.0))
-                (inl (record { cause = plan_cause stop; found = clash_at ∙ found; stops = refl; nothing = refl }))
-            | inr memory ↦ subst (λ x. StopsIn f place (outcome place (SetupLine b big pad)) (outside_of now written) (outside_of now written) (At (plan_cause x))) (sym memory)
+            | inl found ↦ subst (λ result. StopsIn f place result (outside_of now written) (outside_of now written) (At (command_cause stop))) (sym (comes-set_up why.0))
+                (inl (record { cause = command_cause stop; found = clash_at ∙ found; stops = refl; nothing = refl }))
+            | inr memory ↦ subst (λ x. StopsIn f place (outcome place (SetupLine b big pad)) (outside_of now written) (outside_of now written) (At (command_cause x))) (sym memory)
                 (stops-memory f now place (outcome place (SetupLine b big pad)) written)
           ]
 

@@ -10,7 +10,6 @@ use Rattle.script_run_texts.specs.declared.input_stop.InputStop.TheVariants as i
 use Rattle.script_run_texts.specs.declared.journal_stop.JournalStop.{JournalStop}
 use Rattle.script_run_texts.specs.declared.journal_stop.JournalStop.TheVariants as journals
 use Rattle.script_run_texts.specs.declared.peer_stop.PeerStop.TheVariants as peers
-use Rattle.script_run_texts.specs.declared.plan_stop.PlanStop.TheVariants as plans
 use Rattle.script_run_texts.specs.declared.stop_cause.StopCause.{StopCause}
 use Rattle.script_run_texts.specs.declared.stop_cause.StopCause.TheVariants as stops
 use Rattle.def_script_meaning.specs.Stops as ends
@@ -59,10 +58,10 @@ tells_stop (stops.Input inputs.Source) = record { stopped = omega arith; source 
 tells_stop (stops.Input inputs.Memory) = tells_above (stops.Input inputs.Memory) (omega arith)
 tells_stop stops.Sink = record { stopped = omega arith; source = λ e. absurd (omega (arith, e)); sink = λ e. refl; link = λ e. absurd (omega (arith, e)); disk = λ e. absurd (omega (arith, e)) }
 tells_stop stops.Memory = tells_above stops.Memory (omega arith)
-tells_stop (stops.Command (commands.Planning (plans.LabelClash first second))) = tells_above (stops.Command (commands.Planning (plans.LabelClash first second))) (omega arith)
-tells_stop (stops.Command (commands.Planning (plans.PlaceClash first second))) = tells_above (stops.Command (commands.Planning (plans.PlaceClash first second))) (omega arith)
-tells_stop (stops.Command (commands.Planning (plans.NumberClash first second))) = tells_above (stops.Command (commands.Planning (plans.NumberClash first second))) (omega arith)
-tells_stop (stops.Command (commands.Planning plans.Memory)) = tells_above (stops.Command (commands.Planning plans.Memory)) (omega arith)
+tells_stop (stops.Command (commands.LabelClash first second)) = tells_above (stops.Command (commands.LabelClash first second)) (omega arith)
+tells_stop (stops.Command (commands.PlaceClash first second)) = tells_above (stops.Command (commands.PlaceClash first second)) (omega arith)
+tells_stop (stops.Command (commands.NumberClash first second)) = tells_above (stops.Command (commands.NumberClash first second)) (omega arith)
+tells_stop (stops.Command commands.Memory) = tells_above (stops.Command commands.Memory) (omega arith)
 tells_stop (stops.Command (commands.Keeping devices.Failed)) = record { stopped = omega arith; source = λ e. absurd (omega (arith, e)); sink = λ e. absurd (omega (arith, e)); link = λ e. absurd (omega (arith, e)); disk = λ e. refl }
 tells_stop (stops.Command (commands.Keeping devices.NoMemory)) = tells_above (stops.Command (commands.Keeping devices.NoMemory)) (omega arith)
 tells_stop (stops.Command (commands.Exchange peers.Link)) = record { stopped = omega arith; source = λ e. absurd (omega (arith, e)); sink = λ e. absurd (omega (arith, e)); link = λ e. refl; disk = λ e. absurd (omega (arith, e)) }

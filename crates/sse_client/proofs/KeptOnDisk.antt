@@ -1,6 +1,6 @@
 -- What a run over a journal's records leaves on the disk: the records of the journal's file are those that its recorder took, and what a
 -- crash leaves of the recorder it leaves of the disk.
-use Rattle.std.proofs.Common.{◌≡◌, ◌⊎◌, inl, ℕ, List, [], ◌++◌, Some, None, refl, sym, ap, ◌∙◌, subst}
+use Rattle.std.proofs.Common.{◌≡◌, ◌≢◌, ◌⊎◌, inl, ℕ, List, [], ◌++◌, Some, None, refl, sym, ap, ◌∙◌, subst}
 use Rattle.std.specs.Prelude.{Option, option_map, IfSome}
 use Rattle.std.proofs.lemmas.List.{append-nil}
 use Rattle.sse_journal.proofs.FileRecords.{counted_all, gives_records, records_of_journal, settled_gives}
@@ -13,7 +13,8 @@ use Rattle.client_journal.specs.Openings.{IsOfRecords}
 use Rattle.sse_outside.specs.Kept.{Kept}
 use Rattle.client_recorder.proofs.GrownRecords.{front-none}
 use Rattle.client_recorder.specs.KeepsOn.{GivesFront, KeepsOn, LeavesKept}
-use Rattle.sse_client.specs.OnDisk.{KeepsOnDisk, KeepsOnStarted, kept_on, records_on}
+use Rattle.sse_client.proofs.RecordsLast.{holds_exact}
+use Rattle.sse_client.specs.OnDisk.{IsExact, KeepsOnDisk, KeepsOnStarted, kept_on, records_on}
 
 inside : {A : Type 0} (a b : A) → Some a ≡ Some b → a ≡ b
 inside a b e = cc
@@ -24,18 +25,19 @@ kept_at_start j content images takes = ap (λ records. record { records = record
 
 module _ {D : Type 0} (content : D → Option (List ℕ)) (images : D → List ℕ → Type 0) (moment : D → ℕ) (left_since : D → ℕ → List ℕ → Type 0) where
   -- what a recorder that holds the disk kept, is kept on the disk
-  pub kept_on_disk : {R : Type 0} (disk : R → D) (kept : R → Kept) (old new : R) (first last : D) (P : Kept → Type 0) → disk old ≡ first → last ≡ disk new → kept old ≡ kept_on (content first)
-      → ((image : List ℕ) → images (disk new) image → left_since (disk new) (moment (disk new)) image) → KeepsOn kept (λ r. moment (disk r)) (λ r. left_since (disk r)) old new → P (kept new)
-      → KeepsOnStarted content images moment left_since first last P
-  kept_on_disk disk kept old new first last P is_first is_last begins counts on has =
-      subst (λ d. KeepsOnStarted content images moment left_since d last P) is_first
-      (subst (λ d. KeepsOnStarted content images moment left_since (disk old) d P) (sym is_last) (record {
+  pub kept_on_disk : {R : Type 0} (disk : R → D) (kept : R → Kept) (old new : R) (first last : D) (status : ℕ) (P : Kept → Type 0) → disk old ≡ first → last ≡ disk new → kept old ≡ kept_on (content first)
+      → ((image : List ℕ) → images (disk new) image → left_since (disk new) (moment (disk new)) image) → KeepsOn kept (λ r. moment (disk r)) (λ r. left_since (disk r)) old new
+      → (status ≢ 6 → status ≢ 7 → (kept new ≡ kept_on (content (disk new))) × IsExact (content (disk new)) (images (disk new))) → P (kept new) → KeepsOnStarted content images moment left_since first last status P
+  kept_on_disk disk kept old new first last status P is_first is_last begins counts on exact has =
+      subst (λ d. KeepsOnStarted content images moment left_since d last status P) is_first
+      (subst (λ d. KeepsOnStarted content images moment left_since (disk old) d status P) (sym is_last) (record {
         kept = kept new;
         has = has;
         more = on.more;
         grows = on.grows ∙ ap (λ (k : Kept). option_map (λ all. all ++ on.more) k.records) here;
         meanwhile = by (content (disk old)) (subst (λ (k : Kept). IfSome k.records (λ before. LeavesOnly (λ r. moment (disk r)) (λ r. left_since (disk r)) old new (GivesFront before (on.more ++ (kept new).refused)))) here on.meanwhile);
         leaves = now (kept new).records on.leaves;
+        exact = exact;
       }))
     where
       here : kept old ≡ kept_on (content (disk old))
@@ -52,15 +54,16 @@ module _ {D : Type 0} (content : D → Option (List ℕ)) (images : D → List �
       now (Some all) leaves = λ image is. leaves image (counts image is)
 
   -- a disk of a journal that was only read keeps what it had
-  pub kept_still : (first second : D) (P : Kept → Type 0) (j : Journal) → IfSome (content first) (λ file. IsOfRecords j (content first) (images first)) → IfSome (content second) (λ file. IsOfRecords j (content second) (images second))
-      → content second ≡ content first → LeavesOnly moment left_since first second (images first) → P (kept_on (content first)) → KeepsOnStarted content images moment left_since first second P
-  kept_still first second P j holds still same quiet has = record {
+  pub kept_still : (first second : D) (status : ℕ) (P : Kept → Type 0) (j : Journal) → IfSome (content first) (λ file. IsOfRecords j (content first) (images first)) → IfSome (content second) (λ file. IsOfRecords j (content second) (images second))
+      → content second ≡ content first → LeavesOnly moment left_since first second (images first) → P (kept_on (content first)) → KeepsOnStarted content images moment left_since first second status P
+  kept_still first second status P j holds still same quiet has = record {
     kept = kept_on (content first);
     has = has;
     more = [];
     grows = nothing (records_on (content first));
     meanwhile = by (content first) refl holds;
     leaves = now (content first) (content second) refl same still;
+    exact = λ disk memory. (ap kept_on (sym same), holds_exact j (content second) (images second) still);
   }
     where
       nothing : (records : Option (List (List ℕ))) → records ≡ option_map (λ all. all ++ []) records
@@ -80,10 +83,10 @@ module _ {D : Type 0} (content : D → Option (List ℕ)) (images : D → List �
           let records : records_in_file file ≡ of.0 = inside (records_in_file file) of.0 (sym (ap records_on (same ∙ is)) ∙ records_of_journal of.0 j (content second) (images second) of.1) in
           inl (subst (λ all. Gives all image) (sym records) (settled_gives of.0 j (content second) (images second) of.1 image left))
 
-  module _ (first second third : D) (P : Kept → Type 0) where
+  module _ (first second third : D) (status : ℕ) (P : Kept → Type 0) where
     -- over a disk that was only read before
     pub behind_reading : (j : Journal) → IfSome (content first) (λ file. IsOfRecords j (content first) (images first)) → content second ≡ content first → LeavesOnly moment left_since first second (images first)
-        → KeepsOnStarted content images moment left_since second third P → KeepsOnStarted content images moment left_since first third P
+        → KeepsOnStarted content images moment left_since second third status P → KeepsOnStarted content images moment left_since first third status P
     behind_reading j holds same quiet on = record {
       kept = on.kept;
       has = on.has;
@@ -91,6 +94,7 @@ module _ {D : Type 0} (content : D → Option (List ℕ)) (images : D → List �
       grows = on.grows ∙ ap (λ c. option_map (λ all. all ++ on.more) (records_on c)) same;
       meanwhile = by (content first) refl holds (subst (λ c. IfSome c (λ file. LeavesOnly moment left_since second third (GivesFront (records_in_file file) (on.more ++ on.kept.refused)))) same on.meanwhile);
       leaves = on.leaves;
+      exact = on.exact;
     }
       where
         by : (held : Option (List ℕ)) → content first ≡ held → IfSome held (λ file. IsOfRecords j (content first) (images first))
@@ -106,7 +110,7 @@ module _ {D : Type 0} (content : D → Option (List ℕ)) (images : D → List �
 
     -- over one whose journal was started before
     pub behind_start : (Q : Kept → Type 0) → ((kept : Kept) → P kept → Q kept) → IfSome (content first) (λ file. Gives (records_in_file file) file) → records_on (content second) ≡ records_on (content first)
-        → HasSynced content images moment left_since first second GivesAs → KeepsOnStarted content images moment left_since second third P → KeepsOnDisk content images moment left_since first third Q
+        → HasSynced content images moment left_since first second GivesAs → KeepsOnStarted content images moment left_since second third status P → KeepsOnDisk content images moment left_since first third status Q
     behind_start Q then gives same started on = record {
       kept = on.kept;
       has = then on.kept on.has;
@@ -114,6 +118,7 @@ module _ {D : Type 0} (content : D → Option (List ℕ)) (images : D → List �
       grows = on.grows ∙ ap (option_map (λ all. all ++ on.more)) same;
       meanwhile = record { synced = started.synced; reads = started.reads; durable = started.durable; before = started.before; after = by (content first) (content second) same gives started.after on.meanwhile };
       leaves = on.leaves;
+      exact = on.exact;
     }
       where
         by : (held held' : Option (List ℕ)) → records_on held' ≡ records_on held → IfSome held (λ file. Gives (records_in_file file) file)

@@ -18,9 +18,10 @@ pub mod RunGoesOn
 pub mod WholeRun
 pub mod LastLine
 pub mod Devices
-pub mod InMemory
+pub mod OverServer
 pub mod ResumedRuns
 pub mod RunRejoins
+pub mod SessionsInARow
 pub mod RunsOnDisk
 pub mod RecordsLast
 pub mod KeptOnDisk
@@ -29,3 +30,5 @@ pub mod EmptyFile
 pub mod FirstFrames
 pub mod LentLink
 pub mod OverStore
+pub mod NoRecord
+pub mod InProcess

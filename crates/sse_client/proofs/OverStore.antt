@@ -2,6 +2,7 @@
 use Rattle.std.proofs.Common.{◌≡◌, ◌⊎◌, inl, inr, ℕ, false, List, [], ◌++◌, drop, map, Option, None, Some, refl, sym, ap, ◌∙◌, subst, append_assoc}
 use Rattle.std.specs.Prelude.{IfSome}
 use Rattle.std.proofs.lemmas.List.{append-nil, append_cancel_left, map-append}
+use Rattle.client_records.specs.Recorded.{recorded}
 use Rattle.client_registry.specs.Histories.{IsKept}
 use Rattle.keyed_fn.specs.KeyedFn.{KeyedFn, IsKeyedFn}
 use Rattle.def_link_events.proofs.Taken.{frames_sent, frames_taken-updates}
@@ -19,6 +20,7 @@ use Rattle.def_script_meaning.specs.Continues.{at_run}
 use Rattle.def_script_meaning.specs.Exchange.{Adds, as_event, bare}
 use Rattle.def_script_meaning.specs.Headline.{Headline, IsOverHonest, IsUndisturbed}
 use Rattle.def_script_meaning.specs.Meaning.{meaning}
+use Rattle.def_script_meaning.specs.Recorded.{records_with}
 use Rattle.def_script_meaning.specs.Rejoins.{Rejoined, frames_under}
 use Rattle.def_script_meaning.specs.Session.{IsFree, frames_of}
 use Rattle.server_core.specs.Step.{steps}
@@ -39,7 +41,7 @@ use Rattle.sse_client.proofs.FirstFrames.{AddsFrames, gone_on_adds, run_adds}
 use Rattle.sse_client.proofs.LentLink.{remote, same_start, same_file, all_are, added_honest, lent-over}
 use Rattle.sse_client.proofs.RunRejoins.{kept_behind, updates_behind}
 use Rattle.sse_client.specs.CanGoOn.{meaning_after}
-use Rattle.sse_client.specs.OnDisk.{HasGoneOn, IsNotBegun, kept_on}
+use Rattle.sse_client.specs.OnDisk.{HasGoneOn, IsExact, IsNotBegun, kept_on}
 use Rattle.sse_client.specs.OverStore.{BeginsOnBothSides, GoesOnOnBothSides, HasStoredUpdates, seen_over}
 use Rattle.sse_client.specs.Stands.{outside_of, seen}
 use Rattle.sse_client.specs.WholeRuns.{IsRun, SinkShows}
@@ -60,6 +62,10 @@ kept_is own own' images kept more reads keeps leaves =
     let records = records_in_file own ++ more in
     let gives : Gives records own' = elim (subst (λ k. LeavesKept k images) keeps leaves own' reads) [ inl g ↦ g | inr g ↦ subst (λ all. Gives all own') (append-nil records) g ] in
     keeps ∙ ap (λ all. record { records = Some all; refused = [] }) (sym (gives_records records own' gives))
+
+-- so a file that is exactly that of its records is that of all of them
+exactly_kept : (own own' : List ℕ) (images : List ℕ → Type 0) (more : List (List ℕ)) → IsExact (Some own') images → Keeps (kept_on (Some own)) (kept_on (Some own')) more → own' ≡ file (records_in_file own ++ more)
+exactly_kept own own' images more exact keeps = exact.are ∙ ap (λ records. file records) (inside (records_in_file own') (records_in_file own ++ more) (ap (λ (k : Kept). k.records) keeps))
 
 -- a file without records stops no run but by its disk or for want of memory
 pub unopened_status : (own : List ℕ) (stop : JournalStop) → Gives [] own → IsNotBegun stop own → (journal_status stop ≡ 6) ⊎ (journal_status stop ≡ 7)
@@ -129,32 +135,40 @@ module _ (f : KeyedFn) (laws : IsKeyedFn f) (old new : LinkState) (remains : rem
     gone_on_over has = over (gone_on_adds f bytes now (last kept) status sink.faults sink'.faults sink.shortages sink'.shortages has)
 
     module _ (own' : List ℕ) (images : List ℕ → Type 0) (reads : images own') where
-      pub begins : LeavesKept kept images → IsRun f bytes now (last kept) sink sink' status → IsUndisturbed status → BeginsOnBothSides f bytes old new own own' sink.written sink'.written status
-      begins leaves has calm none expects free =
+      pub begins : LeavesKept kept images → IsExact (Some own') images → IsRun f bytes now (last kept) sink sink' status → IsUndisturbed status → BeginsOnBothSides f bytes old new own own' sink.written sink'.written status
+      begins leaves exact has calm none expects free =
           let adds = run_adds f bytes now (last kept) sink sink' status has in
           let did : Headline f old.state (meaning bytes) now (last kept) status new.state = has.headline old.state new.state expects (over adds) free calm in
+          let all : Headline f old.state (meaning bytes) now (last (kept_on (Some own'))) status new.state =
+          subst (λ k. Headline f old.state (meaning bytes) now (last k) status new.state) (kept_is own own' images kept _ reads did.kept leaves) did in
           record {
-            headline = subst (λ k. Headline f old.state (meaning bytes) now (last k) status new.state) (kept_is own own' images kept _ reads did.kept leaves) did;
+            headline = all;
+            own_file =
+                exactly_kept own own' images (records_with f (meaning bytes).key (meaning bytes).history) exact all.kept
+                ∙ ap (λ records. file (records ++ records_with f (meaning bytes).key (meaning bytes).history)) (gives_records [] own none);
             stored =
                 stored_updates adds (frames_of f (meaning bytes))
                 (session_taken f (idle old.state) adds.events (known_added adds) (idle new.state) (served_added adds) laws (meaning bytes).key (meaning bytes).history (meaning_is_kept bytes).0 free expects
                 (ap (map bare) (sym (one_list adds did.events did.adds)) ∙ did.session));
           }
 
-      pub goes_on : LeavesKept kept images → HasGoneOn f bytes now (last kept) status sink.faults sink'.faults sink.shortages sink'.shortages → IsUndisturbed status → GoesOnOnBothSides f bytes old new own own' sink.written sink'.written status
-      goes_on leaves has calm some can free =
+      pub goes_on : LeavesKept kept images → IsExact (Some own') images → HasGoneOn f bytes now (last kept) status sink.faults sink'.faults sink.shortages sink'.shortages → IsUndisturbed status → GoesOnOnBothSides f bytes old new own own' sink.written sink'.written status
+      goes_on leaves exact has calm some can free =
           let m = meaning_after can.key can.run can.number can.lines in
           let adds = gone_on_adds f bytes now (last kept) status sink.faults sink'.faults sink.shortages sink'.shortages has in
           let did : Rejoined f can.taken.start can.key can.run can.next m now (last kept) status new.state = has.headline (record { before = old.state; resumes = can; state = new.state; honest = over adds }) free calm in
-          let all : IsKept m.history = kept_behind f bytes (kept_on (Some own)) old.state can in
+          let rules : IsKept m.history = kept_behind f bytes (kept_on (Some own)) old.state can in
           let free_under : IsFree f (Some can.key) m.history = subst (λ k. IsFree f k m.history) (follow-key (at_run can.key [] can.run) can.number can.lines false) free in
+          let all : Rejoined f can.taken.start can.key can.run can.next m now (last (kept_on (Some own'))) status new.state =
+          subst (λ k. Rejoined f can.taken.start can.key can.run can.next m now (last k) status new.state) (kept_is own own' images kept _ reads did.kept leaves) did in
           record {
-            rejoined = subst (λ k. Rejoined f can.taken.start can.key can.run can.next m now (last k) status new.state) (kept_is own own' images kept _ reads did.kept leaves) did;
+            rejoined = all;
+            own_file = exactly_kept own own' images (recorded all.more) exact all.kept;
             stored =
                 stored_updates adds (drop can.next (frames_under f can.key m.history))
                 (subst (λ h. AreTaken old.state (drop can.next (frames_under f can.key h)) adds.events) (sym did.history)
                 (rejoined_taken f (idle old.state) adds.events (known_added adds) (idle new.state) (served_added adds) laws can.key can.run (updates_behind f bytes (kept_on (Some own)) old.state can) can.next can.taken did.more
-                (subst IsKept did.history all) (subst (λ h. IsFree f (Some can.key) h) did.history free_under)
+                (subst IsKept did.history rules) (subst (λ h. IsFree f (Some can.key) h) did.history free_under)
                 (ap (map bare) (sym (one_list adds did.events did.adds))
                 ∙ did.passed
                 ∙ ap (λ h. map as_event (greeting can.next ++ exchange (shown_behind can.run did.more) (drop can.next (frames_under f can.key h)))) did.history)));

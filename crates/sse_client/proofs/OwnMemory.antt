@@ -121,8 +121,8 @@ module _ (frame : FrameText) where
   this_cut zero [] cause is = tt
   this_cut zero (Sent bytes mark ∷ cut) cause is = (is.0, subst (AllByRecursion IsThis) (sym (ap sent_in is.1.1 ∙ sent_in-received is.1.0)) tt)
   this_cut zero (Received bytes ∷ cut) cause is = absurd is
-  this_cut (suc zero) cut cause is = subst (AllByRecursion IsThis) (sym (ap sent_in is.0)) tt
-  this_cut (suc (suc n)) cut cause is = subst (AllByRecursion IsThis) (sym (ap sent_in is.0)) tt
+  this_cut (suc zero) cut cause is = absurd is
+  this_cut (suc (suc n)) cut cause is = absurd is
 
   both : (xs ys : List (List ℕ)) → AllByRecursion IsThis xs → AllByRecursion IsThis ys → AllByRecursion IsThis (xs ++ ys)
   both [] ys first later = later

@@ -1,5 +1,5 @@
 -- A frame whose replies come, or of which at most a part passes, by the bytes that passed.
-use Rattle.std.proofs.Common.{◌≡◌, ◌≢◌, ℕ, Bool, true, ◌≤◌, ◌<◌, ◌^◌, List, [], ◌∷◌, ◌++◌, drop, map, Some, refl, sym, ap, ◌∙◌, subst, arith, inl, inr, ◌⊎◌}
+use Rattle.std.proofs.Common.{◌≡◌, ◌≢◌, ℕ, Bool, true, ◌≤◌, ◌<◌, ◌^◌, List, [], ◌∷◌, ◌++◌, map, Some, refl, sym, ap, ◌∙◌, subst, arith, inl, inr, ◌⊎◌}
 use Rattle.std.proofs.lemmas.List.Elements.{All-nil}
 use Rattle.client_replies.specs.Faults.{fault_told, IsFaultOf}
 use Rattle.client_replies.specs.declared.reply_fault.ReplyFault.{ReplyFault}
@@ -16,7 +16,7 @@ use Rattle.sse_script.specs.Shown.{Cause}
 use Rattle.def_script_meaning.proofs.GoneAsMeant.{Adds-nothing, AreExchanged-none}
 use Rattle.def_script_meaning.proofs.Honest.{IsBehindGreeting}
 use Rattle.def_script_meaning.specs.HelloExchange.{Greets, AnswersHello, ShowsInAnswer, IsTurned, TurnsAway}
-use Rattle.def_script_meaning.specs.Exchange.{Told, Adds, AreCut, IsAllowed, IsAwaiting, IsNotice, ShowsInReplies, IsPart, IsCut, as_event}
+use Rattle.def_script_meaning.specs.Exchange.{Told, Adds, AreCut, IsAllowed, IsAwaiting, IsNotice, IsOutOfMemory, ShowsInReplies, IsPart, as_event}
 use Rattle.sse_client.specs.Exchanges.{HasExchanged, HasCut}
 use Rattle.sse_client.specs.Progress.{IsAnswered, IsUnanswered}
 use Rattle.sse_client.specs.Stops.{cause_of_fault}
@@ -36,9 +36,14 @@ some_expected ForAnswer is e = absurd (let none : map reply_bytes (Page true [] 
 pub nothing_came : (asks : Asked) → IsBehindGreeting asks → IsAwaiting asks []
 nothing_came asks is = record { allowed = nothing_allowed asks; more = some_expected asks is }
 
+nothing_for_memory : (asks : Asked) → IsBehindGreeting asks → IsOutOfMemory asks []
+nothing_for_memory ForNext is = absurd is
+nothing_for_memory (ForTook q) is = nothing_came (ForTook q) is
+nothing_for_memory ForAnswer is = nothing_allowed ForAnswer
+
 shows_nothing : (asks : Asked) (c : Cause) → IsBehindGreeting asks → (c ≡ cause.LinkFault) ⊎ (c ≡ cause.NoMemory) → ShowsInReplies asks [] c
 shows_nothing asks c is (inl e) = subst (ShowsInReplies asks []) (sym e) (inl (nothing_came asks is))
-shows_nothing asks c is (inr e) = subst (ShowsInReplies asks []) (sym e) (inl (nothing_allowed asks))
+shows_nothing asks c is (inr e) = subst (ShowsInReplies asks []) (sym e) (inl (nothing_for_memory asks is))
 
 part_most : (frame : FrameText) (events : List Event) (c : Cause) → IsBehindGreeting (asked frame) → (events ≡ []) ⊎ ((mark : Mark) × (events ≡ Sent (frame_bytes frame) mark ∷ [])) → (c ≡ cause.LinkFault) ⊎ (c ≡ cause.NoMemory) → IsPart frame events c
 part_most frame events c is (inl e) outside = subst (λ es. IsPart frame es c) (sym e) outside
@@ -70,14 +75,6 @@ IsBegun-answered old new bytes reply frame c spelled answered shows = record {
 
 pub HasCut-begun : (old new : Told) (frame : FrameText) (frames : List FrameText) (c : Cause) → IsBegun old new frame c → HasCut old new (frame ∷ frames) c
 HasCut-begun old new frame frames c begun = record { events = begun.events; adds = begun.adds; cut = AreCut-first frame frames begun.events c begun.part }
-
--- no memory, before anything was sent
-pub AreCut-memory : (frames : List FrameText) → AreCut frames [] cause.NoMemory
-AreCut-memory frames = record { n = 0; answers = []; before = []; cut = []; parts = refl; exchanged = AreExchanged-none; one_more = by frames }
-  where
-    by : (fs : List FrameText) → IsCut (drop 0 fs) [] cause.NoMemory
-    by [] = (refl, refl)
-    by (frame ∷ fs) = inr refl
 
 -- One reply came.
 

@@ -39,8 +39,8 @@ use Rattle.client_core.specs.UpdateFaults.{clash_fault}
 use Rattle.client_core.specs.declared.command_fault.CommandFault.{CommandFault}
 use Rattle.client_core.specs.declared.command_fault.CommandFault.TheVariants as faults
 use Rattle.client_core.specs.declared.ready.Ready.{Ready}
-use Rattle.sse_client.specs.UpdateFaults.{refusal_in, update_of_command}
-use Rattle.sse_client.specs.UpdatePlans.{IsUpdateFault}
+use Rattle.sse_client.specs.UpdateFaults.{answer_to_command, refusal_in}
+use Rattle.sse_client.specs.UpdatePlans.{IsUnplanned}
 
 -- Refusals.
 
@@ -85,27 +85,27 @@ module _ (run : Run) where
     first_full = sym (position_from-zero is_full d.words) ∙ (λ i. position (λ word. counter_same kept d.id word i) d.words)
 
     -- an addition is refused by the script for the cause that a client finds, where its words are a document's
-    pub refuses-add : script.add_refusal (Some run) d ≡ option_or (document_refusal d.id d.words) (option_and_then (λ fault. refusal_in (update_of_command fault)) (client.add_refusal at_first run d))
+    pub refuses-add : script.add_refusal (Some run) d ≡ option_or (document_refusal d.id d.words) (option_and_then (λ fault. refusal_in (answer_to_command fault)) (client.add_refusal at_first run d))
     refuses-add =
         (λ i. option_or (document_refusal d.id d.words) (if live_same d.id i then Some (AlreadyLive d.id) else option_or (option_map CounterFull (first_full i)) (if full_same i then Some HistoryFull else None)))
         ∙ ap (option_or (document_refusal d.id d.words)) (by (is_some ((facts_of run.setup run.later).live d.id)) (position lacks d.words) (nat_le (2 ^ 32 - 1) (next_number at_first run.setup run.later)))
       where
         by : (b : Bool) (p : Option ℕ) (full : Bool)
             → (if b then Some (AlreadyLive d.id) else option_or (option_map CounterFull p) (if full then Some HistoryFull else None))
-            ≡ option_and_then (λ fault. refusal_in (update_of_command fault)) (if b then Some (faults.AlreadyLive d.id) else option_or (option_map (λ p. faults.CounterFull p) p) (if full then Some faults.HistoryFull else None))
+            ≡ option_and_then (λ fault. refusal_in (answer_to_command fault)) (if b then Some (faults.AlreadyLive d.id) else option_or (option_map (λ p. faults.CounterFull p) p) (if full then Some faults.HistoryFull else None))
         by true p full = refl
         by false (Some p) full = refl
         by false None true = refl
         by false None false = refl
 
   -- and so is a deletion, of an identifier that isn't 0
-  pub refuses-delete : (id : ℕ) → id ≢ 0 → script.delete_refusal (Some run) id ≡ option_and_then (λ fault. refusal_in (update_of_command fault)) (client.delete_refusal at_first run id)
+  pub refuses-delete : (id : ℕ) → id ≢ 0 → script.delete_refusal (Some run) id ≡ option_and_then (λ fault. refusal_in (answer_to_command fault)) (client.delete_refusal at_first run id)
   refuses-delete id some =
       (λ i. if ne_eqb id 0 some i then Some Zero else if not (live_same id i) then Some (UnknownDocument id) else if full_same i then Some HistoryFull else None)
       ∙ by (is_some ((facts_of run.setup run.later).live id)) (nat_le (2 ^ 32 - 1) (next_number at_first run.setup run.later))
     where
       by : (b full : Bool) → (if not b then Some (UnknownDocument id) else if full then Some HistoryFull else None)
-          ≡ option_and_then (λ fault. refusal_in (update_of_command fault)) (if b then (if full then Some faults.HistoryFull else None) else Some (faults.UnknownDocument id))
+          ≡ option_and_then (λ fault. refusal_in (answer_to_command fault)) (if b then (if full then Some faults.HistoryFull else None) else Some (faults.UnknownDocument id))
       by true true = refl
       by true false = refl
       by false full = refl
@@ -127,7 +127,7 @@ module _ (f : KeyedFn) (keys : ℕ → List ℕ) (run : Run) (c : Command) where
 
 -- a fault that is a refusal
 abbrev Refuses : CommandFault → Type 0
-Refuses fault = IsSome (refusal_in (update_of_command fault))
+Refuses fault = IsSome (refusal_in (answer_to_command fault))
 
 module _ (run : Run) where
   refuses_to_add : (d : Document) → IfSome (client.add_refusal at_first run d) Refuses
@@ -172,29 +172,29 @@ no_places f keys run (Search word) = tt
 -- printed cause, or that has none
 pub record IsPlanFor {X : Type 0} (why : Option Refusal) (clash : Option Cause) (r : Result X CommandFault) : Type 0 where
   pub planned : IfOk r (λ x. (why ≡ None) × (clash ≡ None))
-  pub fault : IfErr r (λ fault. IsUpdateFault why clash (update_of_command fault))
+  pub fault : IfErr r (λ fault. IsUnplanned why clash (answer_to_command fault))
 
 module _ (refusal : Option CommandFault) (equal : Option Collision) (refuses : IfSome refusal Refuses) (update : IfSome equal IsOfUpdate) where
   abbrev why : Option Refusal
-  why = option_and_then (λ fault. refusal_in (update_of_command fault)) refusal
+  why = option_and_then (λ fault. refusal_in (answer_to_command fault)) refusal
 
   abbrev clash : Option Cause
   clash = option_map collision_cause equal
 
   -- a fault that isn't want of memory is the client's reason, or else its equal values
-  named : (fault : CommandFault) → Some fault ≡ option_or refusal (option_map clash_fault equal) → IsUpdateFault why clash (update_of_command fault)
+  named : (fault : CommandFault) → Some fault ≡ option_or refusal (option_map clash_fault equal) → IsUnplanned why clash (answer_to_command fault)
   named fault is = by refusal refuses equal update is
     where
-      equals : (c : Collision) → IsOfUpdate c → IsUpdateFault None (Some (collision_cause c)) (update_of_command (clash_fault c))
+      equals : (c : Collision) → IsOfUpdate c → IsUnplanned None (Some (collision_cause c)) (answer_to_command (clash_fault c))
       equals (Labels first second) here = inr (refl, refl)
       equals (Places first second) here = absurd here
       equals (Numbers first second) here = inr (refl, refl)
 
       by : (o : Option CommandFault) → IfSome o Refuses → (c : Option Collision) → IfSome c IsOfUpdate → Some fault ≡ option_or o (option_map clash_fault c)
-          → IsUpdateFault (option_and_then (λ fault. refusal_in (update_of_command fault)) o) (option_map collision_cause c) (update_of_command fault)
-      by (Some x) some c update is = let same : x ≡ fault = cc in subst (λ e. IsUpdateFault (refusal_in (update_of_command x)) (option_map collision_cause c) (update_of_command e)) same (refused x some c)
+          → IsUnplanned (option_and_then (λ fault. refusal_in (answer_to_command fault)) o) (option_map collision_cause c) (answer_to_command fault)
+      by (Some x) some c update is = let same : x ≡ fault = cc in subst (λ e. IsUnplanned (refusal_in (answer_to_command x)) (option_map collision_cause c) (answer_to_command e)) same (refused x some c)
         where
-          refused : (x : CommandFault) → Refuses x → (c : Option Collision) → IsUpdateFault (refusal_in (update_of_command x)) (option_map collision_cause c) (update_of_command x)
+          refused : (x : CommandFault) → Refuses x → (c : Option Collision) → IsUnplanned (refusal_in (answer_to_command x)) (option_map collision_cause c) (answer_to_command x)
           refused (faults.AlreadyLive id) some c = refl
           refused (faults.UnknownDocument id) some c = refl
           refused (faults.CounterFull p) some c = refl
@@ -203,19 +203,19 @@ module _ (refusal : Option CommandFault) (equal : Option Collision) (refuses : I
           refused (faults.NumberClash i j) some c = absurd (true≢false (sym some))
           refused faults.NoMemory some c = absurd (true≢false (sym some))
       by None none None update is = absurd (cc)
-      by None none (Some c) update is = let same : clash_fault c ≡ fault = cc in subst (λ e. IsUpdateFault None (Some (collision_cause c)) (update_of_command e)) same (equals c update)
+      by None none (Some c) update is = let same : clash_fault c ≡ fault = cc in subst (λ e. IsUnplanned None (Some (collision_cause c)) (answer_to_command e)) same (equals c update)
 
   -- by the clause of a plan that tells its fault
   plan_for : {X : Type 0} (r : Result X CommandFault) → (r ≢ Err faults.NoMemory → result_err r ≡ option_or refusal (option_map clash_fault equal)) → IsPlanFor why clash r
   plan_for {X} (Ok x) fault = record { planned = by refusal equal (fault (λ memory. absurd (cc))); fault = tt }
     where
-      by : (o : Option CommandFault) (c : Option Collision) → None ≡ option_or o (option_map clash_fault c) → (option_and_then (λ fault. refusal_in (update_of_command fault)) o ≡ None) × (option_map collision_cause c ≡ None)
+      by : (o : Option CommandFault) (c : Option Collision) → None ≡ option_or o (option_map clash_fault c) → (option_and_then (λ fault. refusal_in (answer_to_command fault)) o ≡ None) × (option_map collision_cause c ≡ None)
       by None None h = (refl, refl)
       by None (Some c) h = absurd (cc)
       by (Some x) c h = absurd (cc)
   plan_for {X} (Err e) fault = record { planned = tt; fault = by e fault }
     where
-      by : (e : CommandFault) → ((◌≢◌ {A = Result X CommandFault} (Err e) (Err faults.NoMemory)) → Some e ≡ option_or refusal (option_map clash_fault equal)) → IsUpdateFault why clash (update_of_command e)
+      by : (e : CommandFault) → ((◌≢◌ {A = Result X CommandFault} (Err e) (Err faults.NoMemory)) → Some e ≡ option_or refusal (option_map clash_fault equal)) → IsUnplanned why clash (answer_to_command e)
       by (faults.AlreadyLive id) h = named _ (h (λ memory. cc))
       by (faults.UnknownDocument id) h = named _ (h (λ memory. cc))
       by (faults.CounterFull p) h = named _ (h (λ memory. cc))
@@ -239,9 +239,9 @@ module _ (f : KeyedFn) (place : Place) (run : Run) (history : place.history ≡ 
     pub plan-add-at : IsKept (Some run) → (d : Document) → document_refusal d.id d.words ≡ None → (r ≢ Err faults.NoMemory → result_err r ≡ add_fault f (keys_at place) at_first run d)
         → IsPlanFor (script.add_refusal place.history d) (option_map collision_cause (collision_of_next f (keys_at place) place.history (Add d ∷ []))) r
     plan-add-at kept d valid fault =
-        let here = ap (λ h. script.add_refusal h d) history ∙ refuses-add run kept d ∙ ap (λ o. option_or o (option_and_then (λ fault. refusal_in (update_of_command fault)) (client.add_refusal at_first run d))) valid in
+        let here = ap (λ h. script.add_refusal h d) history ∙ refuses-add run kept d ∙ ap (λ o. option_or o (option_and_then (λ fault. refusal_in (answer_to_command fault)) (client.add_refusal at_first run d))) valid in
         subst (λ why. IsPlanFor why (option_map collision_cause (collision_of_next f (keys_at place) place.history (Add d ∷ []))) r) (sym here)
-        (subst (λ clash. IsPlanFor (option_and_then (λ fault. refusal_in (update_of_command fault)) (client.add_refusal at_first run d)) clash r) (sym (clash-at (Add d)))
+        (subst (λ clash. IsPlanFor (option_and_then (λ fault. refusal_in (answer_to_command fault)) (client.add_refusal at_first run d)) clash r) (sym (clash-at (Add d)))
         (plan_for (client.add_refusal at_first run d) (collision_next f (keys_at place) at_first run (Add d)) (refuses_to_add run d) (no_places f (keys_at place) run (Add d)) r fault))
 
     -- and of a deletion of an identifier that isn't 0
@@ -250,7 +250,7 @@ module _ (f : KeyedFn) (place : Place) (run : Run) (history : place.history ≡ 
     plan-delete-at id some fault =
         let here = ap (λ h. script.delete_refusal h id) history ∙ refuses-delete run id some in
         subst (λ why. IsPlanFor why (option_map collision_cause (collision_of_next f (keys_at place) place.history (Delete id ∷ []))) r) (sym here)
-        (subst (λ clash. IsPlanFor (option_and_then (λ fault. refusal_in (update_of_command fault)) (client.delete_refusal at_first run id)) clash r) (sym (clash-at (Delete id)))
+        (subst (λ clash. IsPlanFor (option_and_then (λ fault. refusal_in (answer_to_command fault)) (client.delete_refusal at_first run id)) clash r) (sym (clash-at (Delete id)))
         (plan_for (client.delete_refusal at_first run id) (collision_next f (keys_at place) at_first run (Delete id)) (refuses_to_delete run id) (no_places f (keys_at place) run (Delete id)) r fault))
 
 -- What a client stands for.

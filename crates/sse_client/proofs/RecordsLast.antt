@@ -1,20 +1,21 @@
--- What is kept lasts: at a stop that isn't for the record of a command, what keeps the records takes more of them, and each file that a
--- crash may leave of a journal gives its records.
-use Rattle.std.proofs.Common.{◌≡◌, ◌≢◌, ℕ, List, Option, None, Some, Result, Ok, Err, IsErrAnd, refl, sym, subst}
+-- What is kept lasts: at a stop that isn't for the record of a command, what keeps the records takes more of them, and the file of a
+-- journal is exactly that of its records, also after a crash.
+use Rattle.std.proofs.Common.{◌≡◌, ◌≢◌, ℕ, List, Option, None, Some, Result, Ok, Err, IsErrAnd, refl, sym, ap, ◌∙◌, subst}
+use Rattle.std.specs.Prelude.{All, IfSome}
+use Rattle.client_journal.specs.Openings.{IsOfRecords}
 use Rattle.script_run_texts.specs.Stops.{stop_status}
 use Rattle.script_run_texts.specs.declared.command_stop.CommandStop.{CommandStop}
 use Rattle.script_run_texts.specs.declared.command_stop.CommandStop.TheVariants as commands
 use Rattle.script_run_texts.specs.declared.stop_cause.StopCause.{StopCause}
 use Rattle.script_run_texts.specs.declared.stop_cause.StopCause.TheVariants as stops
 use Rattle.sse_journal.proofs.FileRecords.{records_of_journal}
-use Rattle.sse_journal.proofs.Once.{file_gives}
-use Rattle.sse_journal.specs.FileRecords.{TakesRecords, records_in_file}
-use Rattle.sse_journal.specs.Files.{Gives}
+use Rattle.sse_journal.specs.FileRecords.{records_in_file}
+use Rattle.sse_journal.specs.Files.{IsPayload, file}
 use Rattle.sse_journal.specs.declared.journal.Journal.{Journal}
 use Rattle.sse_outside.specs.declared.device_fault.DeviceFault.TheVariants as devices
 use Rattle.sse_client.proofs.TranscriptsJoined.{IfErr-from, may_stop-ok}
 use Rattle.sse_client.specs.RecordKept.{StaysWhole, WholeAt, WholeAtStop}
-use Rattle.sse_client.specs.OnDisk.{Lasts}
+use Rattle.sse_client.specs.OnDisk.{IsExact}
 
 pub StaysWhole-err : {T E : Type 0} (showing : Type 0 → E → Type 0) (whole : Type 0) (r : Result T E) (stop : E) → IsErrAnd r (λ e. e ≡ stop) → showing whole stop → StaysWhole showing whole r
 StaysWhole-err showing whole r stop is holds = record { after = may_stop-ok r stop is _; stopped = IfErr-from r stop (showing whole) is holds }
@@ -22,7 +23,10 @@ StaysWhole-err showing whole r stop is holds = record { after = may_stop-ok r st
 -- what is whole is so at every stop
 pub whole_at : (whole : Type 0) → whole → (stop : CommandStop) → WholeAt whole stop
 whole_at whole is (commands.Keeping fault) = tt
-whole_at whole is (commands.Planning stop) = is
+whole_at whole is (commands.LabelClash first second) = is
+whole_at whole is (commands.PlaceClash first second) = is
+whole_at whole is (commands.NumberClash first second) = is
+whole_at whole is commands.Memory = is
 whole_at whole is (commands.Exchange stop) = is
 
 pub whole_at_stop : (whole : Type 0) → whole → (stop : StopCause) → WholeAtStop whole stop
@@ -40,18 +44,24 @@ StaysWhole-same whole is (Err stop) = record { after = tt; stopped = whole_at wh
 pub whole_but_kept : (whole : Type 0) (stop : StopCause) → WholeAtStop whole stop → stop_status stop ≢ 6 → stop_status stop ≢ 7 → whole
 whole_but_kept whole (stops.Command (commands.Keeping devices.Failed)) is disk memory = absurd (disk refl)
 whole_but_kept whole (stops.Command (commands.Keeping devices.NoMemory)) is disk memory = absurd (memory refl)
-whole_but_kept whole (stops.Command (commands.Planning stop)) is disk memory = is
+whole_but_kept whole (stops.Command (commands.LabelClash first second)) is disk memory = is
+whole_but_kept whole (stops.Command (commands.PlaceClash first second)) is disk memory = is
+whole_but_kept whole (stops.Command (commands.NumberClash first second)) is disk memory = is
+whole_but_kept whole (stops.Command commands.Memory) is disk memory = is
 whole_but_kept whole (stops.Command (commands.Exchange stop)) is disk memory = is
 whole_but_kept whole stops.Words is disk memory = is
 whole_but_kept whole (stops.Input stop) is disk memory = is
 whole_but_kept whole stops.Sink is disk memory = is
 whole_but_kept whole stops.Memory is disk memory = is
 
--- a journal that takes records is of those that each file gives which a crash may leave
-pub takes_lasts : (j : Journal) (content : Option (List ℕ)) (images : List ℕ → Type 0) → TakesRecords j content images → Lasts content images
-takes_lasts j None images takes = tt
-takes_lasts j (Some held) images takes = λ image left.
-    let payloads = takes.holds.0 in
-    let of = takes.holds.1 in
-    let records : records_in_file held ≡ payloads = (let is = records_of_journal payloads j (Some held) images of in cc) in
-    subst (λ r. Gives r image) (sym records) (subst (Gives payloads) (sym (of.settled.durable image left)) (file_gives payloads of.payloads_are))
+-- a disk that holds the records of a journal has a file that is exactly theirs, and a crash leaves no other
+pub holds_exact : (j : Journal) (content : Option (List ℕ)) (images : List ℕ → Type 0) → IfSome content (λ file. IsOfRecords j content images) → IsExact content images
+holds_exact j None images of = tt
+holds_exact j (Some held) images of =
+    let records : records_in_file held ≡ of.0 = (let is = records_of_journal of.0 j (Some held) images of.1 in cc) in
+    let reads : held ≡ file of.0 = (let is = of.1.settled.reads in cc) in
+    record {
+      payloads_are = subst (All IsPayload) (sym records) of.1.payloads_are;
+      are = reads ∙ ap (λ payloads. file payloads) (sym records);
+      durable = λ image left. of.1.settled.durable image left ∙ sym reads;
+    }

@@ -36,7 +36,6 @@ use Rattle.sse_client.specs.declared.session.Stage.{Stage}
 use Rattle.script_run_texts.specs.declared.input_stop.InputStop.{InputStop}
 use Rattle.script_run_texts.specs.declared.input_stop.InputStop.TheVariants as inputs
 use Rattle.script_run_texts.specs.declared.stop_cause.StopCause.{StopCause}
-use Rattle.script_run_texts.specs.declared.stop_cause.StopCause.TheVariants as stops
 
 -- One command.
 
@@ -64,13 +63,13 @@ module _ (f : KeyedFn) (stage next : Stage) (came : LineResult) (request : Reque
   pub stops-unprinted : (fault : DeviceFault) → TookFront before after_it (flat_map text_of (line_result_view came)) → StopsRun f stage request (outside_of old before) (outside_of new after_it) (stop_view (stop_of_sink fault))
   stops-unprinted fault front = λ place at.
       let g = takes place at in
-      inr (inr (inr (inr (record {
+      inr (record {
         stops = sink_stop fault;
         kept = g.kept;
         answers = g.answers;
         sent = g.sent;
         printed = subst (TookFront before after_it) (text_of_came g.answers came (outcome place request) g.shown) front;
-      }))))
+      })
 
 -- Lines.
 

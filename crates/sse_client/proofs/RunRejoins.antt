@@ -42,31 +42,32 @@ use Rattle.sse_script.specs.Shown as says
 use Rattle.sse_script.specs.Shown.{Cause}
 use Rattle.sse_script.specs.Texts.{text_of}
 use Rattle.def_script_meaning.proofs.FollowedPlaces.{follow-key}
-use Rattle.def_script_meaning.proofs.GoneAsMeant.{Adds-nothing, AreExchanged-none}
 use Rattle.def_script_meaning.proofs.Kept.{IsKeptAt, IsKeptAt-opened, IsWithinItem, kept_follow}
 use Rattle.def_script_meaning.proofs.JoinedSessions.{count_alone, opened_by, took_all}
 use Rattle.def_script_meaning.proofs.LeftServers.{rejoined_leaves}
-use Rattle.def_script_meaning.proofs.RecordedBehind.{recorded_behind}
+use Rattle.def_script_meaning.proofs.RecordedBehind.{recorded_behind, rejoined_is_kept}
 use Rattle.def_script_meaning.proofs.RejoinedSessions.{length-frames_under, rejoined, rejoined_status}
+use Rattle.def_script_meaning.proofs.SimulatedAfter.{resumes_simulated}
 use Rattle.def_script_meaning.proofs.Within.{IsWithin-lines_in, meaning_is_kept}
 use Rattle.def_script_meaning.specs.Carries.{Outside}
 use Rattle.def_script_meaning.specs.Continues.{at_run}
-use Rattle.def_script_meaning.specs.Exchange.{Told, AreCut, AreExchanged, IsCut, as_event}
+use Rattle.def_script_meaning.specs.Exchange.{Told, AreCut, AreExchanged, as_event}
 use Rattle.def_script_meaning.specs.Goes.{frames_in_hand, frames_of_last}
 use Rattle.def_script_meaning.specs.Headline.{Headline, IsOverHonest, IsUndisturbed}
 use Rattle.def_script_meaning.specs.Joined.{updates_of, LeavesServer, LeavesTaken}
 use Rattle.def_script_meaning.specs.Lines.{Line, Empty, Key, Command as CommandLine, script_lines}
 use Rattle.def_script_meaning.specs.Meaning.{meaning}
 use Rattle.def_script_meaning.specs.Recorded.{records_in, records_with}
-use Rattle.def_script_meaning.specs.Rejoins.{frames_under, lacking, CatchesUp, HasSent, Rejoins, Rejoined}
+use Rattle.def_script_meaning.specs.Rejoins.{frames_under, lacking, CatchesUp, HasSent, IsRecordedBehind, Rejoins, Rejoined}
 use Rattle.def_script_meaning.specs.Runs.{Ended, Ends, IsGreeted, StopsReading}
 use Rattle.def_script_meaning.specs.Session.{IsFree, frames_with}
+use Rattle.def_script_meaning.specs.SimulatedAfter.{ResumesSimulated}
 use Rattle.def_script_meaning.specs.Stops.{At, status_of}
 use Rattle.sse_script.specs.TextLines.{lines_of}
-use Rattle.sse_client.specs.CanGoOn.{CanGoOn, CanResume, IsRecordedAfter, StopsUnsent, meaning_after}
+use Rattle.sse_client.specs.CanGoOn.{CanGoOn, CanResume, IsRecordedAfter, SendsSimulatedFrom, StopsUnsent, meaning_after}
 use Rattle.sse_client.specs.LastLine.{EndsLine}
 use Rattle.sse_client.proofs.LastLine.{Ends-line}
-use Rattle.sse_client.specs.ResumedRun.{GoesOnBehindKey, GoesOnFrom, GoesOnOver, HasResent, IsFound, IsHeldUp, IsUnrestored, AtKeyLine, collision_again, frames_lacking}
+use Rattle.sse_client.specs.ResumedRun.{GoesOnBehindKey, GoesOnFrom, GoesOnOver, HasResent, IsFound, IsHeldUp, IsUnrestored, AtKeyLine, Restores, collision_again, frames_lacking}
 use Rattle.sse_client.specs.KeyLines.{KeyLine, Keyed, Missing, key_line}
 use Rattle.sse_client.specs.OnDisk.{HasGoneOn}
 
@@ -216,7 +217,7 @@ module _ (f : KeyedFn) (key : List ℕ) (run : Run) (updates : filter is_update 
         open_session next told found (inl (record {
           cause = h.cause;
           stops = h.stops;
-          short = inr (same, (c, is), λ free. no_collision (collision_again f key run) c again (none_again f key run kept free));
+          short = inr (inr (same, (c, is), λ free. no_collision (collision_again f key run) c again (none_again f key run kept free)));
           unkept = h.unkept;
           unprinted = h.unprinted;
           same_key = h.same_key;
@@ -226,19 +227,7 @@ module _ (f : KeyedFn) (key : List ℕ) (run : Run) (updates : filter is_update 
         open_session next told found (inl (record {
           cause = h.cause;
           stops = h.stops;
-          short = inl (
-            [],
-            same ∙ Adds-nothing told,
-            record {
-              n = 0;
-              answers = [];
-              before = [];
-              cut = [];
-              parts = refl;
-              exchanged = AreExchanged-none;
-              one_more = nothing_of (lacking f key run next) h.cause memory;
-            },
-          );
+          short = inr (inl (same, memory));
           unkept = h.unkept;
           unprinted = h.unprinted;
           same_key = h.same_key;
@@ -255,10 +244,6 @@ module _ (f : KeyedFn) (key : List ℕ) (run : Run) (updates : filter is_update 
           history = h.history;
         }))
   ]
-    where
-      nothing_of : (frames : List FrameText) (cause : Cause) → cause ≡ says.NoMemory → IsCut frames [] cause
-      nothing_of [] cause memory = (refl, memory)
-      nothing_of (frame ∷ frames) cause memory = inr memory
 
   module _ (new : Told) (frames : ℕ) (resent : HasResent f key run now.told new frames) where
     sent : HasSent (lacking f key run resent.next) resent.greeted new
@@ -307,20 +292,22 @@ within_behind number (Some Empty ∷ rest) key next lines is all = within_behind
 within_behind number (Some (Key other) ∷ rest) key next lines is all = subst (AllByRecursion IsWithinItem) (let same : rest ≡ lines = cc in same) all.1
 within_behind number (Some (CommandLine line) ∷ rest) key next lines is all = absurd (cc)
 
+lines_within : (bytes key : List ℕ) (number : ℕ) (lines : List (Option Line)) → key_line 1 (script_lines bytes) ≡ Keyed key number lines → AllByRecursion IsWithinItem lines
+lines_within bytes key number lines found = within_behind 1 (script_lines bytes) key number lines found (IsWithin-lines_in (lines_of bytes))
+
+-- and the place after a history that keeps all limits keeps them
+kept_at_run : (key : List ℕ) (run : Run) → IsKept (Some run) → IsKeptAt (length run.later) (at_run key [] run)
+kept_at_run key run kept = record { documents = (IsKeptAt-opened 0 key).documents; history = kept; few = omega arith }
+
 -- what such records and such a script make: no search stands among the commands, and the lines behind the key line go on with a history
 -- that keeps its rules
 module _ (f : KeyedFn) (bytes : List ℕ) (records : Kept) (before : ServerState) (has : CanResume f bytes records before) where
   pub updates_behind : filter is_update has.run.later ≡ has.run.later
   updates_behind = opened_updates (mark_of f has.key) has.payloads has.run has.opens
 
-  lines_within : AllByRecursion IsWithinItem has.lines
-  lines_within = within_behind 1 (script_lines bytes) has.key has.number has.lines has.found (IsWithin-lines_in (lines_of bytes))
-
-  kept_at_run : IsKeptAt (length has.run.later) (at_run has.key [] has.run)
-  kept_at_run = record { documents = (IsKeptAt-opened 0 has.key).documents; history = has.opens.kept; few = omega arith }
-
   pub kept_behind : IsKept (meaning_after has.key has.run has.number has.lines).history
-  kept_behind = (kept_follow (length has.run.later) (at_run has.key [] has.run) has.number has.lines false lines_within kept_at_run).0
+  kept_behind =
+      (kept_follow (length has.run.later) (at_run has.key [] has.run) has.number has.lines false (lines_within bytes has.key has.number has.lines has.found) (kept_at_run has.key has.run has.opens.kept)).0
 
 -- The records.
 
@@ -399,37 +386,59 @@ module _ (f : KeyedFn) (laws : IsKeyedFn f) (bytes : List ℕ) (now last : Outsi
 
   -- The records, and the frames.
 
-  recorded_of : (payloads : List (List ℕ)) → now.kept.records ≡ Some payloads → (key : List ℕ) (number : ℕ) (lines : List (Option Line)) → GoesOnBehindKey f key number lines now end → IsRecordedAfter f payloads now end
-  recorded_of payloads told key number lines (inl (cause, why, ends)) = inl (ap (λ (e : Ended). e.outside.told) ends, ap (λ (e : Ended). e.outside.kept) ends)
-  recorded_of payloads told key number lines (inr (run, restores, goes)) =
-      let opens : Opens (mark_of f key) payloads run = of_told f key now.kept payloads told (λ ps. Opens (mark_of f key) ps run) restores.1 in
-      let updates : filter is_update run.later ≡ run.later = opened_updates (mark_of f key) payloads run opens in
-      inr (
-        key,
-        run,
-        opens,
-        recorded_behind f key run (first_of_last f key run) (update_frames run) number lines now end (omega (arith, length-frames_under f key run updates)) (rejoins f key run updates restores.0 number lines now end goes),
-      )
+  module _ (payloads : List (List ℕ)) (told : now.kept.records ≡ Some payloads) where
+    -- it goes on after the history of its records
+    module _ (key : List ℕ) (number : ℕ) (lines : List (Option Line)) (run : Run) (restores : Restores f key now.kept run) (goes : GoesOnFrom f key run number lines now end) where
+      opens : Opens (mark_of f key) payloads run
+      opens = of_told f key now.kept payloads told (λ ps. Opens (mark_of f key) ps run) restores.1
 
-  recorded_at : (payloads : List (List ℕ)) → now.kept.records ≡ Some payloads → (k : KeyLine) → AtKeyLine f k now end → IsRecordedAfter f payloads now end
-  recorded_at payloads told (Keyed key number lines) at = recorded_of payloads told key number lines at
-  recorded_at payloads told (Missing number) at = inl (ap (λ (e : Ended). e.outside.told) at, ap (λ (e : Ended). e.outside.kept) at)
+      updates_only : filter is_update run.later ≡ run.later
+      updates_only = opened_updates (mark_of f key) payloads run opens
 
-  recorded_so : (payloads : List (List ℕ)) → now.kept.records ≡ Some payloads → IsRecordedAfter f payloads now end
-  recorded_so payloads told = elim goes_on [
-    | inl reading ↦ inl (elim reading [
-      | inl e ↦ (ap (λ (s : Ended). s.outside.told) e, ap (λ (s : Ended). s.outside.kept) e)
-      | inr e ↦ (ap (λ (s : Ended). s.outside.told) e, ap (λ (s : Ended). s.outside.kept) e)
-    ])
-    | inr at ↦ recorded_at payloads told (key_line 1 (script_lines bytes)) at
-  ]
+      session : Rejoins f (first_of_last f key run) (update_frames run) key run number lines now end
+      session = rejoins f key run updates_only restores.0 number lines now end goes
 
-  recorded_after : IfSome now.kept.records (λ payloads. IsRecordedAfter f payloads now end)
-  recorded_after = by now.kept.records refl
+      records : IsRecordedBehind f key run now end
+      records = recorded_behind f key run (first_of_last f key run) (update_frames run) number lines now end (omega (arith, length-frames_under f key run updates_only)) session
+
+      simulated : key_line 1 (script_lines bytes) ≡ Keyed key number lines → ResumesSimulated f key run now end
+      simulated found =
+          resumes_simulated f key run now end records
+          (rejoined_is_kept f key run (first_of_last f key run) (update_frames run) number lines now end (length run.later)
+          (lines_within bytes key number lines found) (kept_at_run key run restores.0) session)
+
+    recorded_at : (k : KeyLine) → AtKeyLine f k now end → IsRecordedAfter f payloads now end
+    recorded_at (Keyed key number lines) (inl (cause, why, ends)) = inl (ap (λ (e : Ended). e.outside.told) ends, ap (λ (e : Ended). e.outside.kept) ends)
+    recorded_at (Keyed key number lines) (inr (run, restores, goes)) = inr (key, run, opens key number lines run restores goes, records key number lines run restores goes)
+    recorded_at (Missing number) at = inl (ap (λ (e : Ended). e.outside.told) at, ap (λ (e : Ended). e.outside.kept) at)
+
+    simulated_at : (k : KeyLine) → key_line 1 (script_lines bytes) ≡ k → AtKeyLine f k now end → SendsSimulatedFrom f payloads now end
+    simulated_at (Keyed key number lines) found (inl (cause, why, ends)) = inl (ap (λ (e : Ended). e.outside.told) ends)
+    simulated_at (Keyed key number lines) found (inr (run, restores, goes)) = inr (key, run, opens key number lines run restores goes, simulated key number lines run restores goes found)
+    simulated_at (Missing number) found at = inl (ap (λ (e : Ended). e.outside.told) at)
+
+    recorded_so : IsRecordedAfter f payloads now end
+    recorded_so = elim goes_on [
+      | inl reading ↦ inl (elim reading [
+        | inl e ↦ (ap (λ (s : Ended). s.outside.told) e, ap (λ (s : Ended). s.outside.kept) e)
+        | inr e ↦ (ap (λ (s : Ended). s.outside.told) e, ap (λ (s : Ended). s.outside.kept) e)
+      ])
+      | inr at ↦ recorded_at (key_line 1 (script_lines bytes)) at
+    ]
+
+    simulated_so : SendsSimulatedFrom f payloads now end
+    simulated_so = elim goes_on [
+      | inl reading ↦ inl (elim reading [ inl e ↦ ap (λ (s : Ended). s.outside.told) e | inr e ↦ ap (λ (s : Ended). s.outside.told) e ])
+      | inr at ↦ simulated_at (key_line 1 (script_lines bytes)) refl at
+    ]
+
+  -- if the records are told
+  if_told : (P : List (List ℕ) → Type 0) → ((payloads : List (List ℕ)) → now.kept.records ≡ Some payloads → P payloads) → IfSome now.kept.records P
+  if_told P holds = by now.kept.records refl
     where
-      by : (records : Option (List (List ℕ))) → now.kept.records ≡ records → IfSome records (λ payloads. IsRecordedAfter f payloads now end)
+      by : (records : Option (List (List ℕ))) → now.kept.records ≡ records → IfSome records P
       by None told = tt
-      by (Some payloads) told = recorded_so payloads told
+      by (Some payloads) told = holds payloads told
 
   -- Where it can go on.
 
@@ -441,10 +450,10 @@ module _ (f : KeyedFn) (laws : IsKeyedFn f) (bytes : List ℕ) (now last : Outsi
     updates = updates_behind f bytes now.kept can.before has
 
     abbrev within : AllByRecursion IsWithinItem has.lines
-    within = lines_within f bytes now.kept can.before has
+    within = lines_within bytes has.key has.number has.lines has.found
 
     abbrev kept_at : IsKeptAt (length has.run.later) (at_run has.key [] has.run)
-    kept_at = kept_at_run f bytes now.kept can.before has
+    kept_at = kept_at_run has.key has.run has.opens.kept
 
     near : update_frames has.run ≤ first_of_last f has.key has.run + frames_in_hand (Some has.run)
     near = omega (arith, length-last_frames f has.key has.run)
@@ -522,7 +531,8 @@ module _ (f : KeyedFn) (laws : IsKeyedFn f) (bytes : List ℕ) (now last : Outsi
       line = line;
       status_is = is;
       unsent = stops_unsent;
-      recorded = recorded_after;
+      recorded = if_told (λ payloads. IsRecordedAfter f payloads now end) recorded_so;
+      simulated = if_told (λ payloads. SendsSimulatedFrom f payloads now end) simulated_so;
       honest = λ can free. honest_after can told free;
       left = λ can free. left_after can told free;
       headline = λ can free calm. headline_after can told ends free calm;
@@ -532,7 +542,7 @@ module _ (f : KeyedFn) (laws : IsKeyedFn f) (bytes : List ℕ) (now last : Outsi
 
 -- Promise P147 (inside): Two undisturbed runs in a row, the second with `more`, are without the second greeting one session of one history, which the simulator makes.
 --   assumes: observable devices, honest link, no collision, no device fault, enough memory, keyed function; not: A first run that was interrupted, a third session, a link that
---     isn't honest. No call makes both runs. A first run over a journal that has records.
+--     isn't honest: P182. No call makes both runs. A first run over a journal that has records.
 -- what a run left that nothing disturbed, over records of which there were none, is what one supposes that goes on under its key
 pub can_go_on : (f : KeyedFn) (laws : IsKeyedFn f) (start between state : ServerState) (script bytes key : List ℕ) (run : Run) (now last now' last' : Outside) (status number : ℕ) (lines : List (Option Line))
     → Headline f start (meaning script) now last status between → (meaning script).key ≡ Some key → (meaning script).history ≡ Some run → now.kept.records ≡ Some [] → Expects 0 start

@@ -23,9 +23,9 @@ use Rattle.def_script_meaning.specs.Carries.{collision_cause}
 use Rattle.def_script_meaning.specs.Refused.{size_refused}
 use Rattle.client_core.specs.Owes.{AreNumbered}
 use Rattle.sse_client.specs.SetupFaults.{setup_answer}
-use Rattle.script_run_texts.specs.Stops.{plan_cause}
-use Rattle.script_run_texts.specs.declared.plan_stop.PlanStop.{PlanStop}
-use Rattle.script_run_texts.specs.declared.plan_stop.PlanStop.TheVariants as plans
+use Rattle.script_run_texts.specs.Stops.{command_cause}
+use Rattle.script_run_texts.specs.declared.command_stop.CommandStop.{CommandStop}
+use Rattle.script_run_texts.specs.declared.command_stop.CommandStop.TheVariants as stops
 
 -- the frames of a setup are numbered one after the other
 pub frames_of_setup-are_numbered : (t : Table) (o : Offsets) (s : Setup) → AreNumbered o.frame (frames_of_setup t o s)
@@ -42,18 +42,18 @@ no_clash_cause None None none = refl
 no_clash_cause None (Some blocks) none = absurd (cc)
 no_clash_cause (Some words) places none = absurd (cc)
 
-found_cause : (labels places : Option (ℕ × ℕ)) (fault : BuildFault) (stop : PlanStop) → first_of labels places ≡ Some fault → setup_answer fault ≡ Err stop → clash_cause labels places ≡ Some (plan_cause stop)
+found_cause : (labels places : Option (ℕ × ℕ)) (fault : BuildFault) (stop : CommandStop) → first_of labels places ≡ Some fault → setup_answer fault ≡ Err stop → clash_cause labels places ≡ Some (command_cause stop)
 found_cause None None fault stop found answer = absurd (cc)
 found_cause None (Some blocks) fault stop found answer =
     let is : builds.PlaceClash blocks.0 blocks.1 ≡ fault = cc in
     let it : setup_answer (builds.PlaceClash blocks.0 blocks.1) ≡ Err stop = subst (λ x. setup_answer x ≡ Err stop) (sym is) answer in
-    let same : plans.PlaceClash blocks.0 blocks.1 ≡ stop = cc in
-    ap (λ s. Some (plan_cause s)) same
+    let same : stops.PlaceClash blocks.0 blocks.1 ≡ stop = cc in
+    ap (λ s. Some (command_cause s)) same
 found_cause (Some words) places fault stop found answer =
     let is : builds.LabelClash words.0 words.1 ≡ fault = cc in
     let it : setup_answer (builds.LabelClash words.0 words.1) ≡ Err stop = subst (λ x. setup_answer x ≡ Err stop) (sym is) answer in
-    let same : plans.LabelClash words.0 words.1 ≡ stop = cc in
-    ap (λ s. Some (plan_cause s)) same
+    let same : stops.LabelClash words.0 words.1 ≡ stop = cc in
+    ap (λ s. Some (command_cause s)) same
 
 -- a clash refuses no command
 no_refusal : (labels places : Option (ℕ × ℕ)) (fault : BuildFault) (refusal : Refusal) → first_of labels places ≡ Some fault → setup_answer fault ≡ Ok refusal → ⊥
@@ -131,8 +131,8 @@ module _ (f : KeyedFn) (key : List ℕ) (s : Setup) where
     ]
 
     -- where the run stops, the size is right, and two values are equal or memory is wanting
-    pub stopped_plan : (stop : PlanStop) → setup_answer fault ≡ Err stop
-        → (size_refusal s ≡ None) × ((clash_cause (label_clash f key s) (place_clash f key s) ≡ Some (plan_cause stop)) ⊎ (stop ≡ plans.Memory))
+    pub stopped_plan : (stop : CommandStop) → setup_answer fault ≡ Err stop
+        → (size_refusal s ≡ None) × ((clash_cause (label_clash f key s) (place_clash f key s) ≡ Some (command_cause stop)) ⊎ (stop ≡ stops.Memory))
     stopped_plan stop answer = elim is_for [
       | inl size ↦
           let told : setup_answer (refused_by_size size.0) ≡ Err stop = subst (λ x. setup_answer x ≡ Err stop) size.2 answer in
@@ -141,6 +141,6 @@ module _ (f : KeyedFn) (key : List ℕ) (s : Setup) where
       | inr (inl clash) ↦ (clash.0, inl (found_cause (label_clash f key s) (place_clash f key s) fault stop clash.1 answer))
       | inr (inr memory) ↦
           let told : setup_answer builds.NoMemory ≡ Err stop = subst (λ x. setup_answer x ≡ Err stop) memory.1 answer in
-          let same : stop ≡ plans.Memory = cc in
+          let same : stop ≡ stops.Memory = cc in
           (memory.0, inr same)
     ]

@@ -113,6 +113,11 @@ may_stop-ok (Err e) stop is P = tt
 pub KeepsLink-err : {T E : Type 0} (showing : ℕ → ℕ → E → Type 0) (old new : LinkShows) (r : Result T E) (stop : E) → IsErrAnd r (λ e. e ≡ stop) → new.began ≡ old.began → showing old.faults new.faults stop → KeepsLink showing old new r
 KeepsLink-err showing old new r stop is began cause = record { began = began; steady = may_stop-ok r stop is _; cause = IfErr-from r stop (showing old.faults new.faults) is cause }
 
+-- a call that exchanges nothing leaves the link as it is
+pub KeepsLink-none : {T E : Type 0} (showing : ℕ → ℕ → E → Type 0) (link : LinkShows) (r : Result T E) → IfErr r (λ e. (m : ℕ) → showing m m e) → KeepsLink showing link link r
+KeepsLink-none showing link (Ok x) none = record { began = refl; steady = refl; cause = tt }
+KeepsLink-none showing link (Err e) none = record { began = refl; steady = tt; cause = none link.faults }
+
 pub KeepsSource-err : {T E : Type 0} (showing : ℕ → ℕ → E → Type 0) (before now : ℕ) (r : Result T E) (stop : E) → IsErrAnd r (λ e. e ≡ stop) → showing before now stop → KeepsSource showing before now r
 KeepsSource-err showing before now r stop is cause = record { steady = may_stop-ok r stop is _; cause = IfErr-from r stop (showing before now) is cause }
 

@@ -1,6 +1,6 @@
 -- How a session carries out an addition or a deletion: what its plan says at the place where it stands, and that it is done.
 use Rattle.std.proofs.Common.{◌≡◌, ◌≤◌, arith, ◌⊎◌, inl, inr, ℕ, true, false, List, [], ◌∷◌, map, refl, sym, ap, subst, ◌∙◌}
-use Rattle.std.specs.Prelude.{◌≢◌, filter, Option, None, Some, Result, Ok, Err, IfOk, IfErr, IfSome, IsErrAnd, OnErr}
+use Rattle.std.specs.Prelude.{◌≢◌, filter, Option, None, Some, Result, Ok, Err, IfOk, IfErr, IfSome, OnErr}
 use Rattle.std.specs.Option.{option_and_then, option_or}
 use Rattle.std.specs.Result.{result_err}
 use Rattle.client_core.specs.StandsFor as core
@@ -22,14 +22,14 @@ use Rattle.keyed_fn.specs.KeyedFn.{KeyedFn}
 use Rattle.sse_frames.specs.Frames.{FrameText, frame_bytes}
 use Rattle.sse_model.specs.Histories.{frames_of_next}
 use Rattle.sse_script.specs.Shown as says
-use Rattle.sse_script.specs.Shown.{Shown, Cause}
+use Rattle.sse_script.specs.Shown.{Cause}
 use Rattle.sse_script.specs.declared.refusal.Refusal.{Refusal}
 use Rattle.script_documents.specs.Refused.{document_refusal}
 use Rattle.script_documents.specs.LineFaults.{SaysRefusal}
 use Rattle.script_documents.specs.declared.line_fault.LineFault.{LineFault}
 use Rattle.script_documents.specs.declared.line_fault.LineFault.TheVariants as lines
 use Rattle.def_script_meaning.specs.Carries.{Keeps, keys_at, with_answers, StopsIn}
-use Rattle.def_script_meaning.specs.Outcome.{Place, Outcome, Does, unless}
+use Rattle.def_script_meaning.specs.Outcome.{Place, Printed, Outcome, Does, unless}
 use Rattle.def_script_meaning.specs.Refused.{add_refusal, delete_refusal}
 use Rattle.def_script_meaning.specs.Stops.{At}
 use Rattle.sse_client.specs.Exchanges.{HasExchanged}
@@ -37,23 +37,22 @@ use Rattle.sse_client.specs.RecordKept.{SendsKept}
 use Rattle.script_run_texts.specs.LineResultViews.{line_result_view, refuses}
 use Rattle.client_core.specs.Owes.{AreNumbered}
 use Rattle.sse_client.specs.Stands.{IsAt, Seen, GoesOn, outside_of}
-use Rattle.script_run_texts.specs.Stops.{command_cause, plan_cause}
+use Rattle.script_run_texts.specs.Stops.{command_cause}
 use Rattle.script_run_texts.specs.declared.command_stop.CommandStop.{CommandStop}
-use Rattle.sse_client.specs.UpdateFaults.{refusal_in, update_of_line, update_of_command}
-use Rattle.sse_client.specs.UpdatePlans.{IsRefused, IsUpdateFault, IsUpdatePlan, IsPlanOf, clash_of}
+use Rattle.script_run_texts.specs.declared.command_stop.CommandStop.TheVariants as stops
+use Rattle.sse_client.specs.UpdateFaults.{answer_to_command, answer_to_line, refusal_in}
+use Rattle.sse_client.specs.UpdatePlans.{IfPlanned, IsRefused, IsUnplanned, IsUpdatePlan, IsPlanOf, StopsPlan, clash_of}
 use Rattle.script_run_texts.specs.declared.line_result.LineResult.{LineResult}
-use Rattle.script_run_texts.specs.declared.plan_stop.PlanStop.{PlanStop}
-use Rattle.script_run_texts.specs.declared.plan_stop.PlanStop.TheVariants as plans
 use Rattle.sse_client.specs.declared.session.Stage.TheVariants.{Searching}
-use Rattle.sse_client.specs.declared.update_fault.UpdateFault.{UpdateFault}
-use Rattle.sse_client.specs.declared.update_fault.UpdateFault.TheVariants as updates
+use Rattle.sse_client.specs.declared.update_answer.UpdateAnswer.{UpdateAnswer}
+use Rattle.sse_client.specs.declared.update_answer.UpdateAnswer.TheVariants as answers
 use Rattle.sse_client.proofs.CommandTaken.{goes-refused, stops-kept, stops-memory}
 use Rattle.sse_client.proofs.PlansOfUpdates.{IsPlanFor, frames-at, plan-add-at, plan-delete-at, refuses-delete}
 
 -- Plans.
 
 -- a fault of the words of a document is that of its addition
-pub line_fault : (place : Place) (d : Document) (clash : Option Cause) (fault : LineFault) → SaysRefusal fault (document_refusal d.id d.words) → IsUpdateFault (add_refusal place.history d) clash (update_of_line fault)
+pub line_fault : (place : Place) (d : Document) (clash : Option Cause) (fault : LineFault) → SaysRefusal fault (document_refusal d.id d.words) → IsUnplanned (add_refusal place.history d) clash (answer_to_line fault)
 line_fault place d clash (lines.Refused refusal) says = first (document_refusal d.id d.words) _ refusal says
   where
     first : (a b : Option Refusal) (refusal : Refusal) → Some refusal ≡ a → option_or a b ≡ Some refusal
@@ -61,15 +60,45 @@ line_fault place d clash (lines.Refused refusal) says = first (document_refusal 
     first (Some x) b refusal is = sym is
 line_fault place d clash lines.NoMemory says = inl refl
 
--- a call that ended with such a fault made no plan
-pub unplanned : (f : KeyedFn) (place : Place) (why : Option Refusal) (c : Command) (r : Result PlannedUpdate UpdateFault) (fault : UpdateFault) → IsErrAnd r (λ e. e ≡ fault) → IsUpdateFault why (clash_of f place c) fault → IsUpdatePlan f place why c r
-unplanned f place why c (Ok planned) fault is says = absurd is
-unplanned f place why c (Err e) fault is says = record { planned = tt; fault = subst (IsUpdateFault why (clash_of f place c)) (sym is) says }
+-- such an answer is no plan
+pub unplanned : (f : KeyedFn) (place : Place) (why : Option Refusal) (c : Command) (answer : Result UpdateAnswer CommandStop) → IsUnplanned why (clash_of f place c) answer → IsUpdatePlan f place why c answer
+unplanned f place why c (Ok (answers.Planned planned)) isnt = absurd isnt
+unplanned f place why c (Ok (answers.Refused shown)) is = is
+unplanned f place why c (Err stop) is = is
 
--- the refusal that a fault is
-named_refusal : (fault : UpdateFault) (why : Refusal) → refusal_in fault ≡ Some why → fault ≡ updates.Refused why
-named_refusal (updates.Refused refusal) why is = cc
-named_refusal (updates.Stopped stop) why is = absurd (cc)
+-- no fault has a plan
+pub no_plan-line : (fault : LineFault) (P : PlannedUpdate → Type 0) → IfPlanned (answer_to_line fault) P
+no_plan-line (lines.Refused refusal) P = tt
+no_plan-line lines.NoMemory P = tt
+
+pub no_plan : (fault : CommandFault) (P : PlannedUpdate → Type 0) → IfPlanned (answer_to_command fault) P
+no_plan (commands.AlreadyLive id) P = tt
+no_plan (commands.UnknownDocument id) P = tt
+no_plan (commands.CounterFull position) P = tt
+no_plan commands.HistoryFull P = tt
+no_plan (commands.LabelClash first second) P = tt
+no_plan (commands.NumberClash first second) P = tt
+no_plan commands.NoMemory P = tt
+
+-- what stops the run in planning
+pub stops_plan-line : (fault : LineFault) → IfErr (answer_to_line fault) StopsPlan
+stops_plan-line (lines.Refused refusal) = tt
+stops_plan-line lines.NoMemory = tt
+
+pub stops_plan : (fault : CommandFault) → IfErr (answer_to_command fault) StopsPlan
+stops_plan (commands.AlreadyLive id) = tt
+stops_plan (commands.UnknownDocument id) = tt
+stops_plan (commands.CounterFull position) = tt
+stops_plan commands.HistoryFull = tt
+stops_plan (commands.LabelClash first second) = tt
+stops_plan (commands.NumberClash first second) = tt
+stops_plan commands.NoMemory = tt
+
+-- the refusal that an answer is
+named_refusal : (answer : Result UpdateAnswer CommandStop) (why : Refusal) → refusal_in answer ≡ Some why → answer ≡ Ok (answers.Refused why)
+named_refusal (Ok (answers.Planned planned)) why is = absurd (cc)
+named_refusal (Ok (answers.Refused refusal)) why is = cc
+named_refusal (Err stop) why is = absurd (cc)
 
 module _ (f : KeyedFn) (place : Place) (client : Client Ready) (at : IsAt f (Searching client) place) where
   abbrev run : Run
@@ -96,23 +125,18 @@ module _ (f : KeyedFn) (place : Place) (client : Client Ready) (at : IsAt f (Sea
       deletion_at fault = plan-delete-at f place run at.stands.1 r id not_zero fault
 
       -- a refused deletion is refused, whatever memory there is
-      pub deletion_refused : IfSome (core.delete_refusal at_first run id) (λ fault. r ≡ Err fault) → (x : CommandFault) → r ≡ Err x → (result : Result PlannedUpdate UpdateFault) → IsErrAnd result (λ e. e ≡ update_of_command x)
-          → IfSome (delete_refusal place.history id) (λ refusal. result ≡ Err (updates.Refused refusal))
-      deletion_refused first x is result told =
-          subst (λ o. IfSome o (λ refusal. result ≡ Err (updates.Refused refusal))) (sym (ap (λ h. delete_refusal h id) at.stands.1 ∙ refuses-delete run id not_zero))
+      pub deletion_refused : IfSome (core.delete_refusal at_first run id) (λ fault. r ≡ Err fault) → (x : CommandFault) → r ≡ Err x → IfSome (delete_refusal place.history id) (λ refusal. answer_to_command x ≡ Ok (answers.Refused refusal))
+      deletion_refused first x is =
+          subst (λ o. IfSome o (λ refusal. answer_to_command x ≡ Ok (answers.Refused refusal))) (sym (ap (λ h. delete_refusal h id) at.stands.1 ∙ refuses-delete run id not_zero))
           (by (core.delete_refusal at_first run id) first)
         where
-          given : (result : Result PlannedUpdate UpdateFault) (fault : UpdateFault) → IsErrAnd result (λ e. e ≡ fault) → result ≡ Err fault
-          given (Ok planned) fault told = absurd told
-          given (Err e) fault told = ap (λ e. Err e) told
-
-          named : (e : CommandFault) → x ≡ e → (o : Option Refusal) → refusal_in (update_of_command e) ≡ o → IfSome o (λ refusal. result ≡ Err (updates.Refused refusal))
+          named : (e : CommandFault) → x ≡ e → (o : Option Refusal) → refusal_in (answer_to_command e) ≡ o → IfSome o (λ refusal. answer_to_command x ≡ Ok (answers.Refused refusal))
           named e same None known = tt
-          named e same (Some why) known = given result (update_of_command x) told ∙ ap (λ e. Err (update_of_command e)) same ∙ ap (λ u. Err u) (named_refusal (update_of_command e) why known)
+          named e same (Some why) known = ap answer_to_command same ∙ named_refusal (answer_to_command e) why known
 
-          by : (o : Option CommandFault) → IfSome o (λ fault. r ≡ Err fault) → IfSome (option_and_then (λ fault. refusal_in (update_of_command fault)) o) (λ refusal. result ≡ Err (updates.Refused refusal))
+          by : (o : Option CommandFault) → IfSome o (λ fault. r ≡ Err fault) → IfSome (option_and_then (λ fault. refusal_in (answer_to_command fault)) o) (λ refusal. answer_to_command x ≡ Ok (answers.Refused refusal))
           by None h = tt
-          by (Some e) h = let same : x ≡ e = cc in named e same (refusal_in (update_of_command e)) refl
+          by (Some e) h = let same : x ≡ e = cc in named e same (refusal_in (answer_to_command e)) refl
 
 -- the frame of an update has the number that the client gives it
 numbered-next : (f : KeyedFn) (keys : ℕ → List ℕ) (run : Run) (u : Update) (state : Ready) → StandsFor f keys at_first run state → AreNumbered state.frames (frames_next f keys at_first run (command_of_update u))
@@ -135,7 +159,7 @@ records_of_update (kinds.Delete id) c is = ap (λ d. map update_record (filter i
 
 -- Outcomes.
 
-module _ (f : KeyedFn) (place : Place) (refusal : Option Refusal) (c : Command) (shown : Shown) where
+module _ (f : KeyedFn) (place : Place) (refusal : Option Refusal) (c : Command) (shown : Printed) where
   abbrev updating : Outcome
   updating = Does (c ∷ []) shown
 
@@ -175,12 +199,12 @@ module _ (f : KeyedFn) (place : Place) (refusal : Option Refusal) (c : Command) 
       subst (GoesOn f now now (Searching client) came place) (sym (ap (λ r. unless r updating) is)) (goes-refused f now (Searching client) came place why view refused at)
 
   -- equal values and want of memory stop the run before anything of it is sent
-  pub stops-unplanned : (now : Seen) (stop : PlanStop) → (stop ≡ plans.Memory) ⊎ ((refusal ≡ None) × (clash_of f place c ≡ Some (plan_cause stop))) → (written : Option (List ℕ))
-      → StopsIn f place (unless refusal updating) (outside_of now written) (outside_of now written) (At (plan_cause stop))
+  pub stops-unplanned : (now : Seen) (stop : CommandStop) → (stop ≡ stops.Memory) ⊎ ((refusal ≡ None) × (clash_of f place c ≡ Some (command_cause stop))) → (written : Option (List ℕ))
+      → StopsIn f place (unless refusal updating) (outside_of now written) (outside_of now written) (At (command_cause stop))
   stops-unplanned now stop why written = elim why [
-    | inl memory ↦ subst (λ s. StopsIn f place (unless refusal updating) (outside_of now written) (outside_of now written) (At (plan_cause s))) (sym memory) (stops-memory f now place (unless refusal updating) written)
-    | inr clash ↦ subst (λ result. StopsIn f place result (outside_of now written) (outside_of now written) (At (plan_cause stop))) (sym (accepted-is clash.0))
-        (inl (record { cause = plan_cause stop; found = clash.1; stops = refl; nothing = refl }))
+    | inl memory ↦ subst (λ s. StopsIn f place (unless refusal updating) (outside_of now written) (outside_of now written) (At (command_cause s))) (sym memory) (stops-memory f now place (unless refusal updating) written)
+    | inr clash ↦ subst (λ result. StopsIn f place result (outside_of now written) (outside_of now written) (At (command_cause stop))) (sym (accepted-is clash.0))
+        (inl (record { cause = command_cause stop; found = clash.1; stops = refl; nothing = refl }))
   ]
 
 -- what follows of each good answer, and of each fault
@@ -200,11 +224,7 @@ of_stop (Err e) P Q then p = then p
 pub stops_as : (f : KeyedFn) (place : Place) (old new : Seen) (written : Option (List ℕ)) (cause : Cause) {r line : Outcome} → r ≡ line → StopsIn f place r (outside_of old written) (outside_of new written) (At cause) → StopsIn f place line (outside_of old written) (outside_of new written) (At cause)
 stops_as f place old new written cause same stops = subst (λ result. StopsIn f place result (outside_of old written) (outside_of new written) (At cause)) same stops
 
--- a plan that failed, by its fault
-pub failed : (plan : Result PlannedUpdate UpdateFault) (e fault : UpdateFault) → plan ≡ Err e → e ≡ fault → plan ≡ Err fault
-failed plan e fault is same = is ∙ ap (λ x. Err x) same
-
 -- where a refusal would have been told, there is none
-pub not_refused : (refusal : Option Refusal) (plan : Result PlannedUpdate UpdateFault) → (IsRefused plan → ⊥) → IfSome refusal (λ why. plan ≡ Err (updates.Refused why)) → refusal ≡ None
+pub not_refused : (refusal : Option Refusal) (plan : Result UpdateAnswer CommandStop) → (IsRefused plan → ⊥) → IfSome refusal (λ why. plan ≡ Ok (answers.Refused why)) → refusal ≡ None
 not_refused None plan unrefused told = refl
 not_refused (Some why) plan unrefused told = absurd (unrefused (why, told))

@@ -119,7 +119,7 @@ module _ (f : KeyedFn) (laws : IsKeyedFn f) (bytes : List ℕ) (now last : Outsi
         subst (λ n. Headline f before (meaning bytes) now last n state) (sym is)
         (headline f laws bytes now end opening before state expects over_link last (Ends-line end last status sink.faults sink'.faults sink.shortages sink'.shortages same_told same_kept printed) free (subst IsUndisturbed is calm))
 
-  is_run : IsRun f bytes now last sink sink' status
+  pub is_run : IsRun f bytes now last sink sink' status
   is_run = record {
     end = end;
     opens = opening;

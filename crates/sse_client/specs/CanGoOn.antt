@@ -19,6 +19,7 @@ use Rattle.def_script_meaning.specs.Meaning.{Meaning, follow}
 use Rattle.def_script_meaning.specs.Rejoins.{HasTaken, IsRecordedBehind, Rejoined}
 use Rattle.def_script_meaning.specs.Runs.{Ended}
 use Rattle.def_script_meaning.specs.Session.{IsFree}
+use Rattle.def_script_meaning.specs.SimulatedAfter.{ResumesSimulated}
 use Rattle.def_script_meaning.specs.Stops.{At}
 use Rattle.sse_client.specs.KeyLines.{Keyed, Missing, key_line}
 
@@ -83,3 +84,10 @@ abbrev pub IsRecordedAfter : KeyedFn → (payloads : List (List ℕ)) → (now :
 IsRecordedAfter f payloads now end =
     ((end.outside.told ≡ now.told) × (end.outside.kept ≡ now.kept))
     ⊎ ((key : List ℕ) × (run : Run) × Opens (mark_of f key) payloads run × IsRecordedBehind f key run now end)
+
+-- nothing was sent; or these records open to updates under a key, and the run sent the first frames that the simulator makes, of any earlier run
+-- with these updates and of the commands of this one
+abbrev pub SendsSimulatedFrom : KeyedFn → (payloads : List (List ℕ)) → (now : Outside) → Ended → Type 0
+SendsSimulatedFrom f payloads now end =
+    (end.outside.told ≡ now.told)
+    ⊎ ((key : List ℕ) × (updates : Run) × Opens (mark_of f key) payloads updates × ResumesSimulated f key updates now end)

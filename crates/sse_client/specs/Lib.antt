@@ -19,4 +19,6 @@ pub mod NotResumed
 pub mod ResumedRun
 pub mod OnDisk
 pub mod CanGoOn
+pub mod NoRecord
 pub mod OverStore
+pub mod InProcess

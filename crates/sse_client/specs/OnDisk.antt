@@ -1,5 +1,5 @@
 -- A run that keeps its records in a journal on a disk.
-use Rattle.std.specs.Prelude.{◌≡◌, ◌≢◌, ◌⊎◌, ℕ, List, [], ◌++◌, Option, IfSome, option_map}
+use Rattle.std.specs.Prelude.{◌≡◌, ◌≢◌, ◌⊎◌, ℕ, List, [], ◌++◌, All, Option, IfSome, option_map}
 use Rattle.client_journal.specs.Openings.{GivesSome, HasNoRecord, IsNoJournal}
 use Rattle.keyed_fn.specs.KeyedFn.{KeyedFn}
 use Rattle.script_run_texts.specs.Causes.{InputCause}
@@ -13,12 +13,13 @@ use Rattle.def_script_meaning.specs.Runs.{Ended}
 use Rattle.def_script_meaning.specs.Stops as ends
 use Rattle.def_script_meaning.specs.Stops.{status_of}
 use Rattle.sse_journal.specs.FileRecords.{records_in_file}
-use Rattle.sse_journal.specs.Files.{Gives, GivesAs}
+use Rattle.sse_journal.specs.Files.{GivesAs, IsPayload, file}
 use Rattle.sse_journal.specs.AnyMoment.{HasSynced, LeavesOnly}
 use Rattle.sse_outside.specs.Causes.{Rose}
+use Rattle.sse_outside.specs.Images.{Only}
 use Rattle.sse_outside.specs.Kept.{Kept}
 use Rattle.client_recorder.specs.KeepsOn.{GivesFront, LeavesKept}
-use Rattle.sse_client.specs.CanGoOn.{IsRecordedAfter, StopsUnsent, IsHonestAfter, LeavesServerAfter, HasHeadlineAfter}
+use Rattle.sse_client.specs.CanGoOn.{IsRecordedAfter, SendsSimulatedFrom, StopsUnsent, IsHonestAfter, LeavesServerAfter, HasHeadlineAfter}
 use Rattle.sse_client.specs.LastLine.{EndsLine}
 use Rattle.sse_client.specs.ResumedRun.{GoesOnOver}
 use Rattle.sse_client.specs.Stands.{seen, outside_of}
@@ -38,35 +39,43 @@ kept_on content = record { records = records_on content; refused = [] }
 abbrev pub seen_with : Told → (content written : Option (List ℕ)) → Outside
 seen_with told content written = outside_of (seen told (kept_on content)) written
 
--- what a run keeps has P: records were taken behind those of before; a crash meanwhile leaves what this says of the records that were taken
--- and of one that was refused behind them; and a crash at its end leaves all that were taken, with the one that was refused or without it
-pub record KeepsWhat (before : Option (List (List ℕ))) (Meanwhile : List (List ℕ) → Type 0) (left : List ℕ → Type 0) (P : Kept → Type 0) : Type 0 where
+-- these bytes are exactly the file of the records that they give, and a crash at this moment leaves no others
+pub record IsExactly (bytes : List ℕ) (images : List ℕ → Type 0) : Type 0 where
+  pub payloads_are : All IsPayload (records_in_file bytes)
+  pub are : bytes ≡ file (records_in_file bytes)
+  pub durable : Only bytes images
+
+-- so are those of the file on a disk, where it is told
+abbrev pub IsExact : (content : Option (List ℕ)) (images : List ℕ → Type 0) → Type 0
+IsExact content images = IfSome content (λ bytes. IsExactly bytes images)
+
+-- what a run of this status keeps has P: records were taken after those of before; a crash meanwhile leaves what this says of the records that
+-- were taken and of one that was refused after them; and a crash at its end leaves all that were taken, with the one that was refused or
+-- without it. Unless the disk failed or memory ran out, none was refused, and the file is exactly that of those that were taken
+pub record KeepsWhat (before : Option (List (List ℕ))) (Meanwhile : List (List ℕ) → Type 0) (content : Option (List ℕ)) (left : List ℕ → Type 0) (status : ℕ) (P : Kept → Type 0) : Type 0 where
   pub kept : Kept
   pub has : P kept
   pub more : List (List ℕ)
   pub grows : kept.records ≡ option_map (λ all. all ++ more) before
   pub meanwhile : Meanwhile (more ++ kept.refused)
   pub leaves : LeavesKept kept left
+  pub exact : status ≢ 6 → status ≢ 7 → (kept ≡ kept_on content) × IsExact content left
 
--- a run over a disk keeps what has P: from the first sync that succeeded on, a crash at any moment leaves a file that gives the records
+-- a run of this status over a disk keeps what has P: from the first sync that succeeded on, a crash at any moment leaves a file that gives the records
 -- of the file as it was, and then the first of those that the run was to keep, in order
-abbrev pub KeepsOnDisk : {D : Type 0} (content : D → Option (List ℕ)) (images : D → List ℕ → Type 0) (moment : D → ℕ) (left_since : D → ℕ → List ℕ → Type 0) (old new : D) (P : Kept → Type 0) → Type 0
-KeepsOnDisk content images moment left_since old new P =
-    KeepsWhat (records_on (content old)) (λ more. HasSynced content images moment left_since old new (λ file. GivesFront (records_in_file file) more)) (images new) P
+abbrev pub KeepsOnDisk : {D : Type 0} (content : D → Option (List ℕ)) (images : D → List ℕ → Type 0) (moment : D → ℕ) (left_since : D → ℕ → List ℕ → Type 0) (old new : D) (status : ℕ) (P : Kept → Type 0) → Type 0
+KeepsOnDisk content images moment left_since old new status P =
+    KeepsWhat (records_on (content old)) (λ more. HasSynced content images moment left_since old new (λ file. GivesFront (records_in_file file) more)) (content new) (images new) status P
 
 -- the same from where its journal is started
-abbrev pub KeepsOnStarted : {D : Type 0} (content : D → Option (List ℕ)) (images : D → List ℕ → Type 0) (moment : D → ℕ) (left_since : D → ℕ → List ℕ → Type 0) (old new : D) (P : Kept → Type 0) → Type 0
-KeepsOnStarted content images moment left_since old new P =
-    KeepsWhat (records_on (content old)) (λ more. IfSome (content old) (λ file. LeavesOnly moment left_since old new (GivesFront (records_in_file file) more))) (images new) P
+abbrev pub KeepsOnStarted : {D : Type 0} (content : D → Option (List ℕ)) (images : D → List ℕ → Type 0) (moment : D → ℕ) (left_since : D → ℕ → List ℕ → Type 0) (old new : D) (status : ℕ) (P : Kept → Type 0) → Type 0
+KeepsOnStarted content images moment left_since old new status P =
+    KeepsWhat (records_on (content old)) (λ more. IfSome (content old) (λ file. LeavesOnly moment left_since old new (GivesFront (records_in_file file) more))) (content new) (images new) status P
 
 -- a run that isn't begun keeps nothing: from a first sync that succeeded on, a crash leaves a file that gives what the file gave; or it
 -- leaves at each moment one that it might have left before
 abbrev pub LeavesAsBefore : {D : Type 0} (content : D → Option (List ℕ)) (images : D → List ℕ → Type 0) (moment : D → ℕ) (left_since : D → ℕ → List ℕ → Type 0) (old new : D) → Type 0
 LeavesAsBefore content images moment left_since old new = HasSynced content images moment left_since old new GivesAs ⊎ LeavesOnly moment left_since old new (images old)
-
--- every file that a crash may leave at this moment gives the records of the file as it reads
-abbrev pub Lasts : (content : Option (List ℕ)) (images : List ℕ → Type 0) → Type 0
-Lasts content images = IfSome content (λ file. (image : List ℕ) → images image → Gives (records_in_file file) image)
 
 -- Why a run that goes on doesn't come to its lines.
 
@@ -123,6 +132,8 @@ pub record HasGoneOn (f : KeyedFn) (bytes : List ℕ) (now last : Outside) (stat
   pub status_is : status ≡ status_of end.stop
   pub unsent : StopsUnsent f bytes now end status
   pub recorded : IfSome now.kept.records (λ payloads. IsRecordedAfter f payloads now end)
+  -- the frames that were sent are the first that the simulator makes of the earlier history and of this run's, whatever the link replied
+  pub simulated : IfSome now.kept.records (λ payloads. SendsSimulatedFrom f payloads now end)
   pub honest : IsHonestAfter f bytes now last end status
   pub left : LeavesServerAfter f bytes now last end
   pub headline : HasHeadlineAfter f bytes now last status
@@ -134,13 +145,13 @@ abbrev pub BeginsOrNot : {D : Type 0} (content : D → Option (List ℕ)) (image
     (f : KeyedFn) (remaining : Option (List ℕ)) (told told' : Told) (sink sink' : SinkShows) (status : ℕ) → Type 0
 BeginsOrNot content images moment left_since old new f remaining told told' sink sink' status =
     (IsUnopened IsNotBegun told told' (content old) (content new) sink.written sink'.written status sink.faults sink'.faults sink.shortages sink'.shortages × LeavesAsBefore content images moment left_since old new)
-    ⊎ KeepsOnDisk content images moment left_since old new (λ kept. IfSome remaining (λ bytes. IsRun f bytes (seen_with told (content old) sink.written) (outside told' kept sink'.written) sink sink' status))
+    ⊎ KeepsOnDisk content images moment left_since old new status (λ kept. IfSome remaining (λ bytes. IsRun f bytes (seen_with told (content old) sink.written) (outside told' kept sink'.written) sink sink' status))
 
 -- a run goes on with the history of the journal's records, and keeps its own
 abbrev pub ResumesJournal : {D : Type 0} (content : D → Option (List ℕ)) (images : D → List ℕ → Type 0) (moment : D → ℕ) (left_since : D → ℕ → List ℕ → Type 0) (old new : D)
     (f : KeyedFn) (remaining : Option (List ℕ)) (told told' : Told) (sink sink' : SinkShows) (status : ℕ) → Type 0
 ResumesJournal content images moment left_since old new f remaining told told' sink sink' status =
-    KeepsOnDisk content images moment left_since old new (λ kept. IfSome remaining (λ bytes.
+    KeepsOnDisk content images moment left_since old new status (λ kept. IfSome remaining (λ bytes.
     HasGoneOn f bytes (seen_with told (content old) sink.written) (outside told' kept sink'.written) status sink.faults sink'.faults sink.shortages sink'.shortages))
 
 -- or the journal isn't opened
@@ -150,13 +161,13 @@ ResumesOrNot content images moment left_since old new f remaining told told' sin
     (IsUnopened IsNotReopened told told' (content old) (content new) sink.written sink'.written status sink.faults sink'.faults sink.shortages sink'.shortages × LeavesAsBefore content images moment left_since old new)
     ⊎ ResumesJournal content images moment left_since old new f remaining told told' sink sink' status
 
--- all of `run`: it is refused for a file that has records or is no journal, unless the disk fails or memory is out; and where neither
--- happened and the journal was opened, a crash at the end leaves the records of the file as it reads
+-- all of `run`: it is refused for a file that has records or is no journal, unless the disk fails or memory is out; and if neither
+-- happened and the journal was opened, the file at the end is exactly that of its records
 pub record BeginsOnDisk {D : Type 0} (content : D → Option (List ℕ)) (images : D → List ℕ → Type 0) (moment : D → ℕ) (left_since : D → ℕ → List ℕ → Type 0) (old new : D)
     (f : KeyedFn) (remaining : Option (List ℕ)) (told told' : Told) (sink sink' : SinkShows) (status : ℕ) : Type 0 where
   pub begun : BeginsOrNot content images moment left_since old new f remaining told told' sink sink' status
   pub refused : IfSome (content old) (λ file. GivesSome file ⊎ IsNoJournal file → status ≢ 6 → status ≢ 7 → status ≡ 10)
-  pub lasts : status ≢ 6 → status ≢ 7 → status ≢ 10 → Lasts (content new) (images new)
+  pub exact : status ≢ 6 → status ≢ 7 → status ≢ 10 → IsExact (content new) (images new)
 
 -- all of `more`: likewise it goes on for a file that gives a record, and is refused for one that gives none
 pub record ResumesOnDisk {D : Type 0} (content : D → Option (List ℕ)) (images : D → List ℕ → Type 0) (moment : D → ℕ) (left_since : D → ℕ → List ℕ → Type 0) (old new : D)
@@ -164,4 +175,4 @@ pub record ResumesOnDisk {D : Type 0} (content : D → Option (List ℕ)) (image
   pub gone_on : ResumesOrNot content images moment left_since old new f remaining told told' sink sink' status
   pub accepted : IfSome (content old) (λ file. GivesSome file → status ≢ 6 → status ≢ 7 → ResumesJournal content images moment left_since old new f remaining told told' sink sink' status)
   pub refused : IfSome (content old) (λ file. HasNoRecord file → status ≢ 6 → status ≢ 7 → status ≡ 10)
-  pub lasts : status ≢ 6 → status ≢ 7 → status ≢ 10 → Lasts (content new) (images new)
+  pub exact : status ≢ 6 → status ≢ 7 → status ≢ 10 → IsExact (content new) (images new)

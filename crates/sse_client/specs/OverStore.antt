@@ -1,6 +1,7 @@
 -- A run whose client keeps its records in a file of its own, over a link to a store whose file is observable too. It says everything that the
 -- client and the server hold at the end, beside the traffic and the printed text.
 use Rattle.std.specs.Prelude.{◌≡◌, ◌≢◌, ℕ, List, [], ◌++◌, All, drop, Option, Some, IfSome}
+use Rattle.client_records.specs.Recorded.{recorded}
 use Rattle.client_registry.specs.Run.{Run}
 use Rattle.keyed_fn.specs.KeyedFn.{KeyedFn}
 use Rattle.def_link_events.specs.Events.{AreStepped}
@@ -9,11 +10,13 @@ use Rattle.def_link_events.specs.Taken.{updates_among}
 use Rattle.def_script_meaning.specs.Carries.{Outside}
 use Rattle.def_script_meaning.specs.Headline.{Headline, IsOverHonest}
 use Rattle.def_script_meaning.specs.Meaning.{Meaning, meaning}
+use Rattle.def_script_meaning.specs.Recorded.{records_with}
 use Rattle.def_script_meaning.specs.Rejoins.{Rejoined, frames_under}
 use Rattle.def_script_meaning.specs.Session.{IsFree, frames_of}
 use Rattle.server_core.specs.State.{ServerState}
 use Rattle.def_agreement.specs.TakenFrames.{Expects}
 use Rattle.sse_frames.specs.Frames.{FrameText}
+use Rattle.sse_journal.specs.FileRecords.{records_in_file}
 use Rattle.sse_journal.specs.Files.{Gives, IsPayload, file}
 use Rattle.sse_link.specs.LinkStates.{LinkState}
 use Rattle.sse_link.specs.Stored.{IsStored}
@@ -38,29 +41,32 @@ abbrev pub HasStoredUpdates : List FrameText → (old new : LinkState) → Type 
 HasStoredUpdates frames old new =
     IsJournalled old → IsJournalled new × ((payloads : List (List ℕ)) × (old.file ≡ Some (file payloads)) × (new.file ≡ Some (file (payloads ++ bodies (updates_among frames)))))
 
--- a script of this meaning was carried out (Headline): so the client's file has the records of its history, and the server is one that was
--- sent its frames; and the updates among them are in the server's file
-pub record IsOnBothSides (f : KeyedFn) (m : Meaning) (old new : LinkState) (now last : Outside) (status : ℕ) : Type 0 where
+-- a script of this meaning was carried out (Headline), and the server is one that was sent its history's frames: so the client's file is
+-- exactly that of the history's records, and the updates among the frames are in the server's file
+pub record IsOnBothSides (f : KeyedFn) (m : Meaning) (old new : LinkState) (own' : List ℕ) (now last : Outside) (status : ℕ) : Type 0 where
   pub headline : Headline f old.state m now last status new.state
+  pub own_file : own' ≡ file (records_with f m.key m.history)
   pub stored : HasStoredUpdates (frames_of f m) old new
 
--- the same of a run that goes on (Rejoined), with the frames that the server lacked and those after them
-pub record IsRejoinedOnBothSides (f : KeyedFn) (start : ServerState) (key : List ℕ) (run : Run) (next : ℕ) (m : Meaning) (old new : LinkState) (now last : Outside) (status : ℕ) : Type 0 where
+-- the same of a run that goes on (Rejoined), with the frames that the server lacked and those after them: the client's file is exactly that
+-- of its old records and then those of the commands after the run
+pub record IsRejoinedOnBothSides (f : KeyedFn) (start : ServerState) (key : List ℕ) (run : Run) (next : ℕ) (m : Meaning) (old new : LinkState) (own own' : List ℕ) (now last : Outside) (status : ℕ) : Type 0 where
   pub rejoined : Rejoined f start key run next m now last status new.state
+  pub own_file : own' ≡ file (records_in_file own ++ recorded rejoined.more)
   pub stored : HasStoredUpdates (drop next (frames_under f key m.history)) old new
 
 -- so it was where the client's file had no record, the server expected a setup, and the history has no collision
 abbrev pub BeginsOnBothSides : KeyedFn → (bytes : List ℕ) → (old new : LinkState) → (own own' : List ℕ) → (written written' : Option (List ℕ)) → (status : ℕ) → Type 0
 BeginsOnBothSides f bytes old new own own' written written' status =
     Gives [] own → Expects 0 old.state → IsFree f (meaning bytes).key (meaning bytes).history
-    → IsOnBothSides f (meaning bytes) old new (seen_over old own written) (seen_over new own' written') status
+    → IsOnBothSides f (meaning bytes) old new own' (seen_over old own written) (seen_over new own' written') status
 
 -- and where a run went on, with the records of the file that it had and with the server as it was
 abbrev pub GoesOnOnBothSides : KeyedFn → (bytes : List ℕ) → (old new : LinkState) → (own own' : List ℕ) → (written written' : Option (List ℕ)) → (status : ℕ) → Type 0
 GoesOnOnBothSides f bytes old new own own' written written' status =
     GivesSome own → (can : CanResume f bytes (kept_on (Some own)) old.state) →
     let m = meaning_after can.key can.run can.number can.lines in
-    IsFree f m.key m.history → IsRejoinedOnBothSides f can.taken.start can.key can.run can.next m old new (seen_over old own written) (seen_over new own' written') status
+    IsFree f m.key m.history → IsRejoinedOnBothSides f can.taken.start can.key can.run can.next m old new own own' (seen_over old own written) (seen_over new own' written') status
 
 -- `run` does over such a link what it does on a disk; and if source and sink didn't fail and memory wasn't out, it is on both sides
 pub record BeginsOverStore (f : KeyedFn) (remaining : Option (List ℕ)) (old new : LinkState) (disk disk' : SteadyDisk) (sink sink' : SinkShows) (status : ℕ) : Type 0 where

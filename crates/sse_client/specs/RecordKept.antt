@@ -1,11 +1,13 @@
 -- The record of a command, kept before anything of the command is sent.
-use Rattle.std.specs.Prelude.{◌≡◌, ◌⊎◌, ℕ, List, [], ◌∷◌, ◌++◌, map, Result, Ok, Err, IfErr, OnOk}
+use Rattle.std.specs.Prelude.{◌≡◌, ◌⊎◌, ℕ, List, [], ◌∷◌, ◌++◌, Result, Ok, Err, IfErr, OnOk}
+use Rattle.client_core.specs.Owes.{Owes}
 use Rattle.client_core.specs.Payloads.{setup_payload, update_payload}
 use Rattle.client_core.specs.Plans.{SetupPlan, UpdatePlan}
 use Rattle.client_core.specs.TakenViews.{to_send}
 use Rattle.client_core.specs.declared.behind.Behind.{Behind}
+use Rattle.client_core.specs.declared.client.Client.{Client}
 use Rattle.client_records.specs.Openings.{Opens}
-use Rattle.client_registry.specs.Run.{Run}
+use Rattle.client_registry.specs.Run.{Run, at_first}
 use Rattle.keyed_fn.specs.KeyFormulas.{mark_of}
 use Rattle.keyed_fn.specs.KeyedFn.{KeyedFn}
 use Rattle.script_run_texts.specs.Stops.{peer_cause}
@@ -17,8 +19,7 @@ use Rattle.def_script_meaning.specs.Carries.{Keeps}
 use Rattle.sse_outside.specs.Kept.{Kept, with_refused}
 use Rattle.sse_client.specs.Exchanges.{HasExchanged, HasCut}
 use Rattle.sse_client.specs.Stands.{Seen}
-use Rattle.sse_client.specs.ResumedRun.{frames_lacking}
-use Rattle.sse_frames.specs.Frames.{FrameText, frame_bytes}
+use Rattle.sse_frames.specs.Frames.{FrameText}
 
 -- a record wasn't taken: it was refused, or there was no memory to hand it over
 abbrev pub IsNotTaken : (payload : List ℕ) → Kept → Kept → Type 0
@@ -34,19 +35,19 @@ abbrev pub SendsKept : {T : Type 0} → (payload : List ℕ) → (old new : Seen
 SendsKept payload old new frames (Ok x) = Keeps old.kept new.kept (payload ∷ []) × HasExchanged old.told new.told [] frames
 SendsKept payload old new frames (Err (commands.Exchange stop)) = Keeps old.kept new.kept (payload ∷ []) × HasCut old.told new.told frames (peer_cause stop)
 SendsKept payload old new frames (Err (commands.Keeping fault)) = (new.told ≡ old.told) × IsNotTaken payload old.kept new.kept
-SendsKept payload old new frames (Err (commands.Planning stop)) = ⊥
+SendsKept payload old new frames (Err _) = ⊥
 
 -- this record is the last of these
 abbrev pub EndsWith : (records : List (List ℕ)) (payload : List ℕ) → Type 0
 EndsWith records payload = (before : List (List ℕ)) × (records ≡ before ++ payload ∷ [])
 
--- the frames that a client owes are those of the update of which the last record is: by the plan of both; or as the records open to a
--- history of whose last command the frames are
-abbrev pub OwesLast : (records : List (List ℕ)) → Behind → Type 0
-OwesLast records state =
-    ((planned : SetupPlan) × EndsWith records (setup_payload planned) × (to_send state ≡ planned.frames))
-    ⊎ ((planned : UpdatePlan) × EndsWith records (update_payload planned) × (to_send state ≡ planned.frame ∷ []))
-    ⊎ ((f : KeyedFn) × (key : List ℕ) × (run : Run) × (next : ℕ) × Opens (mark_of f key) records run × (to_send state ≡ map frame_bytes (frames_lacking f key run next)))
+-- the frames that a client owes are those of the update of which the last record is: by the plan of both; or the records open under the
+-- client's key to a history, for which the client stands, and it owes frames of the history's last command
+abbrev pub OwesLast : KeyedFn → (records : List (List ℕ)) → Client Behind → Type 0
+OwesLast f records client =
+    ((planned : SetupPlan) × EndsWith records (setup_payload planned) × (to_send client.state ≡ planned.frames))
+    ⊎ ((planned : UpdatePlan) × EndsWith records (update_payload planned) × (to_send client.state ≡ planned.frame ∷ []))
+    ⊎ ((run : Run) × (acknowledged : ℕ) × Opens (mark_of f client.key) records run × Owes f (λ epoch. client.key) at_first run acknowledged client.state)
 
 -- what keeps the records takes more of them after a command that was stopped, unless it refused the command's record
 

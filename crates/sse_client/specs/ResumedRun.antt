@@ -23,7 +23,7 @@ use Rattle.def_script_meaning.specs.Exchange.{Told}
 use Rattle.def_script_meaning.specs.HelloExchange.{Greets, TurnsAway}
 use Rattle.def_script_meaning.specs.Lines.{Line, lines_in}
 use Rattle.def_script_meaning.specs.Runs.{Ended, ended, Runs, StopsReading}
-use Rattle.def_script_meaning.specs.Stops.{Stop, At, SinkFault, status_of, stop_text}
+use Rattle.def_script_meaning.specs.Stops.{Stop, At, SinkFault, status_of}
 use Rattle.sse_client.specs.Exchanges.{HasExchanged, HasCut}
 use Rattle.sse_client.specs.LastLine.{EndsLine}
 use Rattle.sse_client.specs.KeyLines.{KeyLine, Keyed, Missing, key_line}

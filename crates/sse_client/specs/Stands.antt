@@ -1,5 +1,5 @@
 -- The place of a session in its script, the effect of a command there, and the end of a run.
-use Rattle.std.specs.Prelude.{◌≡◌, ◌≢◌, Bool, true, false, List, [], ◌∷◌, ℕ, map, Option, Some, None}
+use Rattle.std.specs.Prelude.{◌≡◌, ◌≢◌, ◌⊎◌, Bool, true, false, List, [], ◌∷◌, ℕ, map, Option, Some, None}
 use Rattle.client_core.specs.StandsFor.{StandsFor}
 use Rattle.client_registry.specs.Acceptance.{size_refusal}
 use Rattle.client_registry.specs.Histories.{is_set_up}
@@ -9,7 +9,7 @@ use Rattle.client_registry.specs.Setup.{setup_with}
 use Rattle.keyed_fn.specs.KeyedFn.{KeyedFn}
 use Rattle.sse_script.specs.Shown.{Cause, BadWords, NoMemory}
 use Rattle.sse_model.specs.Epochs.{keys_under}
-use Rattle.def_script_meaning.specs.Carries.{Keeps, Outside, keys_at, records_by, with_answers, IsSent, Carries, StopsIn}
+use Rattle.def_script_meaning.specs.Carries.{Keeps, Outside, keys_at, records_by, with_answers, IsSent, Carries, StopsIn, IsUnprinted}
 use Rattle.sse_outside.specs.Kept.{Kept}
 use Rattle.def_script_meaning.specs.Exchange.{Told}
 use Rattle.def_script_meaning.specs.Lines.{Request}
@@ -105,9 +105,9 @@ pub record HasCarried (f : KeyedFn) (place : Place) (result : Outcome) (now next
 abbrev pub CarriesOut : KeyedFn → Stage → Request → Outside → Outside → Stage → Bool → Type 0
 CarriesOut f stage request now next went refused = (place : Place) → IsAt f stage place → HasCarried f place (outcome place request) now next went refused
 
--- wherever a session may stand, a command stops the run there
+-- wherever a session may stand, a command stops the run there, before its printing or in it
 abbrev pub StopsRun : KeyedFn → Stage → Request → Outside → Outside → ends.Stop → Type 0
-StopsRun f stage request now end stop = (place : Place) → IsAt f stage place → StopsIn f place (outcome place request) now end stop
+StopsRun f stage request now end stop = (place : Place) → IsAt f stage place → StopsIn f place (outcome place request) now end stop ⊎ IsUnprinted f place (outcome place request) now end stop
 
 -- whether a command was refused
 abbrev pub has_refused : Refusals → Bool

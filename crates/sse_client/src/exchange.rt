@@ -73,7 +73,8 @@ pub(crate) fn hello<L: Link>(
 }
 
 // Promise P144 (inside): The greeting, a setup, an update and a search exchange exactly their frames, or are cut for a visible cause.
-//   clauses: opened, turned_away; assumes: observable devices, earlier calls; not: Out of memory is no visible cause.
+//   clauses: opened, turned_away; assumes: observable devices, earlier calls; not: Out of memory is no visible cause: it may cut a frame of an
+//     update before its acknowledgement, and a search at any reply.
 /// Opens the session of a history that begins, with a server that has taken nothing of one: the update that it expects has number 0.
 pub(crate) fn greet<L: Link>(
     alloc: Global,

@@ -3,6 +3,7 @@ ghost use Rattle.std.specs.List.{AllByRecursion};
 ghost use Rattle.client_core.specs.Owes.{AreNumbered};
 ghost use Rattle.client_core.specs.TakenViews.{first_number, to_send};
 ghost use Rattle.script_run_texts.specs.Causes.{PeerCause};
+ghost use Rattle.keyed_fn.specs.KeyedFn.{keyed_fn};
 ghost use Rattle.sse_client.specs.Calls.{shows, KeepsLink, Sends};
 ghost use Rattle.sse_client.specs.RecordKept.{OwesLast};
 ghost use Rattle.sse_client.specs.Steps.{AreOwed, LeavesClient, StepsOver};
@@ -13,6 +14,7 @@ use crate::peer_fault::stop_of_reply;
 use crate::reply_buffer::ReplyBuffer;
 use client_core::{Behind, Client, Ready, Taken};
 use client_recorder::Recorder;
+use keyed_fn::Keyed;
 use script_run_texts::PeerStop;
 use sse_link::Link;
 
@@ -29,8 +31,8 @@ enum Step {
 /// Sends each frame that the server may lack, and takes its acknowledgement before the next.
 ///
 /// It is what sends the frames of updates. The recorder is lent so that it stays as it is meanwhile: every crash leaves the
-/// record of the update whose frames are sent.
-pub(crate) fn catch_up<L: Link, R: Recorder>(
+/// record of the update whose frames are sent. `K` is the session's keyed function, under which the records open.
+pub(crate) fn catch_up<K: Keyed, L: Link, R: Recorder>(
     mut client: Client<Behind>,
     link: &mut L,
     _recorder: &R,
@@ -38,7 +40,7 @@ pub(crate) fn catch_up<L: Link, R: Recorder>(
 ) -> Result<Client<Ready>, PeerStop>
     requires frames { AllByRecursion IsFrame (to_send client.state) }
     requires whole { R.whole _recorder.now }
-    requires recorded { IfSome (R.kept _recorder.now).records (λ records. OwesLast records client.state) }
+    requires recorded { IfSome (R.kept _recorder.now).records (λ records. OwesLast (keyed_fn K.prf K.pad) records client) }
     ensures key { IfOk result (λ ready. ready.key ≡ client.key) }
     ensures ready { IfOk result (λ ready. ready.state ≡ client.state.ready) }
     ensures sends { (frames : List FrameText) → to_send client.state ≡ map frame_bytes frames → AreNumbered (first_number client.state) frames →

@@ -10,11 +10,13 @@ ghost use Rattle.def_script_meaning.specs.Exchange.{Told};
 ghost use Rattle.sse_client.specs.Calls.{shows};
 ghost use Rattle.sse_client.specs.ResumedRun.{GoesOnTo, Restores};
 ghost use Rattle.sse_client.specs.KeyLines.{FindsKey};
-ghost use Rattle.sse_client.specs.OnDisk.{BeginsOnDisk, BeginsOrNot, HasGoneOn, HeldCause, HeldSource, KeepsOnStarted, Lasts, ResumesJournal, ResumesOnDisk, ResumesOrNot, held_stop, kept_on, seen_with};
+ghost use Rattle.sse_client.specs.NoRecord.{IsRefusedMore, OverNoRecord};
+ghost use Rattle.sse_client.specs.OnDisk.{BeginsOnDisk, BeginsOrNot, HasGoneOn, HeldCause, HeldSource, IsExact, KeepsOnStarted, ResumesJournal, ResumesOnDisk, ResumesOrNot, held_stop, kept_on, seen_with};
 ghost use Rattle.sse_client.specs.Stages.{hash_keys_under};
 ghost use Rattle.sse_client.specs.Stands.{outside_of, seen};
 ghost use Rattle.sse_client.specs.WholeRuns.{DoesNothing, LeavesDevices, gives, prints};
 ghost use Rattle.sse_journal.specs.AnyMoment.{LeavesOnly};
+ghost use Rattle.sse_journal.specs.Files.{Gives};
 ghost use Rattle.sse_journal.specs.JournalView.{broken_by, records_of};
 ghost use Rattle.sse_script.specs.TextLines.{bytes_to_come, lines_left};
 
@@ -131,15 +133,22 @@ fn restored<'a, K: Keyed, D: Disk, S: Source>(
 //     That the server holds the frames before the number it says: its word is taken. A server that lost frames of earlier commands ends the run with 9.
 // Promise P16 (user): An undisturbed `more` prints `resumed`, then its script's lines; searches list the live documents of both sessions that hold the word.
 //   clauses: more; fields: HasGoneOn.headline, HasGoneOn.honest, Rejoined.printed, Rejoined.passed, Rejoined.kept, Rejoined.stored; assumes: observable devices, resumable state, honest
-//     link, no collision, no device fault, enough memory; checks: .ci/turns; not: That the frames are the simulator's: no clause says it of a resumed session (P24 is of `run`). A server
-//     that lost acknowledged frames.
+//     link, no collision, no device fault, enough memory; checks: .ci/turns; not: A server that lost acknowledged frames.
 // Promise P17, also here; clauses: begun, more
 // Promise P19 (user): If a file's records don't fit the script's key, `more` ends with 10 or 11 and names the right cause.
 //   clauses: more; fields: ResumesOnDisk.accepted, StopsUnsent.no_key, StopsUnsent.bad_record, StopsUnsent.wrong_key; assumes: observable devices, no device fault, enough memory; not: A
 //     missing key line ends with 2 and its number. 7 is always free.
 // Promise P20 (user): From the first successful sync, a crash during a run leaves the file's earlier records and then the run's first ones, in order.
-//   clauses: begun, more; fields: KeepsWhat.grows, KeepsWhat.meanwhile, KeepsWhat.leaves, BeginsOnDisk.lasts, ResumesOnDisk.lasts; assumes: observable devices, disk model; checks:
-//     .ci/journal, .ci/crash; not: Whether a crash leaves a refused record. The bytes of the client's file: only the records that it gives are claimed.
+//   clauses: begun, more; fields: KeepsWhat.grows, KeepsWhat.meanwhile, KeepsWhat.leaves; assumes: observable devices, disk model; checks: .ci/journal, .ci/crash; not: Whether a crash
+//     leaves a refused record.
+// Promise P183 (user): At a run's end the client's file is exactly the journal of its earlier records and then the run's, also after a crash.
+//   clauses: begun, more; fields: KeepsWhat.grows, KeepsWhat.exact, BeginsOnDisk.exact, ResumesOnDisk.exact; assumes: observable devices, no device fault, enough memory; checks: .ci/turns;
+//     not: A file that is refused, with the status 10. After a fault of the disk or out of memory: there P20 says which records a crash leaves.
+// Promise P25, also here; clauses: more
+// Promise P182 (user): Over any link, `more` sends the first frames that the simulator makes of all sessions' history, from the number that the server says.
+//   clauses: more; fields: HasGoneOn.simulated, ResumesSimulated.same_key, ResumesSimulated.history, ResumesSimulated.sends, SendsSimulatedAfter.makes, SendsSimulatedAfter.sends,
+//     MakesAfter.made_before, MakesAfter.made, SendsFrom.within, SendsFrom.replied, SendsFrom.sent; assumes: observable devices, kept limits; not: Replies over a link that isn't
+//     honest. That the server's number is true: with another one it gets updates again, or too few. No call makes several sessions: `sessions_are_simulated` is a law.
 /// All that a client program does that keeps its records on a disk: with `run` it begins a history, and the journal must have no
 /// record; with `more` it goes on with the history of the records that the journal has.
 pub fn run_on_disk<K: Keyed, L: Link, D: Disk, S: Source, W: Sink>(
@@ -162,6 +171,9 @@ pub fn run_on_disk<K: Keyed, L: Link, D: Disk, S: Source, W: Sink>(
         (shows (L.transcript link.old) (L.faults link.old) (L.began link.old)) (shows (L.transcript link.new) (L.faults link.new) (L.began link.new))
         (D.faults disk) (D.faults result.1) result.0 }
     ensures known { result.0 ≤ 11 }
+    ensures no_record { IfSome (D.content disk) (λ file. Gives [] file → OverNoRecord (asks.disk_mode_of (map (λ word. string_bytes word) words.now)) source.old source.new
+        (L.transcript link.old) (L.transcript link.new) (D.content disk) (D.content result.1)
+        (prints (W.written sink.old) (W.faults sink.old) (W.shortages sink.old)) (prints (W.written sink.new) (W.faults sink.new) (W.shortages sink.new)) result.0) }
 {
     match disk_mode_of(words) {
         Some(DiskMode::Run) => begin_run(alloc, keyed, link, disk, source, sink),
@@ -186,8 +198,9 @@ fn begin_run<K: Keyed, L: Link, D: Disk, S: Source, W: Sink>(
         (prints (W.written sink.old) (W.faults sink.old) (W.shortages sink.old)) (prints (W.written sink.new) (W.faults sink.new) (W.shortages sink.new))
         (shows (L.transcript link.old) (L.faults link.old) (L.began link.old)) (shows (L.transcript link.new) (L.faults link.new) (L.began link.new))
         (D.faults disk) (D.faults result.1) result.0 }
-    ensures lasts { result.0 ≢ 6 → result.0 ≢ 7 → result.0 ≢ 10 → Lasts (D.content result.1) (D.images result.1) }
+    ensures exact { result.0 ≢ 6 → result.0 ≢ 7 → result.0 ≢ 10 → IsExact (D.content result.1) (D.images result.1) }
     ensures known { result.0 ≤ 10 }
+    ensures no_record { IfSome (D.content disk) (λ file. Gives [] file → result.0 ≤ 9) }
 {
     let mut disk = disk;
     match begin(alloc, &mut disk) {
@@ -213,12 +226,13 @@ fn more<K: Keyed, L: Link, D: Disk, S: Source, W: Sink>(
         (prints (W.written sink.old) (W.faults sink.old) (W.shortages sink.old)) (prints (W.written sink.new) (W.faults sink.new) (W.shortages sink.new)) result.0 }
     ensures accepted { IfSome (D.content disk) (λ file. GivesSome file → result.0 ≢ 6 → result.0 ≢ 7 → ResumesJournal D.content D.images D.moment D.left_since disk result.1 (keyed_fn K.prf K.pad) (S.remaining source.old) (L.transcript link.old) (L.transcript link.new)
         (prints (W.written sink.old) (W.faults sink.old) (W.shortages sink.old)) (prints (W.written sink.new) (W.faults sink.new) (W.shortages sink.new)) result.0) }
-    ensures refused { IfSome (D.content disk) (λ file. HasNoRecord file → result.0 ≢ 6 → result.0 ≢ 7 → result.0 ≡ 10) }
+    ensures refused { IfSome (D.content disk) (λ file. HasNoRecord file → IsRefusedMore source.old source.new (L.transcript link.old) (L.transcript link.new) (D.content disk) (D.content result.1)
+        (prints (W.written sink.old) (W.faults sink.old) (W.shortages sink.old)) (prints (W.written sink.new) (W.faults sink.new) (W.shortages sink.new)) result.0) }
     ensures devices { LeavesDevices (gives (S.remaining source.old) (S.faults source.old)) (gives (S.remaining source.new) (S.faults source.new))
         (prints (W.written sink.old) (W.faults sink.old) (W.shortages sink.old)) (prints (W.written sink.new) (W.faults sink.new) (W.shortages sink.new))
         (shows (L.transcript link.old) (L.faults link.old) (L.began link.old)) (shows (L.transcript link.new) (L.faults link.new) (L.began link.new))
         (D.faults disk) (D.faults result.1) result.0 }
-    ensures lasts { result.0 ≢ 6 → result.0 ≢ 7 → result.0 ≢ 10 → Lasts (D.content result.1) (D.images result.1) }
+    ensures exact { result.0 ≢ 6 → result.0 ≢ 7 → result.0 ≢ 10 → IsExact (D.content result.1) (D.images result.1) }
     ensures known { result.0 ≤ 11 }
 {
     let mut disk = disk;
@@ -240,14 +254,14 @@ fn go_on_from<K: Keyed, L: Link, D: Disk, S: Source, W: Sink>(
     requires holds { IfSome (D.content opened.disk) (λ file. IsOfRecords opened.journal (D.content opened.disk) (D.images opened.disk)) }
     requires some { 0 < records_of opened.journal }
     requires unbroken { broken_by opened.journal ≡ None }
-    ensures gone_on { KeepsOnStarted D.content D.images D.moment D.left_since opened.disk result.1 (λ kept. IfSome (S.remaining source.old) (λ bytes.
+    ensures gone_on { KeepsOnStarted D.content D.images D.moment D.left_since opened.disk result.1 result.0 (λ kept. IfSome (S.remaining source.old) (λ bytes.
         HasGoneOn (keyed_fn K.prf K.pad) bytes (seen_with (L.transcript link.old) (D.content opened.disk) (W.written sink.old)) (outside_of (seen (L.transcript link.new) kept) (W.written sink.new)) result.0
         (W.faults sink.old) (W.faults sink.new) (W.shortages sink.old) (W.shortages sink.new))) }
     ensures devices { LeavesDevices (gives (S.remaining source.old) (S.faults source.old)) (gives (S.remaining source.new) (S.faults source.new))
         (prints (W.written sink.old) (W.faults sink.old) (W.shortages sink.old)) (prints (W.written sink.new) (W.faults sink.new) (W.shortages sink.new))
         (shows (L.transcript link.old) (L.faults link.old) (L.began link.old)) (shows (L.transcript link.new) (L.faults link.new) (L.began link.new))
         (D.faults opened.disk) (D.faults result.1) result.0 }
-    ensures lasts { result.0 ≢ 6 → result.0 ≢ 7 → Lasts (D.content result.1) (D.images result.1) }
+    ensures exact { result.0 ≢ 6 → result.0 ≢ 7 → IsExact (D.content result.1) (D.images result.1) }
     ensures known { result.0 ≤ 11 }
 {
     let Opened { journal, mut disk } = opened;

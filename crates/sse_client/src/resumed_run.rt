@@ -31,7 +31,7 @@ use client_core::{Client, Ready, ResumeFault, Resumed};
 use client_rebuild::Last;
 use client_recorder::Recorder;
 use keyed_fn::Keyed;
-use script_run_texts::{CommandStop, Input, PeerStop, PlanStop, StopCause};
+use script_run_texts::{CommandStop, Input, PeerStop, StopCause};
 use sse_link::Link;
 use sse_outside::{Sink, Source};
 use sse_script::{Shown, print};
@@ -55,18 +55,10 @@ fn stop_of(fault: ResumeFault) -> CommandStop
             high,
             got,
         }),
-        ResumeFault::LabelClash { first, second } => CommandStop::Planning(PlanStop::LabelClash {
-            first,
-            second,
-        }),
-        ResumeFault::PlaceClash { first, second } => CommandStop::Planning(PlanStop::PlaceClash {
-            first,
-            second,
-        }),
-        ResumeFault::NumberClash { first, second } => {
-            CommandStop::Planning(PlanStop::NumberClash { first, second })
-        }
-        ResumeFault::NoMemory => CommandStop::Planning(PlanStop::Memory),
+        ResumeFault::LabelClash { first, second } => CommandStop::LabelClash { first, second },
+        ResumeFault::PlaceClash { first, second } => CommandStop::PlaceClash { first, second },
+        ResumeFault::NumberClash { first, second } => CommandStop::NumberClash { first, second },
+        ResumeFault::NoMemory => CommandStop::Memory,
     }
 }
 
@@ -118,7 +110,10 @@ fn resend<K: Keyed, L: Link, R: Recorder>(
     };
     match client.resume(tools.alloc, tools.master.keyed(), next) {
         Ok(Resumed::Ready(ready)) => Ok((ready, frames)),
-        Ok(Resumed::Behind(behind)) => Ok((catch_up(behind, link, recorder, buffer)?, frames)),
+        Ok(Resumed::Behind(behind)) => Ok((
+            catch_up::<K, L, R>(behind, link, recorder, buffer)?,
+            frames,
+        )),
         Err(fault) => Err(stop_of(fault)),
     }
 }

@@ -15,10 +15,10 @@ ghost use Rattle.server_core.specs.State.{at_first};
 ghost use Rattle.sse_client.specs.Calls.{shows, KeepsLink};
 ghost use Rattle.sse_client.specs.RecordKept.{StaysWhole, WholeAtStop};
 ghost use Rattle.sse_client.specs.KeyLines as keys;
-ghost use Rattle.sse_client.specs.OverServer.{IsRunOverServer, PrintsRun};
+ghost use Rattle.sse_client.specs.OverServer.{IsRunOverServer};
 ghost use Rattle.sse_client.specs.Stands.{OpensTo, outside_of, seen};
 ghost use Rattle.sse_client.specs.Turns.{ending};
-ghost use Rattle.sse_client.specs.WholeRuns.{DoesNothing, IsRun, LeavesDevices, LeavesRecorder, SaysWords, gives, outside, prints, unseen_link};
+ghost use Rattle.sse_client.specs.WholeRuns.{DoesNothing, IsRun, LeavesDevices, LeavesRecorder, gives, outside, prints};
 ghost use Rattle.sse_link.specs.LinkStates.{link_state_first};
 ghost use Rattle.sse_outside.specs.Fronts.{TookOrRose};
 ghost use Rattle.client_recorder.specs.KeepsOn.{KeepsOn};
@@ -30,14 +30,13 @@ use crate::reply_buffer::ReplyBuffer;
 use crate::session::Stage;
 use crate::tools::Tools;
 use client_core::Client;
-use client_recorder::{NoRecords, Recorder};
+use client_recorder::Recorder;
 use client_registry::Docs;
 use keyed_fn::Keyed;
 use script_run_texts::{Input, InputStop, Mode, StopCause, finish, mode_of};
-use server_core::Server;
-use server_tables::{BucketTables, Tables};
+use server_tables::Tables;
 use sse_link::{Link, SteadyLoopback};
-use sse_outside::{Sink, Source, SteadySink, SteadySource};
+use sse_outside::{Sink, Source};
 use sse_script::Line;
 use std::alloc::Global;
 use word_keys::MasterKey;
@@ -62,7 +61,7 @@ use word_keys::MasterKey;
 //   clauses: other; fields: DoesNothing.says, DoesNothing.unsent, DoesNothing.unkept, SaysWords.unread, SaysWords.status_is, SaysWords.line
 // Promise P12 (user): No frame of a setup, an addition or a deletion is sent unless the recorder took its record.
 //   clauses: run; fields: IsRun.recorded, IsRecorded.sent, IsRecorded.kept, IsRecorded.whole; assumes: observable devices; not: The order of the two in time, which is a
-//     `requires` of `catch_up`. Records of a journal on a real disk, which isn't observable; `run_in_memory`, which keeps none; whether a crash leaves a refused record.
+//     `requires` of `catch_up`. Records of a journal on a real disk, which isn't observable; whether a crash leaves a refused record.
 // Promise P13 (user): A crash during a run leaves the earlier records and then the first of the run's, in order, with none skipped.
 //   clauses: records; fields: LeavesRecorder.kept_on, LeavesRecorder.lasts; assumes: observable devices, disk model; not: Whether a crash leaves a refused record. With a status
 //     other than 6 and 7 none was refused.
@@ -71,12 +70,12 @@ use word_keys::MasterKey;
 //     and 8 the record of the command in hand may be missing; then nothing of that command was sent. The resumable state is assumed of `more` only. A run that stops before its
 //     setup: then no clause speaks of the server.
 // Promise P24 (user): Whatever the link does, the frames that `run` sends are the first that the simulator makes from the history's leakage and drawn values.
-//   clauses: run; fields: IsRun.simulated, SendsSimulated.sent; assumes: observable devices; not: Replies over a link that isn't honest. Sessions that resume with `more`. That real
-//     values look random, which is assumed.
-// Promise P25 (user): The simulator makes exactly the traffic of an undisturbed run, from the history's leakage and drawn values.
-//   clauses: run; fields: IsRun.headline, Headline.simulated, IsSimulated.made, IsSimulated.same; assumes: observable devices, honest link, no collision, no device fault, enough
-//     memory; checks: .ci/leakage; not: That the leakage is harmless; timing; sessions that resume with `more`, except as P147 joins two of them. That real values look random is
-//     assumed.
+//   clauses: run; fields: IsRun.simulated, SendsSimulated.sent; assumes: observable devices; not: Replies over a link that isn't honest. Sessions that resume with `more` (P182). That
+//     real values look random, which is assumed.
+// Promise P25 (user): The simulator makes exactly the traffic of an undisturbed `run` or `more`, from the leakage of all sessions' history and drawn values.
+//   clauses: run; fields: IsRun.headline, Headline.simulated, IsSimulated.made, IsSimulated.same, HasGoneOn.headline, Rejoined.simulated, IsSimulatedAfter.makes, IsSimulatedAfter.same;
+//     assumes: observable devices, honest link, no collision, no device fault, enough memory; checks: .ci/leakage; not: That the leakage is harmless; timing. That real values look
+//     random is assumed. Of `more` also a resumable state is assumed; it sends the updates that its server was missing again, as they were first made.
 /// All that a client program does with these words of its command line: `run` carries out the script
 /// of the source over the link, keeps the record of each setup, addition and deletion before anything
 /// of it is sent, and prints to the sink. Other words end with status 2 and `stopped: words`, and
@@ -215,8 +214,8 @@ pub(crate) fn key_line<S: Source>(source: &mut S, input: &mut Input) -> Result<M
 
 // Promise P04 (user): Over a fresh link to a server in the same process, an undisturbed run does as its script means, and everything that passes is honest.
 //   clauses: run, honest, known; fields: IsRunOverServer.run, IsRunOverServer.stopped, IsRunOverServer.headline; assumes: observable devices, fresh link, no collision, no device
-//     fault, enough memory; not: The traffic of `sse_local`: it comes here through `run_in_memory`, whose contract doesn't show the link. The statuses 3, 4, 6 and 7 end the first
-//     half of the claim.
+//     fault, enough memory; not: The statuses 3, 4, 6 and 7 end the first half of the claim. No shipped program calls this
+//     function: `sse_local` runs over a store (P05).
 // Promise P09, also here; clauses: run, devices
 // Promise P12, also here; clauses: run
 // Promise P13, also here; clauses: records
@@ -256,56 +255,4 @@ pub fn run_over_server<K: Keyed, T: Tables, R: Recorder, S: Source, W: Sink>(
     // Its contract says that all that passed is honest.
     let _passed = link.transcript();
     status
-}
-
-// Promise P05 (user): In one process, the printed lines and the status are those of the script, unless the source, the sink or memory fails.
-//   clauses: run, devices, other, known; fields: PrintsRun.over, PrintsRun.run, IsRunOverServer.headline, TellsDevices.at_end, SaysWords.unread; assumes: observable devices, no
-//     collision, no device fault, enough memory; checks: .ci/end_to_end, .ci/random_scripts, .ci/long_scripts, .ci/memory; not: The traffic on the link (P04 says it). No records are
-//     kept. Standard input and output aren't observable devices: there only tests show it.
-// Promise P09, also here; clauses: run, devices
-// Promise P10, also here; clauses: devices, known
-/// The same over a link that is made here and dropped, keeping no records: what is printed, and the status.
-pub fn run_in_memory<K: Keyed + Copy, S: Source, W: Sink>(
-    alloc: Global,
-    words: &[String],
-    keyed: &K,
-    source: &mut S,
-    sink: &mut W,
-) -> u8
-    ensures other { asks.mode_of (map (λ word. string_bytes word) words.now) ≡ None → SaysWords source.old source.new
-        (prints (W.written sink.old) (W.faults sink.old) (W.shortages sink.old)) (prints (W.written sink.new) (W.faults sink.new) (W.shortages sink.new)) result }
-    ensures run { asks.mode_of (map (λ word. string_bytes word) words.now) ≡ Some asks.Run → IfSome (S.remaining source.old) (λ bytes. PrintsRun (keyed_fn K.prf K.pad) bytes
-        (prints (W.written sink.old) (W.faults sink.old) (W.shortages sink.old)) (prints (W.written sink.new) (W.faults sink.new) (W.shortages sink.new)) result) }
-    ensures devices { LeavesDevices (gives (S.remaining source.old) (S.faults source.old)) (gives (S.remaining source.new) (S.faults source.new))
-        (prints (W.written sink.old) (W.faults sink.old) (W.shortages sink.old)) (prints (W.written sink.new) (W.faults sink.new) (W.shortages sink.new)) unseen_link unseen_link 0 0 result }
-    ensures known { (result ≤ 9) × (result ≢ 5) × (result ≢ 6) }
-{
-    let server = Server::new(BucketTables::new(alloc));
-    let mut link = SteadyLoopback::new(alloc, *keyed, server);
-    run_over_server(alloc, words, keyed, &mut link, &mut NoRecords, source, sink)
-}
-
-// Promise P05, also here; clauses: run, devices, other, known
-// Promise P09, also here; clauses: run, devices
-/// The same over a script in memory and a sink that keeps what is printed: no device fails, so that the run did what
-/// its script means unless memory was wanting or values collide that have to differ.
-pub fn run_on_bytes<K: Keyed + Copy>(
-    alloc: Global,
-    words: &[String],
-    keyed: &K,
-    source: &mut SteadySource,
-    sink: &mut SteadySink,
-) -> u8
-    ensures other { asks.mode_of (map (λ word. string_bytes word) words.now) ≡ None → SaysWords source.old source.new
-        (prints (⟦<SteadySink as Sink>⟧.written sink.old) (⟦<SteadySink as Sink>⟧.faults sink.old) (⟦<SteadySink as Sink>⟧.shortages sink.old))
-        (prints (⟦<SteadySink as Sink>⟧.written sink.new) (⟦<SteadySink as Sink>⟧.faults sink.new) (⟦<SteadySink as Sink>⟧.shortages sink.new)) result }
-    ensures run { asks.mode_of (map (λ word. string_bytes word) words.now) ≡ Some asks.Run → IfSome (⟦<SteadySource as Source>⟧.remaining source.old) (λ bytes. PrintsRun (keyed_fn K.prf K.pad) bytes
-        (prints (⟦<SteadySink as Sink>⟧.written sink.old) (⟦<SteadySink as Sink>⟧.faults sink.old) (⟦<SteadySink as Sink>⟧.shortages sink.old))
-        (prints (⟦<SteadySink as Sink>⟧.written sink.new) (⟦<SteadySink as Sink>⟧.faults sink.new) (⟦<SteadySink as Sink>⟧.shortages sink.new)) result) }
-    ensures devices { LeavesDevices (gives (⟦<SteadySource as Source>⟧.remaining source.old) (⟦<SteadySource as Source>⟧.faults source.old)) (gives (⟦<SteadySource as Source>⟧.remaining source.new) (⟦<SteadySource as Source>⟧.faults source.new))
-        (prints (⟦<SteadySink as Sink>⟧.written sink.old) (⟦<SteadySink as Sink>⟧.faults sink.old) (⟦<SteadySink as Sink>⟧.shortages sink.old))
-        (prints (⟦<SteadySink as Sink>⟧.written sink.new) (⟦<SteadySink as Sink>⟧.faults sink.new) (⟦<SteadySink as Sink>⟧.shortages sink.new)) unseen_link unseen_link 0 0 result }
-    ensures known { (result ≤ 9) × (result ≢ 3) × (result ≢ 4) × (result ≢ 5) × (result ≢ 6) }
-{
-    run_in_memory(alloc, words, keyed, source, sink)
 }

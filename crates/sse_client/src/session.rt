@@ -34,7 +34,7 @@ use client_recorder::Recorder;
 use client_registry::{Docs, Sizes};
 use keyed_fn::Keyed;
 use script_documents::{LineFault, add_document, word_of};
-use script_run_texts::{CommandStop, LineResult, PlanStop};
+use script_run_texts::{CommandStop, LineResult};
 use sse_link::Link;
 use sse_script::{Fields, Line, Refusal};
 use std::alloc::Global;
@@ -77,7 +77,7 @@ pub(crate) fn take_line<K: Keyed, L: Link, R: Recorder>(
 {
     match line {
         Line::Empty | Line::Key(_) => Ok((stage, LineResult::Nothing)),
-        Line::Doc { id, words } => Ok(collect(tools.alloc, stage, id, words)?),
+        Line::Doc { id, words } => collect(tools.alloc, stage, id, words),
         Line::Setup { b, big, pad } => {
             set_up(tools, link, recorder, buffer, stage, Sizes { b, big, pad })
         }
@@ -100,11 +100,11 @@ fn collect(
     stage: Stage,
     id: u64,
     fields: Fields<'_>,
-) -> Result<(Stage, LineResult), PlanStop>
+) -> Result<(Stage, LineResult), CommandStop>
     requires { length fields ≤ 2 ^ 19 }
     ensures takes { IfOk result (λ done. (f : KeyedFn) (now : Seen) → Takes f stage (requests.Doc id fields.entry) now now done.0 done.1) }
     ensures key { IfOk result (λ done. key_of done.0 ≡ key_of stage) }
-    ensures memory { IfErr result (λ stop. stop ≡ PlanStop.Memory) }
+    ensures memory { IfErr result (λ stop. stop ≡ CommandStop.Memory) }
     ensures may_stop { OnErr result ((f : KeyedFn) → MayStop f stage (lines.Doc id fields.entry)) }
 {
     match stage {
@@ -126,16 +126,17 @@ fn collect(
 }
 
 /// What a line without a line of its own comes to: nothing, or its refusal.
-fn refusal_of(done: Result<(), LineFault>) -> Result<LineResult, PlanStop>
+fn refusal_of(done: Result<(), LineFault>) -> Result<LineResult, CommandStop>
     ensures nothing { OnOk done (result ≡ Ok LineResult.Nothing) }
     ensures refused { (refusal : Reason) → done ≡ Err (LineFault.Refused refusal) → result ≡ Ok (LineResult.Refused refusal) }
-    ensures memory { IsErrOf done LineFault.NoMemory → result ≡ Err PlanStop.Memory }
+    ensures memory { IsErrOf done LineFault.NoMemory → result ≡ Err CommandStop.Memory }
     ensures stops { OnErr result (IsErrOf done LineFault.NoMemory) }
+    ensures only { IfErr result (λ stop. stop ≡ CommandStop.Memory) }
 {
     match done {
         Ok(()) => Ok(LineResult::Nothing),
         Err(LineFault::Refused(refusal)) => Ok(LineResult::Refused(refusal)),
-        Err(LineFault::NoMemory) => Err(PlanStop::Memory),
+        Err(LineFault::NoMemory) => Err(CommandStop::Memory),
     }
 }
 
@@ -163,7 +164,7 @@ fn set_up<K: Keyed, L: Link, R: Recorder>(
             match client.plan_setup(tools.alloc, tools.master.keyed(), docs, sizes) {
                 Ok(planned) => {
                     let setup = SetupInHand { client, planned };
-                    Ok(send_setup(tools.alloc, setup, link, recorder, buffer)?)
+                    Ok(send_setup(tools, setup, link, recorder, buffer)?)
                 }
                 Err((fault, kept)) => match setup_refusal(fault) {
                     Ok(refusal) => Ok((
@@ -172,7 +173,7 @@ fn set_up<K: Keyed, L: Link, R: Recorder>(
                     )),
                     Err(stop) => {
                         drop((client, kept));
-                        Err(CommandStop::Planning(stop))
+                        Err(stop)
                     }
                 },
             }
@@ -192,8 +193,8 @@ struct SetupInHand {
 }
 
 /// Keeps the record of a planned setup, commits it and sends it; the counts that are shown are those without dummies.
-fn send_setup<L: Link, R: Recorder>(
-    alloc: Global,
+fn send_setup<K: Keyed, L: Link, R: Recorder>(
+    tools: &Tools<'_, K>,
     setup: SetupInHand,
     link: &mut L,
     recorder: &mut R,
@@ -215,29 +216,30 @@ fn send_setup<L: Link, R: Recorder>(
 {
     let SetupInHand { client, planned } = setup;
     let (words, blocks) = (planned.own_words(), planned.own_blocks());
-    match keep_setup(alloc, &planned, recorder) {
+    match keep_setup(tools.alloc, &planned, recorder) {
         Ok(()) => {}
         Err(fault) => {
             drop((client, planned));
             return Err(CommandStop::Keeping(fault));
         }
     }
-    let ready = catch_up(client.commit(alloc, planned), link, &*recorder, buffer)?;
+    let behind = client.commit(tools.alloc, planned);
+    let ready = catch_up::<K, L, R>(behind, link, &*recorder, buffer)?;
     Ok((Stage::Searching(ready), LineResult::SetUp { words, blocks }))
 }
 
 // Promise P140, also here; clauses: ensures
 /// Why a setup is refused; equal labels, equal places and want of memory end the run instead.
-fn setup_refusal(fault: SetupFault) -> Result<Refusal, PlanStop>
+fn setup_refusal(fault: SetupFault) -> Result<Refusal, CommandStop>
     ensures { result ≡ setup_answer fault }
 {
     match fault {
         SetupFault::BadParameter { which, value } => Ok(Refusal::BadParameter { which, value }),
         SetupFault::ListTooLong { word, n } => Ok(Refusal::ListTooLong { word, n }),
         SetupFault::TooManyBytes(n) => Ok(Refusal::TooManyBytes { n }),
-        SetupFault::LabelClash { first, second } => Err(PlanStop::LabelClash { first, second }),
-        SetupFault::PlaceClash { first, second } => Err(PlanStop::PlaceClash { first, second }),
-        SetupFault::NoMemory => Err(PlanStop::Memory),
+        SetupFault::LabelClash { first, second } => Err(CommandStop::LabelClash { first, second }),
+        SetupFault::PlaceClash { first, second } => Err(CommandStop::PlaceClash { first, second }),
+        SetupFault::NoMemory => Err(CommandStop::Memory),
     }
 }
 
@@ -284,7 +286,7 @@ fn add<K: Keyed, L: Link, R: Recorder>(
                 planned,
                 done: LineResult::Added { id },
             };
-            send_update(tools.alloc, update, link, recorder, buffer)
+            send_update(tools, update, link, recorder, buffer)
         }
     }
 }
@@ -322,7 +324,7 @@ fn delete<K: Keyed, L: Link, R: Recorder>(
                 planned,
                 done: LineResult::Deleted { id },
             };
-            send_update(tools.alloc, update, link, recorder, buffer)
+            send_update(tools, update, link, recorder, buffer)
         }
     }
 }
@@ -361,7 +363,7 @@ fn find<K: Keyed, L: Link>(
                     Ok(refused) => refused,
                     Err(stop) => {
                         drop(client);
-                        return Err(CommandStop::Planning(stop));
+                        return Err(stop);
                     }
                 },
             };

@@ -1,3 +1,4 @@
 mod Asked
 mod Compared
+mod Does
 mod Summed

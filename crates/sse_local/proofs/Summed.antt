@@ -1,6 +1,6 @@
 -- A run of a made script, and the line that is printed of it.
 use Rattle.std.proofs.Common.{◌≡◌, ◌≢◌, ◌≤◌, ◌⊎◌, inl, inr, ℕ, Bool, true, false, nat_le, List, [], ◌++◌, take, Option, Some, refl, ap, subst, ◌∙◌, arith}
-use Rattle.std.specs.Prelude.{IfSome, None, flat_map}
+use Rattle.std.specs.Prelude.{IfSome, None, flat_map, map}
 use Rattle.std.specs.Io.KnownBytes.{append_known}
 use Rattle.std.proofs.lemmas.Bool.{leb-false, leb-true}
 use Rattle.std.proofs.lemmas.List.{append-nil}
@@ -13,8 +13,9 @@ use Rattle.script_made_lines.specs.Summary.{made_summary}
 use Rattle.script_run_texts.specs.Causes.{SinkCause}
 use Rattle.script_run_texts.specs.Stops.{last_line, stop_cause, stop_of_sink, stop_status}
 use Rattle.def_script_meaning.specs.Meaning.{meaning}
+use Rattle.def_script_meaning.specs.Outcome.{said}
 use Rattle.def_script_meaning.specs.Stops.{Stop, At, SinkFault, status_of, stop_text}
-use Rattle.sse_client.specs.OverServer.{PrintsAsMeant, PrintsMeaning, PrintsRun}
+use Rattle.sse_client.specs.InProcess.{PrintsAsMeant, PrintsMeaning, RunsInProcess}
 use Rattle.sse_client.specs.WholeRuns.{SinkShows}
 use Rattle.sse_outside.specs.Causes.{Rose}
 use Rattle.sse_outside.specs.Fronts.{TookFront, TookOrRose}
@@ -52,7 +53,7 @@ known-is P (Some bytes) script is p = let same : bytes ≡ script = cc in subst 
 
 module _ (f : KeyedFn) (seed documents : ℕ) (few : documents ≤ 10000) where
   -- it came to the end of its script with nothing refused, or stopped for memory or for equal values
-  pub made-status : (sink sink' : SinkShows) (status : ℕ) → PrintsRun f (made_text seed documents) sink sink' status → status ≤ 9 → status ≢ 3 → status ≢ 4 → status ≢ 5 → status ≢ 6
+  pub made-status : (sink sink' : SinkShows) (status : ℕ) → RunsInProcess f (made_text seed documents) sink sink' status → status ≤ 9 → status ≢ 3 → status ≢ 4 → status ≢ 5 → status ≢ 6
       → (status ≡ 0) ⊎ ((7 ≤ status) × (status ≤ 9))
   made-status before after status run most source sink link disk = by (nat_le status 2) refl
     where
@@ -67,10 +68,10 @@ module _ (f : KeyedFn) (seed documents : ℕ) (few : documents ≤ 10000) where
 
   -- what was printed is what the script means
   printed : (text : List ℕ) (status : ℕ) → PrintsMeaning (meaning (made_text seed documents)) (Some []) (Some text) status
-      → (status ≡ 0) × (text ≡ flat_map text_of (meaning (made_text seed documents)).shown)
+      → (status ≡ 0) × (text ≡ flat_map text_of (map said (meaning (made_text seed documents)).shown))
   printed text status m =
       let at_end = made_text-end seed documents few in
-      let lines = flat_map text_of (meaning (made_text seed documents)).shown in
+      let lines = flat_map text_of (map said (meaning (made_text seed documents)).shown) in
       let nothing : stop_text (meaning (made_text seed documents)).end ≡ [] = ap stop_text at_end in
       let same : Some text ≡ Some lines = m.printed ∙ ap (λ (rest : List ℕ). Some (lines ++ take m.q rest)) nothing ∙ ap (λ (rest : List ℕ). Some (lines ++ rest)) (none m.q) ∙ ap (λ b. Some b) (append-nil lines) in
       (m.status_is ∙ ap status_of at_end, inner same)

@@ -1,4 +1,5 @@
-pub mod Given
+pub mod Asked
 pub mod Compared
 pub mod ComparisonViews
 pub mod Made
+pub mod Program

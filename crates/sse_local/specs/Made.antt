@@ -1,5 +1,5 @@
 -- The program's work on a made script: a run of it prints into memory, and one line of that is printed.
-use Rattle.std.specs.Prelude.{◌≡◌, ◌≤◌, ◌⊎◌, ◌-◌, ℕ, true, List, [], ◌∷◌, drop, flat_map, nat_eq, slice_get, codes, Option, Some}
+use Rattle.std.specs.Prelude.{◌≡◌, ◌≤◌, ◌⊎◌, ◌-◌, ℕ, true, List, [], ◌∷◌, drop, flat_map, map, nat_eq, slice_get, codes, Option, Some}
 use Rattle.std.specs.Io.KnownBytes.{append_known}
 use Rattle.std.specs.List.{ends_with, starts_with}
 use Rattle.script_history.specs.Endings.{EndsIn, Seen, StopsTelling}
@@ -7,9 +7,10 @@ use Rattle.keyed_fn.specs.KeyedFn.{KeyedFn}
 use Rattle.script_made_lines.specs.Script.{made_text}
 use Rattle.script_made_lines.specs.Summary.{made_summary}
 use Rattle.def_script_meaning.specs.Meaning.{Meaning, meaning}
+use Rattle.def_script_meaning.specs.Outcome.{said}
 use Rattle.def_script_meaning.specs.Session.{IsFree}
 use Rattle.def_script_meaning.specs.Stops.{Stop, status_of}
-use Rattle.sse_client.specs.OverServer.{PrintsRun}
+use Rattle.sse_client.specs.InProcess.{RunsInProcess}
 use Rattle.sse_client.specs.WholeRuns.{SinkShows}
 use Rattle.sse_outside.specs.Causes.{Rose}
 use Rattle.sse_outside.specs.Fronts.{TookOrRose}
@@ -63,7 +64,7 @@ pub record RunsMade (f : KeyedFn) (seed documents : ℕ) (written : Option (List
   pub sink' : SinkShows
   pub empty : sink.written ≡ Some []
   pub has : sink'.written ≡ written
-  pub runs : PrintsRun f (made_text seed documents) sink sink' status
+  pub runs : RunsInProcess f (made_text seed documents) sink sink' status
 
 -- and this is told of the run
 pub record HasSummed (f : KeyedFn) (seed documents : ℕ) (now last : Seen) (status : ℕ) : Type 0 where
@@ -82,7 +83,7 @@ IsMadeStatus status faults faults_now = ((status ≡ 0) ⊎ ((status ≡ 4) × R
 -- the summary of the lines that a made script means is printed, with status 0
 pub record PrintsSummary (documents : ℕ) (m : Meaning) (old new : Option (List ℕ)) (status : ℕ) : Type 0 where
   pub status_is : status ≡ 0
-  pub printed : new ≡ append_known old (made_summary documents (flat_map text_of m.shown))
+  pub printed : new ≡ append_known old (made_summary documents (flat_map text_of (map said m.shown)))
 
 -- where its history has no collision
 abbrev pub PrintsSummaryAsMeant : KeyedFn → (seed documents : ℕ) → (old new : Option (List ℕ)) → (status : ℕ) → Type 0

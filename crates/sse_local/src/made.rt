@@ -2,14 +2,14 @@ ghost use Rattle.std.specs.Prelude.{◌≡◌, ◌≢◌, ◌≤◌, ◌⊎◌, 
 ghost use Rattle.script_history.specs.Endings.{seen_of};
 ghost use Rattle.keyed_fn.specs.KeyedFn.{keyed_fn};
 ghost use Rattle.script_made_lines.specs.Script.{made_text};
-ghost use Rattle.sse_client.specs.OverServer.{PrintsAsMeant};
+ghost use Rattle.sse_client.specs.InProcess.{PrintsAsMeant};
 ghost use Rattle.sse_local.specs.Made.{HasMadeRun, IsMadeStatus, IsStopLine, LacksMemory, PrintsSummaryAsMeant, RunsMade, Tells};
 ghost use Rattle.sse_outside.specs.Fronts.{TookOrRose};
 
 use keyed_fn::Keyed;
 use script_made_lines::{Made, MadeScript, print_summary};
 use script_run_texts::{StopCause, finish};
-use sse_client::run_in_memory;
+use sse_client::run_in_process;
 use sse_outside::{Sink, SteadySink, print_all};
 use std::alloc::{AllocError, Global};
 
@@ -53,7 +53,7 @@ fn kept_run<K: Keyed + Copy>(alloc: Global, keyed: &K, made: Made) -> Result<Kep
     let words = vec![in alloc; String::from_str(alloc, "run")?]?;
     let mut script = MadeScript::new(made.seed, made.documents);
     let mut printed = SteadySink::new(alloc);
-    let status = run_in_memory(alloc, words.as_slice(), keyed, &mut script, &mut printed);
+    let status = run_in_process(alloc, words.as_slice(), keyed, &mut script, &mut printed);
     Ok(KeptRun { status, printed })
 }
 

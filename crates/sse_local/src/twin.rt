@@ -7,8 +7,9 @@ ghost use Rattle.script_history.specs.Turns.{IsElsewhere, first_end, reading_end
 ghost use Rattle.keyed_fn.specs.KeyedFn.{keyed_fn};
 ghost use Rattle.script_run_texts.specs.Causes.{KeepsSink, KeepsSource, SourceCause};
 ghost use Rattle.def_script_meaning.specs.Stops.{At};
+ghost use Rattle.sse_client.specs.WholeRuns.{gives, prints};
 ghost use Rattle.sse_local.specs.Compared.{AreBehind, AreComparedSo, GoesOnBehind, GoesOnFirst, HasCompared, IsCompared, ReadsBehind};
-ghost use Rattle.sse_outside.specs.Causes.{Rose};
+ghost use Rattle.sse_local.specs.Program.{TellsStreams};
 ghost use Rattle.sse_script.specs.Shown.{NoMemory};
 ghost use Rattle.sse_script.specs.TextLines.{bytes_to_come, lines_left, lines_of};
 
@@ -30,7 +31,7 @@ struct Parted {
 }
 
 // Promise P29 (user): With `twin` the program compares two scripts by their leakage: the counts of the second, or the first command that leaks otherwise.
-//   clauses: compares, at_end, source_failed, source_steady, sink_failed, sink_steady; assumes: observable devices, no device fault, enough memory; checks: .ci/twin; not: That histories
+//   clauses: compares, streams, known; fields: TellsStreams.at_end, TellsStreams.source_failed, TellsStreams.source_steady, TellsStreams.sink_failed, TellsStreams.sink_steady; assumes: observable devices, no device fault, enough memory; checks: .ci/twin; not: That histories
 //     with different leakage can be told apart. Standard input and output, which aren't observable.
 /// Compares two scripts with a line `twin` between them: prints their refusals as a run prints them, then whether the two histories
 /// look the same to a server, and answers the status: 0 where they do, or 1 where they don't or a command was refused. The first
@@ -47,11 +48,9 @@ pub(crate) fn twin_run<K: Keyed, S: Source, W: Sink>(
 ) -> u8
     ensures compares { IfSome (S.remaining source.old) (λ bytes.
         HasCompared (keyed_fn K.prf K.pad) bytes (seen_of (W.written sink.old) (W.faults sink.old) (W.shortages sink.old)) (seen_of (W.written sink.new) (W.faults sink.new) (W.shortages sink.new)) result) }
-    ensures at_end { result ≤ 1 → IsAtEnd (S.remaining source.new) }
-    ensures source_failed { result ≡ 3 → Rose (S.faults source.old) (S.faults source.new) }
-    ensures source_steady { result ≢ 3 → S.faults source.new ≡ S.faults source.old }
-    ensures sink_failed { result ≡ 4 → Rose (W.faults sink.old) (W.faults sink.new) }
-    ensures sink_steady { result ≤ 1 → W.faults sink.new ≡ W.faults sink.old }
+    ensures streams { TellsStreams (IsAtEnd (S.remaining source.new)) (gives (S.remaining source.old) (S.faults source.old)) (gives (S.remaining source.new) (S.faults source.new))
+        (prints (W.written sink.old) (W.faults sink.old) (W.shortages sink.old)) (prints (W.written sink.new) (W.faults sink.new) (W.shortages sink.new)) result }
+    ensures known { result ≤ 9 }
 {
     match compare_scripts(alloc, keyed, source, sink) {
         Ok(false) => 0,

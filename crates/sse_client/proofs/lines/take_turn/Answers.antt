@@ -1,4 +1,4 @@
-use Rattle.std.proofs.Common.{◌||◌, ◌+◌, Some, Err, rules, refl, sym, ap, ◌∙◌, subst, arith}
+use Rattle.std.proofs.Common.{◌||◌, ◌+◌, inl, Some, Err, rules, refl, sym, ap, ◌∙◌, subst, arith}
 use Rattle.keyed_fn.specs.KeyedFn.{keyed_fn}
 use Rattle.script_run_texts.specs.Causes.{LinkCause, RecorderCause, SourceCause}
 use Rattle.script_run_texts.specs.Stops.{stop_of_sink}
@@ -63,7 +63,7 @@ returns-in_err-next-in_default-clause-turns g c = λ place at.
     leads-stopped f _ _ _ c.from_residual.result (stops.Command c.in_err-next-in_default.field-0.0) c.from_residual.ensures.1
     (ends-stopped f _ c.args.session.stage c.args.session.input.number _ (has_refused c.args.session.refusals) _ (there-start f place c.args.session.stage c.args.session.input.number _ (has_refused c.args.session.refusals) _ at) _ text command.0 _ _ (c.in-Ok.ensures.line (search rules))
     (line_in-read c.in-Ok-line.line text c.in-Ok-line.ensures.read ∙ ap (λ line. Some line) command.1)
-    (λ spot standing. c.in_err-next-in_default.ensures.stops command.0 command.1 spot standing (g.W.Sink.written c.args.sink.now)))
+    (λ spot standing. inl (c.in_err-next-in_default.ensures.stops command.0 command.1 spot standing (g.W.Sink.written c.args.sink.now))))
 
 pub returns-in-Err-print-clause-turns :
     goal.returns-in-Err-print-clause-turns

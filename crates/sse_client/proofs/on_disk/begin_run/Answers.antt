@@ -1,4 +1,4 @@
-use Rattle.std.proofs.Common.{◌≡◌, [], ◌∷◌, inl, inr, refl, ap, sym, subst, ◌∙◌, arith}
+use Rattle.std.proofs.Common.{◌≡◌, ◌≢◌, [], ◌∷◌, inl, inr, refl, ap, sym, subst, ◌∙◌, arith}
 use Rattle.std.proofs.lemmas.Bool.{true≢false}
 use Rattle.std.specs.Option.{option_map_or}
 use Rattle.std.specs.Prelude.{IfSome}
@@ -11,10 +11,12 @@ use Rattle.script_run_texts.specs.declared.journal_stop.JournalStop.TheVariants 
 use Rattle.sse_client.proofs.Devices.{devices-on, devices-unopened}
 use Rattle.sse_client.proofs.LastLine.{counts-took}
 use Rattle.sse_client.proofs.KeptOnDisk.{behind_start, gives_own, kept_at_start, kept_on_disk}
-use Rattle.sse_client.proofs.RecordsLast.{takes_lasts}
+use Rattle.sse_client.proofs.NoRecord.{begun_low}
+use Rattle.sse_client.proofs.RecordsLast.{holds_exact}
+use Rattle.sse_client.proofs.ResumedRuns.{for_all}
 use Rattle.sse_client.proofs.RunsOnDisk.{not_begun, unopened}
 use Rattle.sse_client.proofs.WholeRun.{IfSome-then}
-use Rattle.sse_client.specs.OnDisk.{IsNotBegun, Lasts, kept_on, seen_with}
+use Rattle.sse_client.specs.OnDisk.{IsExact, IsNotBegun, kept_on, seen_with}
 use Rattle.sse_client.specs.Stands.{outside_of, seen}
 use Rattle.sse_client.specs.WholeRuns.{IsRun, prints}
 use Rattle.sse_client.proofs.on_disk.begin_run.Goals as goal
@@ -41,13 +43,20 @@ returns-in-Ok-clause-begun g c =
     let has : P (kept c.whole_run-status.new.recorder) =
     subst (λ k. IfSome remaining (λ bytes. IsRun f bytes (outside_of (seen told k) written) (outside_of (seen told' (kept c.whole_run-status.new.recorder)) written') sink sink' status)) first
     c.whole_run-status.ensures.run in
-    inr (behind_start g.D.Disk.content g.D.Disk.images g.D.Disk.moment g.D.Disk.left_since c.args.disk begun c.into_disk.result P
+    let ended = c.whole_run-status.new.recorder in
+    let exact : status ≢ 6 → status ≢ 7 → (kept ended ≡ kept_on (g.D.Disk.content ended.disk)) × IsExact (g.D.Disk.content ended.disk) (g.D.Disk.images ended.disk) = λ disk memory.
+    let whole = c.whole_run-status.ensures.records.lasts disk memory in (
+      ap (λ refused. record { records = records_counted ended.journal (g.D.Disk.content ended.disk); refused = option_map_or (λ payload. payload.items ∷ []) refused [] }) whole.1
+          ∙ kept_at_start ended.journal (g.D.Disk.content ended.disk) (g.D.Disk.images ended.disk) whole.0,
+      holds_exact ended.journal (g.D.Disk.content ended.disk) (g.D.Disk.images ended.disk) whole.0.holds,
+    ) in
+    inr (behind_start g.D.Disk.content g.D.Disk.images g.D.Disk.moment g.D.Disk.left_since c.args.disk begun c.into_disk.result status P
     (λ (k : Kept). IfSome remaining (λ bytes. IsRun f bytes (seen_with told (g.D.Disk.content c.args.disk) written) (outside_of (seen told' k) written') sink sink' status))
     (λ k is. subst (λ records. IfSome remaining (λ bytes. IsRun f bytes (outside_of (seen told (record { records = records; refused = [] })) written) (outside_of (seen told' k) written') sink sink' status)) c.in-Ok.ensures.same_records is)
     (gives_own (g.D.Disk.content c.args.disk) _ (λ file is. ([], is.gives)) c.in-Ok.ensures.begun) c.in-Ok.ensures.same_records (elim c.in-Ok.ensures.any_moment [ inl synced ↦ synced | inr refused ↦ absurd (true≢false (sym refused.0)) ])
-    (kept_on_disk g.D.Disk.content g.D.Disk.images g.D.Disk.moment g.D.Disk.left_since (λ r. r.disk) kept recorder c.whole_run-status.new.recorder begun c.into_disk.result P
+    (kept_on_disk g.D.Disk.content g.D.Disk.images g.D.Disk.moment g.D.Disk.left_since (λ r. r.disk) kept recorder c.whole_run-status.new.recorder begun c.into_disk.result status P
     c.new-recorder.ensures.disk c.into_disk.ensures first (λ image is. g.met.D.Disk.counts_now c.whole_run-status.new.recorder.disk (g.D.Disk.moment c.whole_run-status.new.recorder.disk) image (omega arith) is)
-    c.whole_run-status.ensures.records.kept_on has))
+    c.whole_run-status.ensures.records.kept_on exact has))
 
 pub returns-in-Err-clause-begun : goal.returns-in-Err-clause-begun
 returns-in-Err-clause-begun g c =
@@ -68,13 +77,13 @@ returns-in-Err-clause-begun g c =
       elim c.in-Err.ensures.any_moment [ inl synced ↦ inl synced | inr refused ↦ inr refused.1 ],
     )
 
-pub returns-in-Ok-clause-lasts : goal.returns-in-Ok-clause-lasts
-returns-in-Ok-clause-lasts g c = λ disk memory other.
+pub returns-in-Ok-clause-exact : goal.returns-in-Ok-clause-exact
+returns-in-Ok-clause-exact g c = λ disk memory other.
     let recorder = c.whole_run-status.new.recorder in
-    subst (λ d. Lasts (g.D.Disk.content d) (g.D.Disk.images d)) (sym c.into_disk.ensures) (takes_lasts recorder.journal (g.D.Disk.content recorder.disk) (g.D.Disk.images recorder.disk) (c.whole_run-status.ensures.records.lasts disk memory).0)
+    subst (λ d. IsExact (g.D.Disk.content d) (g.D.Disk.images d)) (sym c.into_disk.ensures) (holds_exact recorder.journal (g.D.Disk.content recorder.disk) (g.D.Disk.images recorder.disk) (c.whole_run-status.ensures.records.lasts disk memory).0.holds)
 
-pub returns-in-Err-clause-lasts : goal.returns-in-Err-clause-lasts
-returns-in-Err-clause-lasts g c = λ disk memory other. elim c.finish_unopened.ensures.known [
+pub returns-in-Err-clause-exact : goal.returns-in-Err-clause-exact
+returns-in-Err-clause-exact g c = λ disk memory other. elim c.finish_unopened.ensures.known [
   | inl six ↦ absurd (disk six)
   | inr (inl seven) ↦ absurd (memory seven)
   | inr (inr (inl ten)) ↦ absurd (other ten)
@@ -103,3 +112,13 @@ returns-in-Err-clause-devices g c =
       began = refl;
       line = counts-took _ _ _ c.finish_unopened.result _ _ _ _ c.finish_unopened.ensures.line;
     }
+
+pub returns-in-Ok-clause-no_record : goal.returns-in-Ok-clause-no_record
+returns-in-Ok-clause-no_record g c = for_all (g.D.Disk.content c.args.disk) _ (λ file none. c.whole_run-status.ensures.known)
+
+pub returns-in-Err-clause-no_record : goal.returns-in-Err-clause-no_record
+returns-in-Err-clause-no_record g c =
+    let stop = c.in-Err.stop in
+    IfSome-then (g.D.Disk.content c.args.disk) _ _ (λ file goes none.
+    begun_low stop c.finish_unopened.result c.finish_unopened.ensures.status
+    (λ disk memory. let ok = goes none (λ e. disk (let same : stop ≡ journals.Disk = cc in same)) (λ e. memory (let same : stop ≡ journals.Memory = cc in same)) in cc)) c.in-Err.ensures.accepted

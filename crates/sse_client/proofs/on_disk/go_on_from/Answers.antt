@@ -1,4 +1,4 @@
-use Rattle.std.proofs.Common.{◌≡◌, ◌+◌, [], ◌∷◌, refl, ap, sym, subst, ◌∙◌, arith}
+use Rattle.std.proofs.Common.{◌≡◌, ◌≢◌, ◌+◌, [], ◌∷◌, refl, ap, sym, subst, ◌∙◌, arith}
 use Rattle.std.specs.Option.{option_map_or}
 use Rattle.std.specs.Prelude.{IfSome}
 use Rattle.keyed_fn.specs.KeyedFn.{IsKeyedFn, keyed_fn}
@@ -16,8 +16,8 @@ use Rattle.sse_client.proofs.KeptOnDisk.{behind_reading, kept_at_start, kept_on_
 use Rattle.sse_client.proofs.LastLine.{counts-took, ends_line}
 use Rattle.sse_client.proofs.RunsOnDisk.{has_gone_on, has_gone_on-held}
 use Rattle.sse_client.specs.ResumedRun.{GoesOnTo, HasEndedAfter, Restores}
-use Rattle.sse_client.specs.OnDisk.{HasGoneOn, HeldCause, HeldSource, Lasts, RecordsCause, held_stop, kept_on, seen_with}
-use Rattle.sse_client.proofs.RecordsLast.{takes_lasts}
+use Rattle.sse_client.specs.OnDisk.{HasGoneOn, HeldCause, HeldSource, IsExact, RecordsCause, held_stop, kept_on, seen_with}
+use Rattle.sse_client.proofs.RecordsLast.{holds_exact}
 use Rattle.sse_client.specs.Stands.{outside_of, seen}
 use Rattle.sse_client.proofs.on_disk.go_on_from.Goals as goal
 
@@ -58,10 +58,17 @@ returns-in-Ok-clause-gone_on g c =
     f0 f2 s0 s2 c.in-Ok.ensures.found had.1
     (subst (λ k. HasEndedAfter f key had.0 next behind (outside_of (seen told k) written) (outside_of (seen told' (kept c.gone_on-status.new.recorder)) written') status f0 f2 s0 s2)
     (first ∙ ap kept_on c.in-Ok.ensures.kept) (c.gone_on-status.ensures.gone_on had.0 had.2)) in
-    behind_reading g.D.Disk.content g.D.Disk.images g.D.Disk.moment g.D.Disk.left_since c.args.opened.disk read c.into_disk.result P c.args.opened.journal c.requires.holds c.in-Ok.ensures.kept c.in-Ok.ensures.quiet
-    (kept_on_disk g.D.Disk.content g.D.Disk.images g.D.Disk.moment g.D.Disk.left_since (λ r. r.disk) kept recorder c.gone_on-status.new.recorder read c.into_disk.result P
+    let ended = c.gone_on-status.new.recorder in
+    let exact : status ≢ 6 → status ≢ 7 → (kept ended ≡ kept_on (g.D.Disk.content ended.disk)) × IsExact (g.D.Disk.content ended.disk) (g.D.Disk.images ended.disk) = λ disk memory.
+    let whole = c.gone_on-status.ensures.records.lasts disk memory in (
+      ap (λ refused. record { records = records_counted ended.journal (g.D.Disk.content ended.disk); refused = option_map_or (λ payload. payload.items ∷ []) refused [] }) whole.1
+          ∙ kept_at_start ended.journal (g.D.Disk.content ended.disk) (g.D.Disk.images ended.disk) whole.0,
+      holds_exact ended.journal (g.D.Disk.content ended.disk) (g.D.Disk.images ended.disk) whole.0.holds,
+    ) in
+    behind_reading g.D.Disk.content g.D.Disk.images g.D.Disk.moment g.D.Disk.left_since c.args.opened.disk read c.into_disk.result status P c.args.opened.journal c.requires.holds c.in-Ok.ensures.kept c.in-Ok.ensures.quiet
+    (kept_on_disk g.D.Disk.content g.D.Disk.images g.D.Disk.moment g.D.Disk.left_since (λ r. r.disk) kept recorder c.gone_on-status.new.recorder read c.into_disk.result status P
     c.new-recorder.ensures.disk c.into_disk.ensures first (λ image is. g.met.D.Disk.counts_now c.gone_on-status.new.recorder.disk (g.D.Disk.moment c.gone_on-status.new.recorder.disk) image (omega arith) is)
-    c.gone_on-status.ensures.records.kept_on has)
+    c.gone_on-status.ensures.records.kept_on exact has)
 
 pub returns-in-Err-Records-clause-gone_on : goal.returns-in-Err-Records-clause-gone_on
 returns-in-Err-Records-clause-gone_on g c =
@@ -84,7 +91,7 @@ returns-in-Err-Records-clause-gone_on g c =
     let line = subst (λ s. TookOrRose written (g.W.Sink.written c.finish_unopened.new.sink) (journal_line s) (g.W.Sink.faults c.args.sink.now) (g.W.Sink.faults c.finish_unopened.new.sink) (g.W.Sink.shortages c.args.sink.now) (g.W.Sink.shortages c.finish_unopened.new.sink))
     c.in-Err-Records.stop-is c.finish_unopened.ensures.line in
     let goes = subst (λ s. GoesOnTo f (lines_left [] remaining) now now (held_stop s)) c.in-Err-Records.field-0-is (c.in-Err-Records.ensures.stopped told written) in
-    kept_still g.D.Disk.content g.D.Disk.images g.D.Disk.moment g.D.Disk.left_since c.args.opened.disk c.restored.new.disk _ c.args.opened.journal c.requires.holds c.in-Err-Records.ensures.holds c.in-Err-Records.ensures.kept c.in-Err-Records.ensures.quiet
+    kept_still g.D.Disk.content g.D.Disk.images g.D.Disk.moment g.D.Disk.left_since c.args.opened.disk c.restored.new.disk status _ c.args.opened.journal c.requires.holds c.in-Err-Records.ensures.holds c.in-Err-Records.ensures.kept c.in-Err-Records.ensures.quiet
     (has_gone_on-held f laws remaining now (outside_of (seen told (kept_on old)) (g.W.Sink.written c.finish_unopened.new.sink)) stop status (g.W.Sink.faults c.args.sink.now) (g.W.Sink.faults c.finish_unopened.new.sink)
     (g.W.Sink.shortages c.args.sink.now) (g.W.Sink.shortages c.finish_unopened.new.sink) goes refl refl
     (ends_line stop written (g.W.Sink.written c.finish_unopened.new.sink) status (g.W.Sink.faults c.args.sink.now) (g.W.Sink.faults c.args.sink.now) (g.W.Sink.faults c.finish_unopened.new.sink)
@@ -111,24 +118,24 @@ returns-clause-gone_on g c =
     let line = subst (λ s. TookOrRose written (g.W.Sink.written c.finish.new.sink) (last_line (input s)) (g.W.Sink.faults c.args.sink.now) (g.W.Sink.faults c.finish.new.sink) (g.W.Sink.shortages c.args.sink.now) (g.W.Sink.shortages c.finish.new.sink))
     c.in-Err-Input.stop-is c.finish.ensures.line in
     let goes = subst (λ s. GoesOnTo f (lines_left [] remaining) now now (held_stop s)) c.in-Err-Input.field-0-is (c.in-Err-Input.ensures.stopped told written) in
-    kept_still g.D.Disk.content g.D.Disk.images g.D.Disk.moment g.D.Disk.left_since c.args.opened.disk c.restored.new.disk _ c.args.opened.journal c.requires.holds c.in-Err-Input.ensures.holds c.in-Err-Input.ensures.kept c.in-Err-Input.ensures.quiet
+    kept_still g.D.Disk.content g.D.Disk.images g.D.Disk.moment g.D.Disk.left_since c.args.opened.disk c.restored.new.disk status _ c.args.opened.journal c.requires.holds c.in-Err-Input.ensures.holds c.in-Err-Input.ensures.kept c.in-Err-Input.ensures.quiet
     (has_gone_on-held f laws remaining now (outside_of (seen told (kept_on old)) (g.W.Sink.written c.finish.new.sink)) stop status (g.W.Sink.faults c.args.sink.now) (g.W.Sink.faults c.finish.new.sink)
     (g.W.Sink.shortages c.args.sink.now) (g.W.Sink.shortages c.finish.new.sink) goes refl refl
     (ends_line stop written (g.W.Sink.written c.finish.new.sink) status (g.W.Sink.faults c.args.sink.now) (g.W.Sink.faults c.args.sink.now) (g.W.Sink.faults c.finish.new.sink)
     (g.W.Sink.shortages c.args.sink.now) (g.W.Sink.shortages c.args.sink.now) (g.W.Sink.shortages c.finish.new.sink) is line (λ other. refl) (omega arith)) is)
 
-pub returns-in-Ok-clause-lasts : goal.returns-in-Ok-clause-lasts
-returns-in-Ok-clause-lasts g c = λ disk memory.
+pub returns-in-Ok-clause-exact : goal.returns-in-Ok-clause-exact
+returns-in-Ok-clause-exact g c = λ disk memory.
     let recorder = c.gone_on-status.new.recorder in
-    subst (λ d. Lasts (g.D.Disk.content d) (g.D.Disk.images d)) (sym c.into_disk.ensures) (takes_lasts recorder.journal (g.D.Disk.content recorder.disk) (g.D.Disk.images recorder.disk) (c.gone_on-status.ensures.records.lasts disk memory).0)
+    subst (λ d. IsExact (g.D.Disk.content d) (g.D.Disk.images d)) (sym c.into_disk.ensures) (holds_exact recorder.journal (g.D.Disk.content recorder.disk) (g.D.Disk.images recorder.disk) (c.gone_on-status.ensures.records.lasts disk memory).0.holds)
 
-pub returns-in-Err-Records-clause-lasts : goal.returns-in-Err-Records-clause-lasts
-returns-in-Err-Records-clause-lasts g c = λ disk memory.
-    takes_lasts c.args.opened.journal (g.D.Disk.content c.restored.new.disk) (g.D.Disk.images c.restored.new.disk) (record { unbroken = c.requires.unbroken; holds = c.in-Err-Records.ensures.holds })
+pub returns-in-Err-Records-clause-exact : goal.returns-in-Err-Records-clause-exact
+returns-in-Err-Records-clause-exact g c = λ disk memory.
+    holds_exact c.args.opened.journal (g.D.Disk.content c.restored.new.disk) (g.D.Disk.images c.restored.new.disk) c.in-Err-Records.ensures.holds
 
-pub returns-clause-lasts : goal.returns-clause-lasts
-returns-clause-lasts g c = λ disk memory.
-    takes_lasts c.args.opened.journal (g.D.Disk.content c.restored.new.disk) (g.D.Disk.images c.restored.new.disk) (record { unbroken = c.requires.unbroken; holds = c.in-Err-Input.ensures.holds })
+pub returns-clause-exact : goal.returns-clause-exact
+returns-clause-exact g c = λ disk memory.
+    holds_exact c.args.opened.journal (g.D.Disk.content c.restored.new.disk) (g.D.Disk.images c.restored.new.disk) c.in-Err-Input.ensures.holds
 
 pub gone_on-status-requires-clause-restores : goal.gone_on-status-requires-clause-restores
 gone_on-status-requires-clause-restores g c =

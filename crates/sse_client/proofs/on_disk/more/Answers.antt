@@ -16,7 +16,21 @@ use Rattle.sse_client.proofs.on_disk.more.Goals as goal
 
 pub returns-in-Ok-clause-refused : goal.returns-in-Ok-clause-refused
 returns-in-Ok-clause-refused g c =
-    IfSome-then (g.D.Disk.content c.args.disk) _ _ (λ file ends none disk memory. absurd (let no_error = ends none (λ e. absurd (cc)) (λ e. absurd (cc)) in cc)) c.in-Ok.ensures.no_journal_refused
+    IfSome-then (g.D.Disk.content c.args.disk) _ _ (λ file ends none. absurd (let no_error = ends none (λ e. absurd (cc)) (λ e. absurd (cc)) in cc)) c.in-Ok.ensures.no_journal_refused
+
+pub returns-in-Err-clause-refused : goal.returns-in-Err-clause-refused
+returns-in-Err-clause-refused g c =
+    let stop = c.in-Err.stop in
+    let content = g.D.Disk.content c.args.disk in
+    for_all content _ (λ file none. record {
+      unread = refl;
+      unopened =
+          unopened IsNotReopened stop (g.L.Link.transcript c.args.link.now) content (g.D.Disk.content c.reopen.new.disk) (g.W.Sink.written c.args.sink.now) (g.W.Sink.written c.finish_unopened.new.sink) c.finish_unopened.result
+          (g.W.Sink.faults c.args.sink.now) (g.W.Sink.faults c.finish_unopened.new.sink) (g.W.Sink.shortages c.args.sink.now) (g.W.Sink.shortages c.finish_unopened.new.sink)
+          (not_reopened stop content (λ e. c.in-Err.ensures.no_journal (search e)) (λ e. c.in-Err.ensures.never_has_records (search e)) (λ number e. c.in-Err.ensures.never_bad_record number (search e)) (λ e. c.in-Err.ensures.never_wrong_key (search e)))
+          (λ disk memory. c.in-Err.ensures.same_refused (λ e. disk (let same : stop ≡ journals.Disk = cc in same)) (λ e. memory (let same : stop ≡ journals.Memory = cc in same)))
+          c.finish_unopened.ensures.line c.finish_unopened.ensures.status;
+    })
 
 pub returns-in-Ok-clause-more : goal.returns-in-Ok-clause-more
 returns-in-Ok-clause-more g c =
@@ -31,7 +45,7 @@ returns-in-Ok-clause-more g c =
     let f2 = g.W.Sink.faults c.go_on_from.new.sink in
     let s0 = g.W.Sink.shortages c.args.sink.now in
     let s2 = g.W.Sink.shortages c.go_on_from.new.sink in
-    inr (behind_start g.D.Disk.content g.D.Disk.images g.D.Disk.moment g.D.Disk.left_since c.args.disk c.reopen.new.disk c.go_on_from.result.1
+    inr (behind_start g.D.Disk.content g.D.Disk.images g.D.Disk.moment g.D.Disk.left_since c.args.disk c.reopen.new.disk c.go_on_from.result.1 c.go_on_from.result.0
     (λ k. IfSome remaining (λ bytes. HasGoneOn f bytes (seen_with told (g.D.Disk.content c.reopen.new.disk) written) (outside_of (seen told' k) written') c.go_on_from.result.0 f0 f2 s0 s2))
     (λ k. IfSome remaining (λ bytes. HasGoneOn f bytes (seen_with told content written) (outside_of (seen told' k) written') c.go_on_from.result.0 f0 f2 s0 s2))
     (λ k is. subst (λ records. IfSome remaining (λ bytes. HasGoneOn f bytes (outside_of (seen told (record { records = records; refused = [] })) written) (outside_of (seen told' k) written') c.go_on_from.result.0 f0 f2 s0 s2)) c.in-Ok.ensures.same_records is)
@@ -55,8 +69,8 @@ returns-in-Err-clause-more g c =
       elim c.in-Err.ensures.any_moment [ inl synced ↦ inl synced | inr refused ↦ inr refused.1 ],
     )
 
-pub returns-in-Err-clause-lasts : goal.returns-in-Err-clause-lasts
-returns-in-Err-clause-lasts g c = λ disk memory other. elim c.finish_unopened.ensures.known [
+pub returns-in-Err-clause-exact : goal.returns-in-Err-clause-exact
+returns-in-Err-clause-exact g c = λ disk memory other. elim c.finish_unopened.ensures.known [
   | inl six ↦ absurd (disk six)
   | inr (inl seven) ↦ absurd (memory seven)
   | inr (inr (inl ten)) ↦ absurd (other ten)
@@ -77,7 +91,7 @@ returns-in-Ok-clause-accepted g c =
     let s0 = g.W.Sink.shortages c.args.sink.now in
     let s2 = g.W.Sink.shortages c.go_on_from.new.sink in
     for_all content _ (λ file some disk memory.
-    behind_start g.D.Disk.content g.D.Disk.images g.D.Disk.moment g.D.Disk.left_since c.args.disk c.reopen.new.disk c.go_on_from.result.1
+    behind_start g.D.Disk.content g.D.Disk.images g.D.Disk.moment g.D.Disk.left_since c.args.disk c.reopen.new.disk c.go_on_from.result.1 c.go_on_from.result.0
     (λ k. IfSome remaining (λ bytes. HasGoneOn f bytes (seen_with told (g.D.Disk.content c.reopen.new.disk) written) (outside_of (seen told' k) written') c.go_on_from.result.0 f0 f2 s0 s2))
     (λ k. IfSome remaining (λ bytes. HasGoneOn f bytes (seen_with told content written) (outside_of (seen told' k) written') c.go_on_from.result.0 f0 f2 s0 s2))
     (λ k is. subst (λ records. IfSome remaining (λ bytes. HasGoneOn f bytes (outside_of (seen told (record { records = records; refused = [] })) written) (outside_of (seen told' k) written') c.go_on_from.result.0 f0 f2 s0 s2)) c.in-Ok.ensures.same_records is)

@@ -55,7 +55,7 @@ returns-clause-begun g c = λ asked.
                 begins f laws c.args.link.now c.run_on_disk-run.new.link c.run_on_disk-run.ensures.devices.began c.transcript-before.ensures.known c.transcript-behind.ensures.known c.transcript-before.ensures.honest c.transcript-behind.ensures.honest
                 c.transcript-before.ensures.stored c.transcript-behind.ensures.stored bytes (file_of c.args.disk)
                 (prints (g.W.Sink.written sink) (g.W.Sink.faults sink) (g.W.Sink.shortages sink)) (prints (g.W.Sink.written sink') (g.W.Sink.faults sink') (g.W.Sink.shortages sink')) status
-                keeps.kept (file_of disk) (images_of disk) (reads_now (began_of disk) (changes_on disk) (file_of disk) disk.file.replayed) keeps.leaves has calm) keeps.has
+                keeps.kept (file_of disk) (images_of disk) (reads_now (began_of disk) (changes_on disk) (file_of disk) disk.file.replayed) keeps.leaves (keeps.exact calm.disk memory).1 has calm) keeps.has
           ];
     }
 
@@ -84,7 +84,7 @@ returns-clause-more g c = λ asked.
           goes_on f laws c.args.link.now c.run_on_disk-run.new.link c.run_on_disk-run.ensures.devices.began c.transcript-before.ensures.known c.transcript-behind.ensures.known c.transcript-before.ensures.honest c.transcript-behind.ensures.honest
           c.transcript-before.ensures.stored c.transcript-behind.ensures.stored bytes (file_of c.args.disk)
           (prints (g.W.Sink.written sink) (g.W.Sink.faults sink) (g.W.Sink.shortages sink)) (prints (g.W.Sink.written sink') (g.W.Sink.faults sink') (g.W.Sink.shortages sink')) status
-          kept (file_of disk) (images_of disk) (reads_now (began_of disk) (changes_on disk) (file_of disk) disk.file.replayed) leaves has calm some);
+          kept (file_of disk) (images_of disk) (reads_now (began_of disk) (changes_on disk) (file_of disk) disk.file.replayed) leaves ((did.accepted some calm.disk memory).exact calm.disk memory).1 has calm some);
     }
 
 pub returns-clause-store : goal.returns-clause-store

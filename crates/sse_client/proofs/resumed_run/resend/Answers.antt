@@ -1,5 +1,6 @@
-use Rattle.std.proofs.Common.{Err, inr, ℕ, Ok, refl, sym, subst, ◌∙◌}
-use Rattle.client_core.specs.Resumes.{Resumes}
+use Rattle.std.proofs.Common.{Err, inr, ◌-◌, Ok, refl, sym, subst, ◌∙◌}
+use Rattle.client_core.specs.Owes.{Owes}
+use Rattle.client_core.specs.Resumes.{Resumes, first_of_last}
 use Rattle.client_core.specs.StandsFor.{StandsFor}
 use Rattle.client_registry.specs.Run.{at_first}
 use Rattle.keyed_fn.specs.KeyedFn.{keyed_fn}
@@ -116,5 +117,5 @@ catch_up-requires-clause-recorded g c =
     let next = c.in-Ok.next in
     let run = c.requires.restores.0 in
     let r = subst (λ x. Resumes f key run next (Ok x)) c.in-Ok-Behind.field-0-is (c.in-Ok-Behind.ensures.resumes run c.requires.restores.2) in
-    IfSome-then (g.R.Recorder.kept c.args.recorder.now).records (λ payloads. Opens (mark_of f key) payloads run) (λ records. OwesLast records c.in-Ok-Behind.behind.state)
-    (λ records opens. inr (inr (f, key, run, next, opens, owed-lacking f key run next c.in-Ok-Behind.behind r.2))) c.requires.restores.1.1
+    IfSome-then (g.R.Recorder.kept c.args.recorder.now).records (λ payloads. Opens (mark_of f key) payloads run) (λ records. OwesLast f records c.in-Ok-Behind.behind)
+    (λ records opens. inr (inr (run, next - first_of_last f key run, subst (λ k. Opens (mark_of f k) records run) (sym r.2.0) opens, subst (λ k. Owes f (λ epoch. k) at_first run (next - first_of_last f key run) c.in-Ok-Behind.behind.state) (sym r.2.0) r.2.2))) c.requires.restores.1.1

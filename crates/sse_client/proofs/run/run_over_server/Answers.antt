@@ -1,7 +1,7 @@
 use Rattle.std.proofs.Common.{arith, refl}
 use Rattle.keyed_fn.specs.KeyedFn.{keyed_fn}
 use Rattle.sse_client.specs.WholeRuns.{prints}
-use Rattle.sse_client.proofs.InMemory.{over_server-honest, over_server-run}
+use Rattle.sse_client.proofs.OverServer.{over_server-honest, over_server-run}
 use Rattle.sse_client.proofs.run.run_over_server.Goals as goal
 
 pub returns-clause-other : goal.returns-clause-other

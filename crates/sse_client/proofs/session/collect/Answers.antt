@@ -1,7 +1,6 @@
 use Rattle.std.proofs.Common.{◌≡◌, refl, ap, sym, ◌∙◌, subst}
 use Rattle.std.proofs.Common.{false}
 use Rattle.client_registry.specs.Histories.{is_set_up}
-use Rattle.keyed_fn.specs.KeyedFn.{KeyedFn}
 use Rattle.def_script_meaning.specs.Outcome.{Place}
 use Rattle.client_registry.specs.Collected.{Collected}
 use Rattle.sse_client.specs.Stages.{hash_keys_under}

@@ -2,6 +2,7 @@ use Rattle.std.proofs.Common.{refl, sym, subst}
 use Rattle.client_registry.specs.Command.{Delete}
 use Rattle.keyed_fn.specs.KeyedFn.{keyed_fn}
 use Rattle.def_script_meaning.specs.Lines as requests
+use Rattle.def_script_meaning.specs.Outcome.{Says}
 use Rattle.def_script_meaning.specs.Refused.{delete_refusal}
 use Rattle.sse_script.specs.Lines as lines
 use Rattle.sse_script.specs.Shown as says
@@ -29,7 +30,7 @@ returns-in-Searching-clause-takes g c =
     of_good c.send_update.result _ _ (λ done goes place a.
     let here : IsAt f (Searching client) place = subst (λ (s : Stage). IsAt f s place) c.in-Searching.is a in
     subst (GoesOn f old new done.0 done.1 place) (sym (behind place (requests.Del c.args.id) (is_up f client place here)))
-    (goes f place (delete_refusal place.history c.args.id) (Delete c.args.id) (says.Deleted c.args.id) (c.plan_deletion-planned.ensures.stands place here) (c.plan_deletion-planned.ensures.plan place here) refl))
+    (goes f place (delete_refusal place.history c.args.id) (Delete c.args.id) (Says (says.Deleted c.args.id)) (c.plan_deletion-planned.ensures.stands place here) (c.plan_deletion-planned.ensures.plan place here) refl))
     c.send_update.ensures.goes_on
 
 pub returns-in-Searching-clause-stops : goal.returns-in-Searching-clause-stops
@@ -41,7 +42,7 @@ returns-in-Searching-clause-stops g c =
     of_fault c.send_update.result _ _ (λ stop stops place a written.
     let here : IsAt f (Searching client) place = subst (λ (s : Stage). IsAt f s place) c.in-Searching.is a in
     stops_as f place old new written (command_cause stop) (sym (behind place (requests.Del c.args.id) (is_up f client place here)))
-    (stops f place (delete_refusal place.history c.args.id) (Delete c.args.id) (says.Deleted c.args.id) (c.plan_deletion-planned.ensures.stands place here) (c.plan_deletion-planned.ensures.plan place here) written))
+    (stops f place (delete_refusal place.history c.args.id) (Delete c.args.id) (Says (says.Deleted c.args.id)) (c.plan_deletion-planned.ensures.stands place here) (c.plan_deletion-planned.ensures.plan place here) written))
     c.send_update.ensures.stops
 
 pub returns-in-Searching-clause-may_stop : goal.returns-in-Searching-clause-may_stop

@@ -9,11 +9,10 @@ use Rattle.script_run_texts.specs.LineResultViews.{line_result_view, refuses}
 use Rattle.script_run_texts.specs.Stops.{peer_cause}
 use Rattle.sse_client.specs.declared.session.Stage.{Stage}
 use Rattle.sse_client.specs.declared.session.Stage.TheVariants.{Collecting, Searching}
-use Rattle.sse_outside.specs.Kept.{Kept}
 use Rattle.def_script_meaning.specs.Lines as requests
 use Rattle.def_script_meaning.specs.Outcome.{outcome}
 use Rattle.sse_client.specs.Exchanges.{HasSearched, HasCut}
-use Rattle.sse_client.specs.Stands.{IsAt, seen, GoesOn, MayStop, StopsWithin}
+use Rattle.sse_client.specs.Stands.{IsAt, seen, GoesOn, MayStop}
 use Rattle.sse_client.proofs.CommandTaken.{takes-find, stops-find, takes-bad_word, takes-not_set_up, stops-bad_word, is_up, searching_still}
 use Rattle.sse_script.specs.Lines as lines
 use Rattle.sse_client.proofs.session.find.Goals as goal

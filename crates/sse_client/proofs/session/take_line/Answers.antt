@@ -1,15 +1,16 @@
-use Rattle.std.proofs.Common.{◌≡◌, Ok, inl, inr, sym, subst, ap, ◌∙◌}
+use Rattle.std.proofs.Common.{◌≡◌, inl, inr, refl, sym, subst, ap, ◌∙◌}
 use Rattle.keyed_fn.specs.KeyedFn.{keyed_fn}
 use Rattle.sse_script.specs.Views.{line_view}
 use Rattle.sse_script.specs.declared.line.Line.{Line}
 use Rattle.def_script_meaning.specs.Lines as requests
 use Rattle.def_script_meaning.specs.Lines.{line_read}
-use Rattle.script_run_texts.specs.Causes.{KeepCommandCause}
-use Rattle.script_run_texts.specs.Stops.{command_cause, plan_cause}
-use Rattle.script_run_texts.specs.declared.command_stop.CommandStop.TheVariants.{Planning}
-use Rattle.sse_client.proofs.TranscriptsJoined.{IfErr-from, KeepsRecorder-none, may_stop}
+use Rattle.script_run_texts.specs.Causes.{CommandCause, KeepCommandCause}
+use Rattle.script_run_texts.specs.Stops.{command_cause}
+use Rattle.sse_client.proofs.TranscriptsJoined.{KeepsLink-none, KeepsRecorder-none}
 use Rattle.sse_client.proofs.CommandTaken.{takes_own, stops_own, stops_if_memory}
-use Rattle.sse_client.proofs.UpdateCarriedOut.{of_good, of_fault}
+use Rattle.sse_client.proofs.RecordsLast.{StaysWhole-same}
+use Rattle.sse_client.proofs.UpdateCarriedOut.{of_good, of_fault, of_stop}
+use Rattle.sse_client.specs.Calls.{shows}
 use Rattle.std.specs.Prelude.{OnErr}
 use Rattle.sse_client.specs.Stands.{seen, MayStop, StopsWithin}
 use Rattle.client_recorder.proofs.GrownRecords.{keeps-same}
@@ -21,22 +22,21 @@ returns-in-Empty-clause-takes g c = λ request e. elim c.in-Empty.is [
   | inr is ↦ absurd (let no : requests.Key is.0 ≡ requests.Command request = sym (ap (λ (line : Line). line_read (line_view line)) is.1) ∙ e in cc)
 ]
 
-pub returns-in_ok-collect-in-Doc-clause-takes : goal.returns-in_ok-collect-in-Doc-clause-takes
-returns-in_ok-collect-in-Doc-clause-takes g c =
+pub returns-in-Doc-clause-takes : goal.returns-in-Doc-clause-takes
+returns-in-Doc-clause-takes g c =
     let f = keyed_fn g.K.Keyed.prf g.K.Keyed.pad in
     let now = seen (g.L.Link.transcript c.args.link.now) (g.R.Recorder.kept c.args.recorder.now) in
     let own = requests.Doc c.in-Doc.id c.in-Doc.words in
-    takes_own f c.args.stage now now (line_read (line_view c.args.line)) own (ap (λ (line : Line). line_read (line_view line)) c.in-Doc.is) (Ok c.in_ok-collect-in-Doc.field-0) (c.in_ok-collect-in-Doc.ensures.takes f now)
+    takes_own f c.args.stage now now (line_read (line_view c.args.line)) own (ap (λ (line : Line). line_read (line_view line)) c.in-Doc.is) c.collect.result
+    (of_good c.collect.result _ _ (λ done takes. takes f now) c.collect.ensures.takes)
 
-pub returns-in_err-collect-in-Doc-clause-stops : goal.returns-in_err-collect-in-Doc-clause-stops
-returns-in_err-collect-in-Doc-clause-stops g c =
+pub returns-in-Doc-clause-stops : goal.returns-in-Doc-clause-stops
+returns-in-Doc-clause-stops g c =
     let f = keyed_fn g.K.Keyed.prf g.K.Keyed.pad in
     let now = seen (g.L.Link.transcript c.args.link.now) (g.R.Recorder.kept c.args.recorder.now) in
     let own = requests.Doc c.in-Doc.id c.in-Doc.words in
-    let stop = c.in_err-collect-in-Doc.field-0.0 in
-    stops_own f c.args.stage now now (line_read (line_view c.args.line)) own (ap (λ (line : Line). line_read (line_view line)) c.in-Doc.is) c.from_residual.result
-    (IfErr-from c.from_residual.result (Planning stop) (λ e. StopsWithin f c.args.stage own now now (command_cause e)) c.from_residual.ensures.1
-    (subst (λ s. StopsWithin f c.args.stage own now now (plan_cause s)) (sym c.in_err-collect-in-Doc.ensures.memory) (stops_if_memory f now c.args.stage own)))
+    stops_own f c.args.stage now now (line_read (line_view c.args.line)) own (ap (λ (line : Line). line_read (line_view line)) c.in-Doc.is) c.collect.result
+    (of_fault c.collect.result _ _ (λ stop is. subst (λ s. StopsWithin f c.args.stage own now now (command_cause s)) (sym is) (stops_if_memory f now c.args.stage own)) c.collect.ensures.memory)
 
 pub returns-in-Setup-clause-takes : goal.returns-in-Setup-clause-takes
 returns-in-Setup-clause-takes g c =
@@ -78,11 +78,24 @@ returns-in-Del-clause-stops g c =
     stops_own (keyed_fn g.K.Keyed.prf g.K.Keyed.pad) c.args.stage (seen (g.L.Link.transcript c.args.link.now) (g.R.Recorder.kept c.args.recorder.now)) (seen (g.L.Link.transcript c.delete.new.link) (g.R.Recorder.kept c.delete.new.recorder)) (line_read (line_view c.args.line)) (requests.Del c.in-Del.id)
     (ap (λ (line : Line). line_read (line_view line)) c.in-Del.is) c.delete.result c.delete.ensures.stops
 
-pub returns-in_err-collect-in-Doc-clause-may_stop :
-    goal.returns-in_err-collect-in-Doc-clause-may_stop
-returns-in_err-collect-in-Doc-clause-may_stop g c =
+pub returns-in-Doc-clause-may_stop : goal.returns-in-Doc-clause-may_stop
+returns-in-Doc-clause-may_stop g c =
     let f = keyed_fn g.K.Keyed.prf g.K.Keyed.pad in
-    subst (λ (line : Line). OnErr c.from_residual.result (MayStop f c.args.stage (line_view line))) (sym c.in-Doc.is) (may_stop c.from_residual.result _ (c.in_err-collect-in-Doc.ensures.may_stop f))
+    subst (λ (line : Line). OnErr c.collect.result (MayStop f c.args.stage (line_view line))) (sym c.in-Doc.is) (of_stop c.collect.result _ _ (λ may. may f) c.collect.ensures.may_stop)
+
+pub returns-in-Doc-clause-keeps : goal.returns-in-Doc-clause-keeps
+returns-in-Doc-clause-keeps g c =
+    let link = c.args.link.now in
+    KeepsLink-none CommandCause (shows (g.L.Link.transcript link) (g.L.Link.faults link) (g.L.Link.began link)) c.collect.result
+    (of_fault c.collect.result _ _ (λ stop is count. subst (CommandCause count count) (sym is) refl) c.collect.ensures.memory)
+
+pub returns-in-Doc-clause-whole_after : goal.returns-in-Doc-clause-whole_after
+returns-in-Doc-clause-whole_after g c = StaysWhole-same (g.R.Recorder.whole c.args.recorder.now) c.requires.whole c.collect.result
+
+pub returns-in-Doc-clause-recorder : goal.returns-in-Doc-clause-recorder
+returns-in-Doc-clause-recorder g c =
+    KeepsRecorder-none KeepCommandCause (g.R.Recorder.faults c.args.recorder.now) c.collect.result
+    (of_fault c.collect.result _ _ (λ stop is count. subst (KeepCommandCause count count) (sym is) refl) c.collect.ensures.memory)
 
 pub returns-in-Setup-clause-may_stop : goal.returns-in-Setup-clause-may_stop
 returns-in-Setup-clause-may_stop g c = subst (λ (line : Line). OnErr c.set_up.result (MayStop (keyed_fn g.K.Keyed.prf g.K.Keyed.pad) c.args.stage (line_view line))) (sym c.in-Setup.is) c.set_up.ensures.may_stop
@@ -99,14 +112,11 @@ returns-in-Find-clause-may_stop g c = subst (λ (line : Line). OnErr c.find.resu
 pub returns-in-Find-clause-recorder : goal.returns-in-Find-clause-recorder
 returns-in-Find-clause-recorder g c = KeepsRecorder-none KeepCommandCause (g.R.Recorder.faults c.args.recorder.now) c.find.result c.find.ensures.no_record
 
-pub returns-in_err-collect-in-Doc-clause-keeps_on : goal.returns-in_err-collect-in-Doc-clause-keeps_on
-returns-in_err-collect-in-Doc-clause-keeps_on g c = keeps-same g.R.Recorder.kept g.R.Recorder.moment g.R.Recorder.left_since c.args.recorder.now (g.met.R.Recorder.at_rest c.args.recorder.now c.requires.whole)
+pub returns-in-Doc-clause-keeps_on : goal.returns-in-Doc-clause-keeps_on
+returns-in-Doc-clause-keeps_on g c = keeps-same g.R.Recorder.kept g.R.Recorder.moment g.R.Recorder.left_since c.args.recorder.now (g.met.R.Recorder.at_rest c.args.recorder.now c.requires.whole)
 
 pub returns-in-Empty-clause-keeps_on : goal.returns-in-Empty-clause-keeps_on
 returns-in-Empty-clause-keeps_on g c = keeps-same g.R.Recorder.kept g.R.Recorder.moment g.R.Recorder.left_since c.args.recorder.now (g.met.R.Recorder.at_rest c.args.recorder.now c.requires.whole)
-
-pub returns-in_ok-collect-in-Doc-clause-keeps_on : goal.returns-in_ok-collect-in-Doc-clause-keeps_on
-returns-in_ok-collect-in-Doc-clause-keeps_on g c = keeps-same g.R.Recorder.kept g.R.Recorder.moment g.R.Recorder.left_since c.args.recorder.now (g.met.R.Recorder.at_rest c.args.recorder.now c.requires.whole)
 
 pub returns-in-Find-clause-keeps_on : goal.returns-in-Find-clause-keeps_on
 returns-in-Find-clause-keeps_on g c = keeps-same g.R.Recorder.kept g.R.Recorder.moment g.R.Recorder.left_since c.args.recorder.now (g.met.R.Recorder.at_rest c.args.recorder.now c.requires.whole)

@@ -1,44 +1,29 @@
-use Rattle.std.proofs.Common.{◌≡◌, ℕ, List, Option, Some, drop, map, sym, ap, subst, ◌∙◌}
-use Rattle.std.specs.Prelude.{IfSome, string_bytes}
-use Rattle.sse_local.specs.Given.{words_given}
+use Rattle.std.proofs.Common.{◌≡◌, drop, map, sym, ap, subst, ◌∙◌}
+use Rattle.std.specs.Prelude.{string_bytes}
+use Rattle.program_words.specs.Modes.{local_mode_of}
+use Rattle.sse_client.specs.WholeRuns.{gives, prints}
+use Rattle.sse_local.specs.Asked.{asked_by, right_words}
+use Rattle.sse_local.specs.Program.{IsReadFor, MayEndWith, TellsStreams}
+use Rattle.sse_local.proofs.Does.{does-same}
 use Rattle.sse_local.proofs.program.run_program.Goals as goal
 
--- what holds of the words that are given holds where they are told otherwise
-of_words : (P : List (List ℕ) → Type 0) (given : Option (List (List ℕ))) (words : List (List ℕ)) → given ≡ Some words → P words → IfSome given P
-of_words P given words is p = subst (λ o. IfSome o P) (sym is) p
+pub returns-in-Words-clause-does : goal.returns-in-Words-clause-does
+returns-in-Words-clause-does g c =
+    does-same _ _ _ _ _ _ _ _ _
+    (ap asked_by c.in-Words.is ∙ ap (λ words. right_words (local_mode_of (map (λ word. string_bytes word) words))) (sym (c.behind_name.ensures ∙ ap (drop 1) c.deref.ensures.value)))
+    c.by_words.ensures.does
 
-pub returns-in-Words-clause-runs : goal.returns-in-Words-clause-runs
-returns-in-Words-clause-runs g c =
-    of_words _ _ _ (ap words_given c.in-Words.is ∙ ap (λ words. Some (map (λ word. string_bytes word) words)) (sym (c.behind_name.ensures ∙ ap (drop 1) c.as_slice.ensures.value))) c.by_words.ensures.runs
+pub returns-in-Words-clause-streams : goal.returns-in-Words-clause-streams
+returns-in-Words-clause-streams g c =
+    let sink = c.args.sink.now in
+    let sink' = c.by_words.new.sink in
+    let asked : asked_by c.args.given.now ≡ right_words (local_mode_of (map (λ word. string_bytes word) c.behind_name.result.now)) =
+    ap asked_by c.in-Words.is ∙ ap (λ words. right_words (local_mode_of (map (λ word. string_bytes word) words))) (sym (c.behind_name.ensures ∙ ap (drop 1) c.deref.ensures.value)) in
+    subst (λ a. TellsStreams (IsReadFor a (g.S.Source.remaining c.by_words.new.source)) (gives (g.S.Source.remaining c.args.source.now) (g.S.Source.faults c.args.source.now)) (gives (g.S.Source.remaining c.by_words.new.source) (g.S.Source.faults c.by_words.new.source))
+    (prints (g.W.Sink.written sink) (g.W.Sink.faults sink) (g.W.Sink.shortages sink)) (prints (g.W.Sink.written sink') (g.W.Sink.faults sink') (g.W.Sink.shortages sink')) c.by_words.result) (sym asked) c.by_words.ensures.streams
 
-pub returns-in-Words-clause-headline : goal.returns-in-Words-clause-headline
-returns-in-Words-clause-headline g c =
-    of_words _ _ _ (ap words_given c.in-Words.is ∙ ap (λ words. Some (map (λ word. string_bytes word) words)) (sym (c.behind_name.ensures ∙ ap (drop 1) c.as_slice.ensures.value))) c.by_words.ensures.headline
-
-pub returns-in-Words-clause-compares : goal.returns-in-Words-clause-compares
-returns-in-Words-clause-compares g c =
-    of_words _ _ _ (ap words_given c.in-Words.is ∙ ap (λ words. Some (map (λ word. string_bytes word) words)) (sym (c.behind_name.ensures ∙ ap (drop 1) c.as_slice.ensures.value))) c.by_words.ensures.compares
-
-pub returns-in-Words-clause-other_words : goal.returns-in-Words-clause-other_words
-returns-in-Words-clause-other_words g c =
-    of_words _ _ _ (ap words_given c.in-Words.is ∙ ap (λ words. Some (map (λ word. string_bytes word) words)) (sym (c.behind_name.ensures ∙ ap (drop 1) c.as_slice.ensures.value))) c.by_words.ensures.other_words
-
-pub returns-in-Words-clause-other_words_line : goal.returns-in-Words-clause-other_words_line
-returns-in-Words-clause-other_words_line g c =
-    of_words _ _ _ (ap words_given c.in-Words.is ∙ ap (λ words. Some (map (λ word. string_bytes word) words)) (sym (c.behind_name.ensures ∙ ap (drop 1) c.as_slice.ensures.value))) c.by_words.ensures.other_words_line
-
-pub returns-in-Words-clause-sums_up : goal.returns-in-Words-clause-sums_up
-returns-in-Words-clause-sums_up g c =
-    of_words _ _ _ (ap words_given c.in-Words.is ∙ ap (λ words. Some (map (λ word. string_bytes word) words)) (sym (c.behind_name.ensures ∙ ap (drop 1) c.as_slice.ensures.value))) c.by_words.ensures.sums_up
-
-pub returns-in-Words-clause-summary : goal.returns-in-Words-clause-summary
-returns-in-Words-clause-summary g c =
-    of_words _ _ _ (ap words_given c.in-Words.is ∙ ap (λ words. Some (map (λ word. string_bytes word) words)) (sym (c.behind_name.ensures ∙ ap (drop 1) c.as_slice.ensures.value))) c.by_words.ensures.summary
-
-pub returns-in-Words-clause-made_status : goal.returns-in-Words-clause-made_status
-returns-in-Words-clause-made_status g c =
-    of_words _ _ _ (ap words_given c.in-Words.is ∙ ap (λ words. Some (map (λ word. string_bytes word) words)) (sym (c.behind_name.ensures ∙ ap (drop 1) c.as_slice.ensures.value))) c.by_words.ensures.made_status
-
-pub returns-in-Words-clause-made_unread : goal.returns-in-Words-clause-made_unread
-returns-in-Words-clause-made_unread g c =
-    of_words _ _ _ (ap words_given c.in-Words.is ∙ ap (λ words. Some (map (λ word. string_bytes word) words)) (sym (c.behind_name.ensures ∙ ap (drop 1) c.as_slice.ensures.value))) c.by_words.ensures.made_unread
+pub returns-in-Words-clause-status : goal.returns-in-Words-clause-status
+returns-in-Words-clause-status g c =
+    let asked : asked_by c.args.given.now ≡ right_words (local_mode_of (map (λ word. string_bytes word) c.behind_name.result.now)) =
+    ap asked_by c.in-Words.is ∙ ap (λ words. right_words (local_mode_of (map (λ word. string_bytes word) words))) (sym (c.behind_name.ensures ∙ ap (drop 1) c.deref.ensures.value)) in
+    subst (λ a. MayEndWith a c.by_words.result) (sym asked) c.by_words.ensures.status

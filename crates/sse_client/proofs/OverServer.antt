@@ -12,7 +12,7 @@ use Rattle.def_link_events.specs.Served as links
 use Rattle.def_link_events.specs.Served.{IsServed, idle}
 use Rattle.sse_link.specs.LinkStates.{LinkState, link_state_first, served}
 use Rattle.sse_client.specs.Stands.{seen, outside_of}
-use Rattle.sse_client.specs.OverServer.{IsRunOverServer, PrintsAsMeant, PrintsRun, unkept}
+use Rattle.sse_client.specs.OverServer.{IsRunOverServer}
 use Rattle.sse_client.specs.WholeRuns.{IsRun, SinkShows}
 use Rattle.sse_client.proofs.WholeRun.{IfSome-then}
 
@@ -24,11 +24,11 @@ state_in other None = other
 state_in other (Some r) = r.state
 
 -- what an honest transcript is, where nothing had passed before it
-over_honest : (f : KeyedFn) (past events : List Event) (state : ServerState) → past ≡ [] → links.IsHonest f at_first events state → IsOverHonest f at_first (Some past) (Some events) state
+pub over_honest : (f : KeyedFn) (past events : List Event) (state : ServerState) → past ≡ [] → links.IsHonest f at_first events state → IsOverHonest f at_first (Some past) (Some events) state
 over_honest f past events state none honest = record { past = past; told = refl; events = events; adds = ap (λ xs. Some (xs ++ events)) (sym none); honest = honest }
 
 -- a server that has taken nothing expects a setup's first frame
-fresh_expects : Expects 0 at_first
+pub fresh_expects : Expects 0 at_first
 fresh_expects = record { next = refl; stage = refl }
 
 -- A link that is lent.
@@ -49,20 +49,3 @@ module _ (f : KeyedFn) (old new : LinkState) (fresh : old ≡ link_state_first a
       stopped = run.honest at_first new.state fresh_expects over;
       headline = λ source sink disk memory free. run.headline at_first new.state fresh_expects over free (record { source = source; sink = sink; link = no_link; disk = disk; memory = memory });
     })
-
--- A link that is made and dropped: what is printed.
-
-module _ (f : KeyedFn) (old new : LinkState) (first : ServerState) (fresh : old ≡ link_state_first first) (honest : links.IsHonest f at_first new.events new.state) (remaining : Option (List ℕ)) (sink sink' : SinkShows) (status : ℕ) where
-  pub in_memory-run : IfSome remaining (λ bytes. IsRunOverServer f bytes (outside_of (seen (Some old.events) unkept) sink.written) (outside_of (seen (Some new.events) unkept) sink'.written) sink sink' new.state status)
-      → IfSome remaining (λ bytes. PrintsRun f bytes sink sink' status)
-  in_memory-run = IfSome-then remaining _ _ (λ bytes run. record {
-    told = Some new.events;
-    state = new.state;
-    over = over_honest f [] new.events new.state refl honest;
-    run = subst (λ (t : LinkState). IsRunOverServer f bytes (outside_of (seen (Some t.events) unkept) sink.written) (outside_of (seen (Some new.events) unkept) sink'.written) sink sink' new.state status) fresh run;
-  })
-
--- where no device and no want of memory stopped such a run, it printed what its script means
-pub prints_as_meant : (f : KeyedFn) (bytes : List ℕ) (sink sink' : SinkShows) (status : ℕ) → status ≢ 3 → status ≢ 4 → status ≢ 6 → status ≢ 7 → PrintsRun f bytes sink sink' status → PrintsAsMeant f bytes sink.written sink'.written status
-prints_as_meant f bytes sink sink' status source link disk memory p = λ free.
-    let h = p.run.headline source link disk memory free in record { status_is = h.status_is; q = h.q; printed = h.printed }
