@@ -1,23 +1,56 @@
--- A run over a connection and a file that aren't observable.
-use Rattle.std.specs.Prelude.{◌≡◌, ◌⊎◌, ℕ, List, Option, None}
+-- What the program does: a run over a disk and a link, or an end before it has both.
+use Rattle.std.specs.Prelude.{◌≡◌, ◌≢◌, ◌≤◌, ℕ, List, Option, Some}
 use Rattle.keyed_fn.specs.KeyedFn.{KeyedFn}
-use Rattle.sse_client.specs.OnDisk.{seen_with, IsNotBegun, IsNotReopened, IsUnopened, HasGoneOn}
-use Rattle.sse_client.specs.Stands.{outside_of, seen}
-use Rattle.sse_client.specs.WholeRuns.{IsRun, prints}
-use Rattle.sse_outside.specs.Kept.{Kept}
+use Rattle.program_words.specs.Modes.{RunOn, More, disk_mode_of}
+use Rattle.sse_outside.specs.Causes.{Rose}
+use Rattle.sse_outside.specs.Fronts.{TookOrRose}
+use Rattle.sse_outside.specs.declared.device_fault.DeviceFault.TheVariants as devices
+use Rattle.script_run_texts.specs.Stops.{last_line, stop_status}
+use Rattle.script_run_texts.specs.declared.command_stop.CommandStop.TheVariants as commands
+use Rattle.script_run_texts.specs.declared.peer_stop.PeerStop.TheVariants as peers
+use Rattle.script_run_texts.specs.declared.stop_cause.StopCause.{StopCause}
+use Rattle.script_run_texts.specs.declared.stop_cause.StopCause.TheVariants as stops
+use Rattle.def_link_events.specs.Events.{Remote}
+use Rattle.def_script_meaning.specs.Exchange.{Told}
+use Rattle.sse_client.specs.Calls.{shows}
+use Rattle.sse_client.specs.OnDisk.{BeginsOnDisk, ResumesOnDisk}
+use Rattle.sse_client.specs.WholeRuns.{LeavesDevices, SinkShows, SourceShows}
 
--- what is kept has P, of which no record that was taken is told
-abbrev pub KeepsUntold : (Kept → Type 0) → Type 0
-KeepsUntold P = (kept : Kept) × (kept.records ≡ None) × P kept
+-- the file can't be opened
+abbrev pub no_file : StopCause
+no_file = stops.Command (commands.Keeping devices.Failed)
 
--- it began a history, or didn't for its journal
-abbrev pub Begins : KeyedFn → List ℕ → (old new : Option (List ℕ)) (status faults faults_now shortages shortages_now : ℕ) → Type 0
-Begins f bytes old new status faults faults_now shortages shortages_now =
-    IsUnopened IsNotBegun None None None None old new status faults faults_now shortages shortages_now
-    ⊎ KeepsUntold (λ kept. IsRun f bytes (seen_with None None old) (outside_of (seen None kept) new) (prints old faults shortages) (prints new faults_now shortages_now) status)
+-- the address can't be reached
+abbrev pub no_server : StopCause
+no_server = stops.Command (commands.Exchange peers.Link)
 
--- it went on with the history of its journal, or didn't for what that holds
-abbrev pub GoesOn : KeyedFn → List ℕ → (old new : Option (List ℕ)) (status faults faults_now shortages shortages_now : ℕ) → Type 0
-GoesOn f bytes old new status faults faults_now shortages shortages_now =
-    IsUnopened IsNotReopened None None None None old new status faults faults_now shortages shortages_now
-    ⊎ KeepsUntold (λ kept. HasGoneOn f bytes (seen_with None None old) (outside_of (seen None kept) new) status faults faults_now shortages shortages_now)
+-- the program ended for this cause, and read nothing: its status, and its line, or a proper front of it where the sink failed or memory
+-- was out
+pub record EndsUnread {S : Type 0} (stop : StopCause) (source source' : S) (sink sink' : SinkShows) (status : ℕ) : Type 0 where
+  pub unread : source' ≡ source
+  pub status_is : status ≡ stop_status stop
+  pub line : TookOrRose sink.written sink'.written (last_line stop) sink.faults sink'.faults sink.shortages sink'.shortages
+
+-- it opened nothing and called nobody either
+pub record EndsUnopened {P S : Type 0} (stop : StopCause) (places places' : P) (source source' : S) (sink sink' : SinkShows) (status : ℕ) : Type 0 where
+  pub unopened : places' ≡ places
+  pub end : EndsUnread stop source source' sink sink' status
+
+-- By the counts of faults of source and sink: the status is one of the table, the script was read to its end where no fault is told, and a
+-- device's count rose where the status tells its fault. The sink's may rise behind that, in the last line.
+pub record TellsStreams (source source' sink sink' : ℕ) (read : Type 0) (status : ℕ) : Type 0 where
+  pub known : status ≤ 11
+  pub at_end : status ≤ 1 → read
+  pub source_failed : status ≡ 3 → Rose source source'
+  pub source_steady : status ≢ 3 → source' ≡ source
+  pub sink_failed : status ≡ 4 → Rose sink sink'
+  pub sink_steady : status ≤ 1 → sink' ≡ sink
+
+-- over a disk and a link, from where they were to where they are, these words' run did all that `run_on_disk` says of it
+pub record HasRunOnDisk {D L : Type 0} (content : D → Option (List ℕ)) (images : D → List ℕ → Type 0) (moment : D → ℕ) (left_since : D → ℕ → List ℕ → Type 0) (disk_faults : D → ℕ)
+    (transcript : L → Told) (link_faults : L → ℕ) (began : L → Option Remote) (f : KeyedFn) (words : List (List ℕ)) (source source' : SourceShows) (sink sink' : SinkShows) (status : ℕ)
+    (disk : D) (link : L) (disk2 : D) (link2 : L) : Type 0 where
+  pub begun : disk_mode_of words ≡ Some RunOn → BeginsOnDisk content images moment left_since disk disk2 f source.remaining (transcript link) (transcript link2) sink sink' status
+  pub resumed : disk_mode_of words ≡ Some More → ResumesOnDisk content images moment left_since disk disk2 f source.remaining (transcript link) (transcript link2) sink sink' status
+  pub devices : LeavesDevices source source' sink sink' (shows (transcript link) (link_faults link) (began link)) (shows (transcript link2) (link_faults link2) (began link2))
+      (disk_faults disk) (disk_faults disk2) status

@@ -1,111 +1,125 @@
-ghost use Rattle.std.specs.Prelude.{◌≡◌, ◌≢◌, ◌⊎◌, ◌≤◌, Some, Err, IfErr, IfOk, IfSome, map, string_bytes};
+ghost use Rattle.std.specs.Prelude.{◌≡◌, ◌⊎◌, IfErr, IfOk, map, string_bytes};
 ghost use Rattle.std.specs.Io.KnownBytes.{IsAtEnd};
 ghost use Rattle.keyed_fn.specs.KeyedFn.{keyed_fn};
-ghost use Rattle.script_run_texts.specs.Stops.{last_line, stop_status};
-ghost use Rattle.script_run_texts.specs.Words as modes;
 ghost use Rattle.sse_net.specs.Asked as asks;
-ghost use Rattle.sse_net.specs.Places.{IsNoPlace, HasNoPlace};
-ghost use Rattle.sse_net.specs.Runs.{Begins, GoesOn};
+ghost use Rattle.sse_net.specs.Asked.{asked_view};
+ghost use Rattle.client_places.specs.Events.{EndsAt, HasDone};
+ghost use Rattle.sse_net.specs.Runs.{EndsUnopened, EndsUnread, HasRunOnDisk, TellsStreams, no_file, no_server};
+ghost use Rattle.sse_client.specs.WholeRuns.{SinkShows, gives, prints};
 ghost use Rattle.sse_outside.specs.Causes.{Rose};
-ghost use Rattle.sse_outside.specs.Fronts.{TookOrRose};
 
-use crate::asked::asked_by;
-use crate::places::{connect, open};
-use client_stream_link::TcpLink;
+use crate::asked::{Asked, asked_by};
+use client_places::Places;
 use keyed_fn::{Keyed, Real};
 use outside_words::CommandLine;
-use script_run_texts::{StopCause, finish};
+use script_run_texts::{CommandStop, PeerStop, StopCause, finish};
 use sse_client::run_on_disk;
-use sse_outside::{FileDisk, Sink, Source};
+use sse_link::Link;
+use sse_outside::{DeviceFault, Disk, Sink, Source};
 use std::alloc::Global;
 
-/// What a run begins with.
-#[derive(Drop)]
-struct Begun<'a> {
-    /// The words of the run.
-    words: &'a [String],
-    /// The file of its records.
-    disk: FileDisk,
-    /// The connection to the server.
-    link: TcpLink,
-}
-
-// Promise P33 (user): `sse_net` takes an address, a path and `run` or `more`; with other words it reads nothing and ends with 2.
-//   clauses: wrong, wrong_line, wrong_source; checks: .ci/tcp; not: That nothing is opened or connected to after wrong words. Without memory for the words the status is 7.
-// Promise P34 (user): With right words, `sse_net` prints and ends as some run over some link and file does, or ends with 5 or 6 without reading.
-//   clauses: begins, goes_on, at_end, source_failed, source_steady, sink_failed, sink_steady; assumes: observable devices; checks: .ci/tcp, .ci/memory_tcp; not: Which of the
-//     two happens. The connection and the file aren't observable, so any replies and any records are allowed: of the shipped program the clauses say very little. That the file
-//     and the address are those of the words, or that any is opened.
-/// All that the program does with a command line, a source and a sink, and the status to end with.
+// Promise P33 (user): `sse_net` takes an address, a path and `run` or `more`; other words open, call and read nothing, and end with 2, or 7 without memory.
+//   clauses: wrong; fields: EndsUnopened.unopened, EndsUnread.unread, EndsUnread.status_is, EndsUnread.line; checks: .ci/tcp; not: Of the line a prefix may be printed if a count of
+//     the sink rose.
+// Promise P34 (user): With right words, `sse_net` does over their file and their address what `run_on_disk` does; without one of them it ends with 6 or 5.
+//   clauses: runs, streams; fields: HasRun.found, HasRun.reached, HasRun.disk_back, HasRun.link_back, HasRun.events, HasRunOnDisk.begun, HasRunOnDisk.resumed, HasRunOnDisk.devices,
+//     HasNoFile.cause, HasNoFile.end, HasNoFile.events, HasNoServer.found, HasNoServer.disk_back, HasNoServer.cause, HasNoServer.end, HasNoServer.events, TellsStreams.known; assumes:
+//     observable devices; checks: .ci/tcp, .ci/memory_tcp; not: That the system opens the file of that path and connects to that address: real places show contracts only their count of
+//     faults. With right words too the status is 7 if there is no memory to read them in.
+/// All that the client's program does with a command line, places, a source and a sink, and the status to end with.
 ///
-/// Where the words aren't right nothing is opened, made, connected to or read. Else it opens the file, connects to the address, and
-/// carries out the script under the real keyed function, or goes on from the records of the file; where one of the two can't be had nothing is read.
-pub(crate) fn net_main<S: Source, W: Sink>(
-    rt: &HostRuntime,
+/// If the words aren't right, nothing is opened, called or read. Else it opens the file, then connects to the address, and then
+/// carries out the script under the real keyed function, or goes on from the records of the file; at the end it gives both back.
+/// Without the file no server is called, and without one of the two nothing is read. Words, right or wrong, end with 7 if there is
+/// no memory to read them in.
+pub(crate) fn net_main<P: Places, S: Source, W: Sink>(
+    alloc: Global,
+    places: &mut P,
     given: &CommandLine,
     source: &mut S,
     sink: &mut W,
 ) -> u8
-    ensures wrong { IfErr (asks.asked_by given.now) (λ stop. result ≡ stop_status stop) }
-    ensures wrong_line { IfErr (asks.asked_by given.now) (λ stop.
-        TookOrRose (W.written sink.old) (W.written sink.new) (last_line stop) (W.faults sink.old) (W.faults sink.new) (W.shortages sink.old) (W.shortages sink.new)) }
-    ensures wrong_source { IfErr (asks.asked_by given.now) (λ stop. source.new ≡ source.old) }
-    ensures begins { IfOk (asks.asked_by given.now) (λ asked. modes.disk_mode_of asked.words ≡ Some modes.RunOn → IfSome (S.remaining source.old) (λ bytes.
-        HasNoPlace result (source.new ≡ source.old) (W.written sink.old) (W.written sink.new) (W.faults sink.old) (W.faults sink.new) (W.shortages sink.old) (W.shortages sink.new)
-        ⊎ Begins (keyed_fn ⟦<Real as Keyed>⟧.prf ⟦<Real as Keyed>⟧.pad) bytes (W.written sink.old) (W.written sink.new) result (W.faults sink.old) (W.faults sink.new) (W.shortages sink.old) (W.shortages sink.new))) }
-    ensures goes_on { IfOk (asks.asked_by given.now) (λ asked. modes.disk_mode_of asked.words ≡ Some modes.More → IfSome (S.remaining source.old) (λ bytes.
-        HasNoPlace result (source.new ≡ source.old) (W.written sink.old) (W.written sink.new) (W.faults sink.old) (W.faults sink.new) (W.shortages sink.old) (W.shortages sink.new)
-        ⊎ GoesOn (keyed_fn ⟦<Real as Keyed>⟧.prf ⟦<Real as Keyed>⟧.pad) bytes (W.written sink.old) (W.written sink.new) result (W.faults sink.old) (W.faults sink.new) (W.shortages sink.old) (W.shortages sink.new))) }
-    ensures at_end { result ≤ 1 → IsAtEnd (S.remaining source.new) }
-    ensures source_failed { result ≡ 3 → Rose (S.faults source.old) (S.faults source.new) }
-    ensures source_steady { result ≢ 3 → S.faults source.new ≡ S.faults source.old }
-    ensures sink_failed { result ≡ 4 → Rose (W.faults sink.old) (W.faults sink.new) }
-    ensures sink_steady { result ≤ 1 → W.faults sink.new ≡ W.faults sink.old }
+    ensures wrong { IfErr (asks.asked_by given.now) (λ stop.
+        let shown : SinkShows = prints (W.written sink.old) (W.faults sink.old) (W.shortages sink.old) in
+        let shown2 : SinkShows = prints (W.written sink.new) (W.faults sink.new) (W.shortages sink.new) in
+        EndsUnopened stop places.old places.new source.old source.new shown shown2 result
+        ⊎ EndsUnopened StopCause.Memory places.old places.new source.old source.new shown shown2 result) }
+    ensures runs { IfOk (asks.asked_by given.now) (λ asked.
+        let shown : SinkShows = prints (W.written sink.old) (W.faults sink.old) (W.shortages sink.old) in
+        let shown2 : SinkShows = prints (W.written sink.new) (W.faults sink.new) (W.shortages sink.new) in
+        EndsUnopened StopCause.Memory places.old places.new source.old source.new shown shown2 result
+        ⊎ EndsAt (P.events places.old) (P.events places.new) (P.holds places.old) (P.reaches places.old) (P.kept places.new) (P.hung places.new)
+        asked.path asked.address (Rose (P.faults places.old) (P.faults places.new))
+        (EndsUnread no_file source.old source.new shown shown2 result) (EndsUnread no_server source.old source.new shown shown2 result)
+        (HasRunOnDisk P.Disk.content P.Disk.images P.Disk.moment P.Disk.left_since P.Disk.faults P.Link.transcript P.Link.faults P.Link.began
+        (keyed_fn ⟦<Real as Keyed>⟧.prf ⟦<Real as Keyed>⟧.pad) asked.words
+        (gives (S.remaining source.old) (S.faults source.old)) (gives (S.remaining source.new) (S.faults source.new)) shown shown2 result)) }
+    ensures streams { TellsStreams (S.faults source.old) (S.faults source.new) (W.faults sink.old) (W.faults sink.new) (IsAtEnd (S.remaining source.new)) result }
 {
-    match begin(rt, given) {
-        Ok(begun) => carry_out(rt.alloc(), begun, source, sink),
+    match asked_by(alloc, given) {
+        Ok(asked) => run_at(alloc, places, asked, source, sink),
         Err(stop) => finish(sink, stop),
     }
 }
 
-/// Opens the file and connects to the address that a command line asks for.
-fn begin<'a>(rt: &HostRuntime, given: &'a CommandLine) -> Result<Begun<'a>, StopCause>
-    ensures wrong { IfErr (asks.asked_by given.now) (λ stop. result ≡ Err stop) }
-    ensures no_place { IfOk (asks.asked_by given.now) (λ asked. IfErr result (λ stop. IsNoPlace stop)) }
-    ensures words { IfOk (asks.asked_by given.now) (λ asked. IfOk result (λ begun. map (λ word. string_bytes word) begun.words.now ≡ asked.words)) }
-{
-    let asked = asked_by(given)?;
-    let disk = open(rt, asked.path)?;
-    let link = connect(rt, asked.address)?;
-    Ok(Begun {
-        words: asked.words,
-        disk,
-        link,
-    })
-}
-
-/// Carries out the script of the source, and keeps its records on the disk; or goes on from those that the disk has.
-fn carry_out<S: Source, W: Sink>(
+/// Opens the file, connects to the address, and does over both what is asked for.
+fn run_at<P: Places, S: Source, W: Sink>(
     alloc: Global,
-    begun: Begun<'_>,
+    places: &mut P,
+    asked: Asked<'_>,
     source: &mut S,
     sink: &mut W,
 ) -> u8
-    ensures begins { modes.disk_mode_of (map (λ word. string_bytes word) begun.entry.words.now) ≡ Some modes.RunOn → IfSome (S.remaining source.old) (λ bytes.
-        Begins (keyed_fn ⟦<Real as Keyed>⟧.prf ⟦<Real as Keyed>⟧.pad) bytes (W.written sink.old) (W.written sink.new) result (W.faults sink.old) (W.faults sink.new) (W.shortages sink.old) (W.shortages sink.new)) }
-    ensures goes_on { modes.disk_mode_of (map (λ word. string_bytes word) begun.entry.words.now) ≡ Some modes.More → IfSome (S.remaining source.old) (λ bytes.
-        GoesOn (keyed_fn ⟦<Real as Keyed>⟧.prf ⟦<Real as Keyed>⟧.pad) bytes (W.written sink.old) (W.written sink.new) result (W.faults sink.old) (W.faults sink.new) (W.shortages sink.old) (W.shortages sink.new)) }
-    ensures at_end { result ≤ 1 → IsAtEnd (S.remaining source.new) }
-    ensures source_failed { result ≡ 3 → Rose (S.faults source.old) (S.faults source.new) }
-    ensures source_steady { result ≢ 3 → S.faults source.new ≡ S.faults source.old }
-    ensures sink_failed { result ≡ 4 → Rose (W.faults sink.old) (W.faults sink.new) }
-    ensures sink_steady { result ≤ 1 → W.faults sink.new ≡ W.faults sink.old }
+    ensures runs { let asked : asks.Asked = asked_view asked.entry in
+        let shown : SinkShows = prints (W.written sink.old) (W.faults sink.old) (W.shortages sink.old) in
+        let shown2 : SinkShows = prints (W.written sink.new) (W.faults sink.new) (W.shortages sink.new) in
+        EndsAt (P.events places.old) (P.events places.new) (P.holds places.old) (P.reaches places.old) (P.kept places.new) (P.hung places.new)
+        asked.path asked.address (Rose (P.faults places.old) (P.faults places.new))
+        (EndsUnread no_file source.old source.new shown shown2 result) (EndsUnread no_server source.old source.new shown shown2 result)
+        (HasRunOnDisk P.Disk.content P.Disk.images P.Disk.moment P.Disk.left_since P.Disk.faults P.Link.transcript P.Link.faults P.Link.began
+        (keyed_fn ⟦<Real as Keyed>⟧.prf ⟦<Real as Keyed>⟧.pad) asked.words
+        (gives (S.remaining source.old) (S.faults source.old)) (gives (S.remaining source.new) (S.faults source.new)) shown shown2 result) }
+    ensures streams { TellsStreams (S.faults source.old) (S.faults source.new) (W.faults sink.old) (W.faults sink.new) (IsAtEnd (S.remaining source.new)) result }
 {
-    let Begun {
-        words,
-        disk,
-        mut link,
-    } = begun;
-    let (status, _) = run_on_disk(alloc, words, &Real, &mut link, disk, source, sink);
+    match places.open(asked.path) {
+        Ok(disk) => match places.connect(asked.address) {
+            Ok(link) => run_over(alloc, places, asked.words, disk, link, source, sink),
+            Err(_) => {
+                places.close(disk);
+                finish(
+                    sink,
+                    StopCause::Command(CommandStop::Exchange(PeerStop::Link)),
+                )
+            }
+        },
+        Err(_) => finish(
+            sink,
+            StopCause::Command(CommandStop::Keeping(DeviceFault::Failed)),
+        ),
+    }
+}
+
+/// Carries out the script over a disk and a link, or goes on from the disk's records, and gives both back.
+fn run_over<P: Places, S: Source, W: Sink>(
+    alloc: Global,
+    places: &mut P,
+    words: &[String],
+    disk: P::Disk,
+    link: P::Link,
+    source: &mut S,
+    sink: &mut W,
+) -> u8
+    ensures runs { let shown : SinkShows = prints (W.written sink.old) (W.faults sink.old) (W.shortages sink.old) in
+        let shown2 : SinkShows = prints (W.written sink.new) (W.faults sink.new) (W.shortages sink.new) in
+        HasDone (P.events places.old) (P.events places.new) (P.kept places.new) (P.hung places.new)
+        (HasRunOnDisk P.Disk.content P.Disk.images P.Disk.moment P.Disk.left_since P.Disk.faults P.Link.transcript P.Link.faults P.Link.began
+        (keyed_fn ⟦<Real as Keyed>⟧.prf ⟦<Real as Keyed>⟧.pad) (map (λ word. string_bytes word) words.now)
+        (gives (S.remaining source.old) (S.faults source.old)) (gives (S.remaining source.new) (S.faults source.new)) shown shown2 result disk link) }
+    ensures streams { TellsStreams (S.faults source.old) (S.faults source.new) (W.faults sink.old) (W.faults sink.new) (IsAtEnd (S.remaining source.new)) result }
+{
+    let mut link = link;
+    let (status, disk) = run_on_disk(alloc, words, &Real, &mut link, disk, source, sink);
+    places.hang_up(link);
+    places.close(disk);
     status
 }

@@ -1,0 +1,2 @@
+mod Modes
+mod Streams
