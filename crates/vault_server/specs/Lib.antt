@@ -1,0 +1,11 @@
+pub mod VaultFrames
+pub mod VaultViews
+pub mod VaultReading
+pub mod VaultState
+pub mod VaultAnswers
+pub mod VaultRecords
+pub mod VaultServerView
+pub mod VaultFaults
+pub mod VaultLeaks
+pub mod VaultStarts
+pub mod VaultTurns

@@ -1,0 +1,42 @@
+ghost use Rattle.std.specs.Prelude.{◌≡◌, ◌≤◌, ◌++◌, length, OnOk};
+ghost use Rattle.vault_server.specs.VaultFrames.{BodyReply, IsShortReply, vault_reply_bytes};
+ghost use Rattle.vault_server.specs.VaultViews.{reply_view};
+
+use crate::VaultReply;
+use std::alloc::AllocError;
+
+// Promise P198, also here; clauses: ensures
+/// Appends the bytes of a reply: the length of its body, and the body. After an error a part of them may stand there.
+pub fn write_vault_reply(reply: &VaultReply<'_>, out: &mut Vec<u8>) -> Result<(), AllocError>
+    requires { IsShortReply (reply_view reply.now) }
+    ensures { OnOk result (out.new.items ≡ out.old.items ++ vault_reply_bytes (reply_view reply.now)) }
+{
+    match *reply {
+        VaultReply::Took(n) => {
+            out.extend_from_slice(&[0, 0, 0, 5, 0xc1])?;
+            out.extend_from_slice(&n.to_be_bytes())
+        }
+        VaultReply::Body { tag, sealed } => write_body(tag, sealed, out),
+        VaultReply::Absent => out.extend_from_slice(&[0, 0, 0, 1, 0xc3]),
+        VaultReply::Next(n) => {
+            out.extend_from_slice(&[0, 0, 0, 5, 0xc4])?;
+            out.extend_from_slice(&n.to_be_bytes())
+        }
+        VaultReply::Clash => out.extend_from_slice(&[0, 0, 0, 1, 0xc5]),
+        VaultReply::NoMemory => out.extend_from_slice(&[0, 0, 0, 1, 0xc6]),
+        VaultReply::StoreFault => out.extend_from_slice(&[0, 0, 0, 1, 0xc7]),
+        VaultReply::BadFrame => out.extend_from_slice(&[0, 0, 0, 1, 0xc8]),
+    }
+}
+
+/// The same, of the reply that hands out what a slot holds.
+fn write_body(tag: &[u8; 32], sealed: &[u8], out: &mut Vec<u8>) -> Result<(), AllocError>
+    requires { length sealed.now ≤ 65567 }
+    ensures { OnOk result (out.new.items ≡ out.old.items ++ vault_reply_bytes (BodyReply tag.now sealed.now)) }
+{
+    let size = 33 + sealed.len() as u32;
+    out.extend_from_slice(&size.to_be_bytes())?;
+    out.push(0xc2)?;
+    out.extend_from_slice(tag.as_slice())?;
+    out.extend_from_slice(sealed)
+}
