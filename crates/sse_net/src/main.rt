@@ -5,12 +5,15 @@
 //! that a run which can't keep records never calls a server. A name is looked up by the C library; an IP address isn't.
 //! Proved: which file and address are opened, in which order, that the run of the words goes over both under the real
 //! keyed function, or why not, and status and lines, over any places, disk, link, source and sink.
+//! Tested: over a disk and a link in memory, called by their own names and by others.
 //! Not covered: what a real file and socket do (tested by `.ci/tcp`).
 //! Side: client.
 #![tactic(auto)]
 
 mod asked;
 mod program;
+#[cfg(test)]
+mod runs_in_memory;
 mod system_places;
 
 use outside_words::command_line;
