@@ -1,6 +1,7 @@
 //! The two keyed functions that make all keys, labels and ciphertexts: a pseudorandom function of 32 bytes, and
 //! keystream of any length. `Keyed` is the trait that all code above is written over; its ghost members are the
-//! functions, so a contract names a label or a key by the formulas of specs/KeyFormulas.antt. `Real` is HMAC-SHA-256
+//! functions, so a contract names a label or a key by the formulas of specs/KeyFormulas.antt, or by those of
+//! specs/VaultFormulas.antt if it belongs to a vault of texts. `Real` is HMAC-SHA-256
 //! with ChaCha20, `Toy` is for tests. `PreparedKey` hashes a key's own block once for many values; `KeptKey` does so
 //! without naming a keyed function, so that a client can keep keys of words and have no type parameter. It knows no
 //! word, list or table.
@@ -20,7 +21,7 @@ mod toy;
 pub use front::{front_at, front_of};
 pub use kept_key::KeptKey;
 pub use keyed::Keyed;
-pub use padded_bytes::xor_pad;
+pub use padded_bytes::{xor_long_pad, xor_pad};
 pub use prepared_key::PreparedKey;
 pub use real::Real;
 pub use toy::Toy;

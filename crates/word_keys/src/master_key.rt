@@ -1,11 +1,15 @@
 ghost use Rattle.std.specs.Prelude.{◌≡◌};
+ghost use Rattle.keyed_fn.specs.KeyedFn.{keyed_fn};
+ghost use Rattle.keyed_fn.specs.VaultFormulas.{vault_secrets};
 
 use crate::prepared_master::PreparedMaster;
+use crate::vault_keys::VaultKeys;
 use keyed_fn::Keyed;
 use std::marker::Model;
 
 /// The master key of a client, 32 bytes. Nothing gives the bytes back: it is prepared for a keyed function,
-/// and what leaves it then are search tokens, a word's keys and the key mark.
+/// and what leaves it then are search tokens, a word's keys, the key mark and the keys of a
+/// vault.
 #[derive(Drop)]
 pub struct MasterKey {
     bytes: [u8; 32],
@@ -32,5 +36,13 @@ impl MasterKey {
         ensures { result ≡ self.now }
     {
         PreparedMaster::new(keyed, &self.bytes)
+    }
+
+    // Promise P97, also here; clauses: ensures
+    /// The keys of a vault of encrypted texts, under this key and this keyed function.
+    pub fn vault<K: Keyed>(&self, keyed: &K) -> VaultKeys
+        ensures { result ≡ vault_secrets (keyed_fn K.prf K.pad) self.now }
+    {
+        self.prepare(keyed).vault()
     }
 }

@@ -3,6 +3,7 @@ ghost use Rattle.client_registry.specs.HashNumbers.{hash_numbers};
 ghost use Rattle.client_registry.specs.WordBytes.{word_bytes};
 ghost use Rattle.keyed_fn.specs.KeyedFn.{keyed_fn};
 ghost use Rattle.keyed_fn.specs.KeyFormulas.{list_label, mark_of, part_key, plain_key};
+ghost use Rattle.keyed_fn.specs.VaultFormulas.{vault_secrets};
 ghost use Rattle.search_token.specs.TokenKeys.{token_keys};
 ghost use Rattle.word_keys.specs.HashNumbers.{numbers_of_key};
 ghost use Rattle.word_keys.specs.KeyPair.{dummy_keys, plus_keys};
@@ -13,6 +14,7 @@ use crate::list_pads::ListPads;
 use crate::place_key::PlaceKey;
 use crate::plus_keys::PlusKeys;
 use crate::revocation_key::RevocationKey;
+use crate::vault_keys::VaultKeys;
 use client_registry::{HashKeys, Word};
 use keyed_fn::{Keyed, PreparedKey, front_at, front_of};
 use search_token::Token;
@@ -46,6 +48,15 @@ const DUMMY_LABELS: u8 = 8;
 
 /// The part whose key, for no word, gives the pads of dummies.
 const DUMMY_PADS: u8 = 9;
+
+/// The part whose key, for no word, gives the slots of a vault.
+const VAULT_SLOTS: u8 = 10;
+
+/// The part whose key, for no word, gives the pads of a vault.
+const VAULT_PADS: u8 = 11;
+
+/// The part whose key, for no word, gives the tags of a vault.
+const VAULT_TAGS: u8 = 12;
 
 /// The part whose key, for no word, begins with the numbers of the hasher.
 const HASHING: u8 = 13;
@@ -153,6 +164,19 @@ impl<'a, K: Keyed> PreparedMaster<'a, K> {
     {
         let pad_key = self.key_of_part(DUMMY_PADS, &[]);
         DummyKey::new(&self.key_of_part(DUMMY_LABELS, &[]), pad_key)
+    }
+
+    // Promise P97, also here; clauses: ensures
+    /// The keys of a vault: those of the parts 10, 11 and 12, for no word, which never leave the client.
+    pub fn vault(&self) -> VaultKeys
+        ensures { result ≡ vault_secrets (keyed_fn K.prf K.pad) self.now }
+    {
+        let pad_key = self.key_of_part(VAULT_PADS, &[]);
+        VaultKeys::new(
+            &self.key_of_part(VAULT_SLOTS, &[]),
+            pad_key,
+            &self.key_of_part(VAULT_TAGS, &[]),
+        )
     }
 
     // Promise P97, also here; clauses: ensures
