@@ -1,12 +1,7 @@
 -- The effects on a link over a stream.
 use Rattle.std.specs.Prelude.{◌≡◌, ◌⊎◌, ℕ, Bool, true, false, List, Option}
-use Rattle.std.specs.Io.KnownBytes.{IsAtEnd}
 use Rattle.sse_outside.specs.Causes.{Rose}
 use Rattle.sse_outside.specs.Fronts.{TookFront}
-
--- why no bytes came: the input is at its end, or the source's count of faults rose
-abbrev pub IsDry : (left : Option (List ℕ)) (faults now : ℕ) → Type 0
-IsDry left faults now = IsAtEnd left ⊎ Rose faults now
 
 -- the link is cut: no reply is due, its place among the replies is lost, and its count of faults rose
 pub record IsCut (due lost : Bool) (faults now : ℕ) : Type 0 where

@@ -5,10 +5,11 @@ ghost use Rattle.sse_frames.specs.Frames.{IsFrame};
 ghost use Rattle.sse_frames.specs.Replies.{StoreFault, reply_bytes};
 ghost use Rattle.sse_link.specs.Due.{IsOpenPage};
 ghost use Rattle.sse_link.specs.Scripted.{reply_size};
-ghost use Rattle.client_stream_link.specs.Streams.{IsDry, IsCut, IsUnsent, TookLess};
+ghost use Rattle.sized_replies.specs.Streams.{IsDry};
+ghost use Rattle.client_stream_link.specs.Streams.{IsCut, IsUnsent, TookLess};
 
-use crate::bodies::take_reply;
-use sse_frames::{Reply, read_whole_reply};
+use sized_replies::take_reply;
+use sse_frames::{MAX_REPLY_BODY, Reply, read_whole_reply};
 use sse_link::{Link, LinkFault};
 use sse_outside::{Sink, Source, print_all};
 
@@ -159,7 +160,7 @@ impl<S: Source, W: Sink> Link for StreamLink<S, W> {
         ensures sink_kept { self.new.sink ≡ self.old.sink }
         ensures later { self.old.faults ≤ self.new.faults }
     {
-        match take_reply(&mut self.source, out) {
+        match take_reply(&mut self.source, MAX_REPLY_BODY, out) {
             Ok(n) => {
                 self.received(&out[..n]);
                 Ok(n)

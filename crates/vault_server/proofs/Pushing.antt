@@ -1,14 +1,14 @@
 -- One update more behind those that a vault has taken.
-use Rattle.std.proofs.Common.{◌≡◌, ℕ, ◌+◌, ◌-◌, ◌==◌, Bool, true, false, List, [], ◌∷◌, ◌++◌, refl, sym, ap, ◌∙◌, subst, arith, Some, None}
-use Rattle.std.specs.Prelude.{Ok, Option, is_some, if◌then◌else◌}
-use Rattle.std.specs.FinMap as finmap
+use Rattle.std.proofs.Common.{◌≡◌, ℕ, List, [], ◌∷◌, ◌++◌, refl, sym, ap, ◌∙◌, subst, Some, None}
+use Rattle.std.specs.Prelude.{Ok, Err, Option, Result, IfSome}
 use Rattle.std.proofs.lemmas.List.{map-append}
-use Rattle.sse_journal.specs.JournalView.{IsJournalOf}
-use Rattle.vault_server.specs.VaultFrames.{VaultFrameText, PutFrame, Next, Clash, vault_body}
-use Rattle.vault_server.specs.VaultState.{Held, Slots, VaultState, vault_refusal, empty_vault, IsVaultTaken, AreVaultTaken, vault_after, vault_taken, vault_records}
-use Rattle.vault_server.proofs.SlotMaps.{put_and_emptied}
+use Rattle.sse_journal.specs.JournalView.{IsJournalOf, broken_by}
+use Rattle.sse_journal.specs.declared.journal.Journal.{Journal}
+use Rattle.sse_outside.specs.declared.device_fault.DeviceFault.{DeviceFault}
+use Rattle.vault_server.specs.VaultFrames.{VaultFrameText, vault_body}
+use Rattle.vault_server.specs.VaultState.{VaultState, empty_vault, IsVaultTaken, AreVaultTaken, vault_after, vault_taken, vault_records}
 use Rattle.vault_server.specs.VaultServerView.{VaultServerView, IsVaultOf}
-use Rattle.vault_server.specs.VaultTurns.{Appends, Breaks, JournalsOne}
+use Rattle.vault_server.specs.VaultTurns.{Appends, Breaks, JournalsOne, StaysBroken}
 
 pub taken-push : (s : VaultState) (frames : List VaultFrameText) (frame : VaultFrameText) → AreVaultTaken s frames → IsVaultTaken (vault_after s frames) frame → AreVaultTaken s (frames ++ frame ∷ [])
 taken-push s [] frame are is = (is, tt)
@@ -31,6 +31,14 @@ vault_push frames frame old new body content content2 images images2 was one spe
       (added (vault_records frames) was.journal_is);
 }
 
+-- a broken journal that refuses a record stays broken
+pub stays_broken : {T D : Type 0} (old new : D) (result : Result T DeviceFault) (before after : Journal) → Breaks old new result before after → StaysBroken before after
+stays_broken old new result before after breaks why is = by (broken_by before) refl breaks.broken
+  where
+    by : (b : Option DeviceFault) → broken_by before ≡ b → IfSome b (λ w. (result ≡ Err w) × (after ≡ before) × (new ≡ old)) → broken_by after ≡ Some why
+    by (Some w) e told = ap broken_by told.1 ∙ is
+    by None e told = absurd (let no : None ≡ Some why = sym e ∙ is in cc)
+
 -- the journal's promises of a record that was appended are the vault's of its update, if the state is the one after it
 pub update_journaled : {T D : Type 0} (content : D → Option (List ℕ)) (images : D → List ℕ → Type 0) (moment : D → ℕ) (left_since : D → ℕ → List ℕ → Type 0) (old new : D) (value : T)
     (before after : VaultServerView) (frame : VaultFrameText) (body : List ℕ)
@@ -43,23 +51,8 @@ update_journaled content images moment left_since old new value before after fra
   within_after = appends.within_after;
   whole = breaks.whole;
   failed_breaks = breaks.failed_breaks;
+  stays_broken = stays_broken old new (Ok value) before.journal after.journal breaks;
 }
-
--- a put that isn't refused has an empty slot
-pub empty_slot : (s : VaultState) (n : ℕ) (slot tag sealed : List ℕ) → vault_refusal s (PutFrame n slot tag sealed) ≡ None → finmap.get s.slots slot ≡ None
-empty_slot s n slot tag sealed accepted = by (n == s.next) (finmap.get s.slots slot) refl accepted
-  where
-    by : (b : Bool) (m : Option Held) → finmap.get s.slots slot ≡ m → (if b then (if is_some m then Some Clash else None) else Some (Next s.next)) ≡ None → finmap.get s.slots slot ≡ None
-    by true None e a = e
-    by true (Some h) e a = absurd (let no : Some Clash ≡ None = a in cc)
-    by false m e a = absurd (let no : Some (Next s.next) ≡ None = a in cc)
-
-pub put_back_same : (m : Slots) (n : ℕ) (slot : List ℕ) (h : Held) → finmap.get m slot ≡ None
-    → ◌≡◌ {A = VaultState} (record { slots = finmap.remove (finmap.insert m slot h) slot; next = n + 1 - 1 }) (record { slots = m; next = n })
-put_back_same m n slot h none = λ i. record { slots = put_and_emptied m slot h none i; next = back n i }
-  where
-    back : (n : ℕ) → n + 1 - 1 ≡ n
-    back n = omega arith
 
 pub records-push : (frames : List VaultFrameText) (frame : VaultFrameText) → vault_records (frames ++ frame ∷ []) ≡ vault_records frames ++ vault_body frame ∷ []
 records-push frames frame = map-append vault_body frames (frame ∷ [])

@@ -6,6 +6,8 @@ pub mod VaultAnswers
 pub mod VaultRecords
 pub mod VaultServerView
 pub mod VaultFaults
+pub mod VaultTexts
 pub mod VaultLeaks
 pub mod VaultStarts
 pub mod VaultTurns
+pub mod VaultStays

@@ -1,6 +1,7 @@
 -- The replies that the answers of the vault stand for, and what it answers to the bytes of a body.
 use Rattle.std.specs.Prelude.{ℕ, List, Result, Ok, Err}
 use Rattle.std.specs.FinMap as finmap
+use Rattle.sse_frames.specs.Frames.{IsNumber}
 use Rattle.sse_frames.specs.declared.fault.FrameFault.{FrameFault}
 use Rattle.sse_outside.specs.declared.device_fault.DeviceFault.{DeviceFault}
 use Rattle.sse_outside.specs.declared.device_fault.DeviceFault.TheVariants as device
@@ -19,6 +20,16 @@ answer_reply s answers.Clash = Clash
 answer_reply s answers.NoMemory = NoMemory
 answer_reply s answers.StoreFault = StoreFault
 answer_reply s answers.BadFrame = BadFrame
+
+-- an answer that stands for a reply of the grammar: what is taken has the number of an update
+abbrev pub InAnswers : VaultAnswer → Type 0
+InAnswers (answers.Took n) = IsNumber n
+InAnswers (answers.Holds slot) = Unit {0}
+InAnswers (answers.Next n) = Unit {0}
+InAnswers answers.Clash = Unit {0}
+InAnswers answers.NoMemory = Unit {0}
+InAnswers answers.StoreFault = Unit {0}
+InAnswers answers.BadFrame = Unit {0}
 
 -- the answer to an update that the disk keeps from being taken
 abbrev pub fault_answer : DeviceFault → VaultAnswer

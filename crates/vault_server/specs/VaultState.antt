@@ -1,5 +1,5 @@
 -- What the vault holds, and what it does with a frame.
-use Rattle.std.specs.Prelude.{◌≡◌, ℕ, ◌+◌, ◌==◌, Bool, not, List, [], ◌∷◌, map, Option, None, Some, IsSome, refl, if◌then◌else◌}
+use Rattle.std.specs.Prelude.{◌≡◌, ℕ, ◌+◌, ◌-◌, ◌<◌, ◌==◌, Bool, not, List, [], ◌∷◌, map, Option, None, Some, IsSome, refl, if◌then◌else◌}
 use Rattle.std.specs.Ordering.{nat_cmp}
 use Rattle.std.specs.Cmp.Lexicographic.{slice_cmp}
 use Rattle.std.specs.Coded.{Coded, code_by, coded×, coded_list, coded_ℕ}
@@ -47,6 +47,43 @@ vault_taken s (PutFrame n slot tag sealed) = record { slots = finmap.insert s.sl
 vault_taken s (DropFrame n slot) = record { slots = finmap.remove s.slots slot; next = s.next + 1 }
 vault_taken s (FetchFrame slot) = s
 vault_taken s AskFrame = s
+
+-- An update in steps: the memory for it is taken before its record is kept.
+
+-- the state once the memory is taken: a put fills its slot, and a drop takes none
+abbrev pub prepared : VaultState → VaultFrameText → VaultState
+prepared s (PutFrame n slot tag sealed) = vault_taken s (PutFrame n slot tag sealed)
+prepared s (DropFrame n slot) = s
+prepared s (FetchFrame slot) = s
+prepared s AskFrame = s
+
+-- the numbers are in range when a prepared update is finished, or given up
+
+abbrev pub CanFinish : VaultState → VaultFrameText → Type 0
+CanFinish s (PutFrame n slot tag sealed) = Unit {0}
+CanFinish s (DropFrame n slot) = s.next < 0xffffffff
+CanFinish s (FetchFrame slot) = Unit {0}
+CanFinish s AskFrame = Unit {0}
+
+abbrev pub CanUndo : VaultState → VaultFrameText → Type 0
+CanUndo s (PutFrame n slot tag sealed) = 0 < s.next
+CanUndo s (DropFrame n slot) = Unit {0}
+CanUndo s (FetchFrame slot) = Unit {0}
+CanUndo s AskFrame = Unit {0}
+
+-- the state once the record of a prepared update is kept: a drop empties its slot
+abbrev pub finished : VaultState → VaultFrameText → VaultState
+finished s (PutFrame n slot tag sealed) = s
+finished s (DropFrame n slot) = vault_taken s (DropFrame n slot)
+finished s (FetchFrame slot) = s
+finished s AskFrame = s
+
+-- the state once a prepared update is given up, as its record wasn't kept: the slot of a put is empty again
+abbrev pub undone : VaultState → VaultFrameText → VaultState
+undone s (PutFrame n slot tag sealed) = record { slots = finmap.remove s.slots slot; next = s.next - 1 }
+undone s (DropFrame n slot) = s
+undone s (FetchFrame slot) = s
+undone s AskFrame = s
 
 -- what is handed out of a slot
 abbrev pub handed : Option Held → VaultReplyText

@@ -15,6 +15,10 @@ use Rattle.vault_server.specs.VaultState.{VaultState, vault_records, vault_taken
 use Rattle.vault_server.specs.declared.vault_answer.VaultAnswer.{VaultAnswer}
 use Rattle.vault_server.specs.declared.vault_answer.VaultAnswer.TheVariants.{Took, NoMemory, StoreFault}
 
+-- a journal that is broken stays so, for the same cause
+abbrev pub StaysBroken : (before after : Journal) → Type 0
+StaysBroken before after = (why : DeviceFault) → broken_by before ≡ Some why → broken_by after ≡ Some why
+
 -- An answer to a frame, or to bytes that are no frame.
 
 -- state and reply are those of this step. Out of memory or a fault of the disk is reported only for an update that the vault would take, and then
@@ -35,11 +39,12 @@ pub record JournalsUpdate {D : Type 0} (content : D → Option (List ℕ)) (imag
   pub untouched : (can → ⊥) → (new ≡ old) × (after ≡ before)
 
 -- the journal after the answer: the file has the commit byte after its records. It isn't broken if an update was acknowledged, and wasn't before;
--- it is broken if a fault of the disk was reported
+-- it is broken if a fault of the disk was reported. One that is broken stays so, for the same cause
 pub record LeavesJournal (before after : Journal) (content' : Option (List ℕ)) (answer : VaultAnswer) : Type 0 where
   pub within_after : IsWithin after content'
   pub whole : (n : ℕ) → answer ≡ Took n → (broken_by before ≡ None) × (broken_by after ≡ None)
   pub failed_breaks : answer ≡ StoreFault → broken_by after ≡ Some Failed
+  pub stays_broken : StaysBroken before after
 
 -- the disk's count of faults never falls. It rises if a fault of the disk is reported and the journal wasn't broken before; it stays at every
 -- other answer
@@ -66,6 +71,7 @@ pub record JournalsOne {T D : Type 0} (content : D → Option (List ℕ)) (image
   pub within_after : IsWithin after.journal (content new)
   pub whole : OnOk result ((broken_by before.journal ≡ None) × (broken_by after.journal ≡ None))
   pub failed_breaks : IsErrOf result Failed → broken_by after.journal ≡ Some Failed
+  pub stays_broken : StaysBroken before.journal after.journal
 
 -- The record of an update.
 

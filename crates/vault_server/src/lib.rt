@@ -24,6 +24,7 @@ mod vault_reply;
 
 pub use frame_reader::read_vault_frame;
 pub use frame_writer::write_vault_frame;
+pub use numbers::MAX_BODY;
 pub use reply_reader::read_vault_reply;
 pub use reply_writer::write_vault_reply;
 pub use server::VaultServer;

@@ -7,7 +7,6 @@ ghost use Rattle.vault_server.specs.VaultRecords.{IsBadRecord, IsReplayed, Takes
 ghost use Rattle.vault_server.specs.VaultStarts.{CountsStart, IsNextPlace, OnlyReads};
 ghost use Rattle.vault_server.specs.VaultViews.{frame_view};
 
-use crate::sealed::Sealed;
 use crate::slots::Vault;
 use crate::{VaultFrame, VaultOpenFault, read_vault_frame};
 use sse_journal::Journal;
@@ -91,29 +90,12 @@ fn take_frame(vault: &mut Vault, frame: &VaultFrame<'_>, number: u64) -> Result<
     ensures bad { (k : ℕ) → result ≡ Err (VaultOpenFault.BadRecord k) → (k ≡ number) × (IsVaultTaken vault.old (frame_view frame.now) → ⊥) }
     ensures known { IsErr result → (result ≡ Err VaultOpenFault.NoMemory) ⊎ (result ≡ Err (VaultOpenFault.BadRecord number)) }
 {
-    if vault.refusal(frame).is_some() {
+    if frame.number().is_none() || vault.refusal(frame).is_some() {
         return Err(VaultOpenFault::BadRecord(number));
     }
-    match frame {
-        VaultFrame::Put {
-            slot,
-            tag,
-            sealed,
-            ..
-        } => {
-            let Ok(held) = Sealed::new(vault.alloc(), tag, sealed) else {
-                return Err(VaultOpenFault::NoMemory);
-            };
-            match vault.put(slot, held) {
-                Ok(()) => Ok(()),
-                Err(_) => Err(VaultOpenFault::NoMemory),
-            }
-        }
-        VaultFrame::Drop { slot, .. } => {
-            vault.empty(slot);
-            Ok(())
-        }
-        VaultFrame::Fetch { .. } => Err(VaultOpenFault::BadRecord(number)),
-        VaultFrame::Ask => Err(VaultOpenFault::BadRecord(number)),
+    if vault.prepare(frame).is_err() {
+        return Err(VaultOpenFault::NoMemory);
     }
+    vault.finish(frame);
+    Ok(())
 }

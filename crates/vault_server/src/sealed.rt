@@ -1,5 +1,5 @@
-ghost use Rattle.std.specs.Prelude.{◌≡◌, ◌≤◌, length, IfOk, option_map};
-ghost use Rattle.vault_server.specs.VaultFrames.{BodyReply, IsShortReply};
+ghost use Rattle.std.specs.Prelude.{◌≡◌, ℕ, ◌<◌, ◌≤◌, length, slice_index, IfOk, option_map};
+ghost use Rattle.vault_server.specs.VaultFrames.{BodyReply, InVaultReplies, IsBodyReply, IsShortReply};
 ghost use Rattle.vault_server.specs.VaultState.{handed};
 ghost use Rattle.vault_server.specs.VaultViews.{reply_view};
 
@@ -41,18 +41,33 @@ impl Sealed {
     fn reply(&self) -> VaultReply<'_>
         ensures reply { reply_view result ≡ BodyReply self.now.tag self.now.sealed }
         ensures short { length self.now.sealed ≤ 65547 }
+        ensures grammar { IsBodyReply self.now.tag self.now.sealed }
     {
-        VaultReply::Body {
-            tag: &self.tag,
-            sealed: self.text.as_slice(),
-        }
+        body_reply(&self.tag, self.text.as_slice())
     }
 }
+
+/// The reply that hands out a tag and a text.
+fn body_reply<'a>(tag: &'a [u8; 32], sealed: &'a [u8]) -> VaultReply<'a>
+    requires { length sealed.now ≤ 65547 }
+    ensures reply { reply_view result ≡ BodyReply tag.now sealed.now }
+    ensures grammar { IsBodyReply tag.now sealed.now }
+{
+    are_bytes(tag.as_slice(), sealed);
+    VaultReply::Body { tag, sealed }
+}
+
+/// What these slices hold is below 256, as in any slice of bytes.
+fn are_bytes(tag: &[u8], sealed: &[u8])
+    ensures tag { (i : ℕ) → slice_index tag.now i < 256 }
+    ensures sealed { (i : ℕ) → slice_index sealed.now i < 256 }
+{}
 
 /// What is handed out of a slot.
 pub(crate) fn reply_of(held: Option<&Sealed>) -> VaultReply<'_>
     ensures reply { reply_view result ≡ handed (option_map (λ held. held.now) held.entry) }
     ensures short { IsShortReply (reply_view result) }
+    ensures grammar { InVaultReplies (reply_view result) }
 {
     match held {
         None => VaultReply::Absent,

@@ -1,19 +1,19 @@
 ghost use Rattle.std.specs.Prelude.{◌≡◌, ◌≢◌, ◌⊎◌, ℕ, IfOk, IfSome, IsErr, None, Ok};
 ghost use Rattle.sse_journal.specs.Files.{GivesAs};
 ghost use Rattle.sse_journal.specs.AnyMoment.{HasSynced, LeavesOnly};
-ghost use Rattle.vault_server.specs.VaultAnswers.{answer_reply, vault_answered};
-ghost use Rattle.vault_server.specs.VaultFrames.{IsShortReply, IsVaultBody, vault_body, vault_number};
+ghost use Rattle.vault_server.specs.VaultAnswers.{InAnswers, answer_reply, vault_answered};
+ghost use Rattle.vault_server.specs.VaultFrames.{InVaultReplies, IsShortReply, IsVaultBody, Next, vault_body, vault_number};
 ghost use Rattle.vault_server.specs.VaultReading.{frame_in};
 ghost use Rattle.vault_server.specs.VaultRecords.{CanTake};
 ghost use Rattle.vault_server.specs.VaultServerView.{IsVaultFrom, IsWithin};
 ghost use Rattle.vault_server.specs.VaultStarts.{CountsStart, IsReady, RefusesOnly};
 ghost use Rattle.vault_server.specs.VaultState.{IsVaultTaken, vault_step};
+ghost use Rattle.vault_server.specs.VaultStays.{StaysJournal, StaysVault};
 ghost use Rattle.vault_server.specs.VaultTurns.{Answers, CountsAnswer, CountsAppend, JournalsOne, JournalsUpdate, LeavesJournal, TakesOrStays};
 ghost use Rattle.vault_server.specs.VaultViews.{frame_view, reply_view};
 
 use crate::keeping::keep;
 use crate::replay::replay;
-use crate::sealed::Sealed;
 use crate::slots::Vault;
 use crate::{VaultAnswer, VaultFrame, VaultOpenFault, VaultReply, read_vault_frame};
 use sse_journal::Journal;
@@ -93,6 +93,8 @@ impl VaultServer {
     //   clauses: journal; fields: JournalsUpdate.untouched; assumes: earlier calls
     // Promise P200 (caller): After the disk failed at an update the vault takes no other.
     //   clauses: left; fields: LeavesJournal.whole, LeavesJournal.failed_breaks; assumes: earlier calls
+    // Promise P219 (caller): A vault that takes no update holds what it held; one whose journal is broken leaves disk and journal untouched.
+    //   clauses: stays; fields: StaysVault.kept, StaysVault.broken, StaysVault.breaks; assumes: earlier calls
     /// The answer to the body of a frame, by the vault's step; bytes that are no frame are answered `BadFrame`. An update that the
     /// vault takes is acknowledged only where every crash leaves its record.
     ///
@@ -104,6 +106,7 @@ impl VaultServer {
         ensures step { Answers self.old.state self.new.state result (vault_answered self.old.state body.now) (CanTake self.old.state body.now) }
         ensures journal { JournalsUpdate D.content D.images D.moment D.left_since disk.old disk.new self.old self.new result (frame_in body.now) body.now (CanTake self.old.state body.now) }
         ensures left { LeavesJournal self.old.journal self.new.journal (D.content disk.new) result }
+        ensures stays { StaysVault D.content D.images disk.old disk.new self.old self.new result }
         ensures count { CountsAnswer result self.old.journal (D.faults disk.old) (D.faults disk.new) }
     {
         match read_vault_frame(body) {
@@ -113,16 +116,17 @@ impl VaultServer {
     }
 
     // Promise P199 (caller): What the vault hands out of a slot is the tag and text that it holds there, short enough for a reply.
-    //   clauses: value, short
+    //   clauses: value, short, grammar
     /// The reply that an answer of this vault stands for, as long as nothing was taken since.
     pub fn reply(&self, answer: &VaultAnswer) -> VaultReply<'_>
         ensures value { reply_view result ≡ answer_reply self.now.state answer.now }
         ensures short { IsShortReply (reply_view result) }
+        ensures grammar { InAnswers answer.now → InVaultReplies (reply_view result) }
     {
         match *answer {
             VaultAnswer::Took(n) => VaultReply::Took(n),
             VaultAnswer::Holds(slot) => self.vault.handed(&slot),
-            VaultAnswer::Next(n) => VaultReply::Next(n),
+            VaultAnswer::Next(n) => next_reply(n),
             VaultAnswer::Clash => VaultReply::Clash,
             VaultAnswer::NoMemory => VaultReply::NoMemory,
             VaultAnswer::StoreFault => VaultReply::StoreFault,
@@ -143,6 +147,7 @@ impl VaultServer {
         ensures journal { JournalsUpdate D.content D.images D.moment D.left_since disk.old disk.new self.old self.new result (Ok (frame_view frame.now)) body.now
             (IsVaultTaken self.old.state (frame_view frame.now)) }
         ensures left { LeavesJournal self.old.journal self.new.journal (D.content disk.new) result }
+        ensures stays { StaysVault D.content D.images disk.old disk.new self.old self.new result }
         ensures count { CountsAnswer result self.old.journal (D.faults disk.old) (D.faults disk.new) }
     {
         let Some(n) = frame.number() else {
@@ -170,7 +175,7 @@ impl VaultServer {
         }
     }
 
-    /// Takes an update that isn't refused. The memory of a put is taken first: its slot is filled, and emptied again where its
+    /// Takes an update that isn't refused. The memory of a put is taken first: its slot is filled, and emptied again if its
     /// record isn't kept.
     fn take<D: Disk>(
         &mut self,
@@ -183,37 +188,29 @@ impl VaultServer {
         requires within { IsWithin self.old.journal (D.content disk.old) }
         ensures takes { TakesOrStays result self.old.state self.new.state (frame_view frame.now) }
         ensures journal { JournalsOne D.content D.images D.moment D.left_since disk.old disk.new result self.old self.new (frame_view frame.now) body.now }
+        ensures stays { StaysJournal D.content D.images disk.old disk.new result self.old.journal self.new.journal }
         ensures count { CountsAppend result self.old.journal (D.faults disk.old) (D.faults disk.new) }
     {
-        match frame {
-            VaultFrame::Put {
-                slot,
-                tag,
-                sealed,
-                ..
-            } => {
-                let Ok(held) = Sealed::new(self.vault.alloc(), tag, sealed) else {
-                    return Err(DeviceFault::NoMemory);
-                };
-                match self.vault.put(slot, held) {
-                    Ok(()) => {}
-                    Err(_) => return Err(DeviceFault::NoMemory),
-                }
-                match keep(&mut self.journal, disk, body) {
-                    Ok(()) => Ok(()),
-                    Err(fault) => {
-                        self.vault.put_back(slot);
-                        Err(fault)
-                    }
-                }
-            }
-            VaultFrame::Drop { slot, .. } => {
-                keep(&mut self.journal, disk, body)?;
-                self.vault.empty(slot);
+        let Ok(()) = self.vault.prepare(frame) else {
+            return Err(DeviceFault::NoMemory);
+        };
+        match keep(&mut self.journal, disk, body) {
+            Ok(()) => {
+                self.vault.finish(frame);
                 Ok(())
             }
-            VaultFrame::Fetch { .. } => Ok(()),
-            VaultFrame::Ask => Ok(()),
+            Err(fault) => {
+                self.vault.undo(frame);
+                Err(fault)
+            }
         }
     }
+}
+
+/// The reply that gives the number of the next update.
+fn next_reply(n: u32) -> VaultReply<'static>
+    ensures value { reply_view result ≡ Next n }
+    ensures grammar { InVaultReplies (Next n) }
+{
+    VaultReply::Next(n)
 }

@@ -1,8 +1,8 @@
 ghost use Rattle.std.specs.Prelude.{◌≡◌, ◌<◌, ◌≤◌, ◌+◌, ◌-◌, length, None, OnOk, OnErr, option_map};
 ghost use Rattle.std.specs.FinMap as finmap;
 ghost use Rattle.vault_server.specs.VaultAnswers.{answer_reply};
-ghost use Rattle.vault_server.specs.VaultFrames.{IsShortReply};
-ghost use Rattle.vault_server.specs.VaultState.{empty_vault, handed, update_refusal, vault_refusal};
+ghost use Rattle.vault_server.specs.VaultFrames.{InVaultReplies, IsShortReply};
+ghost use Rattle.vault_server.specs.VaultState.{CanFinish, CanUndo, IsVaultTaken, empty_vault, finished, handed, prepared, undone, update_refusal, vault_refusal};
 ghost use Rattle.vault_server.specs.VaultViews.{frame_view, reply_view};
 
 use crate::sealed::{Sealed, reply_of};
@@ -43,11 +43,6 @@ impl Vault {
         }
     }
 
-    /// Its allocator.
-    pub(crate) fn alloc(&self) -> Global {
-        self.alloc
-    }
-
     /// The number of the next update.
     pub(crate) fn next(&self) -> u32
         ensures { result ≡ self.now.next }
@@ -66,12 +61,63 @@ impl Vault {
     pub(crate) fn handed(&self, slot: &[u8; 16]) -> VaultReply<'_>
         ensures reply { reply_view result ≡ handed (finmap.get self.now.slots slot.now) }
         ensures short { IsShortReply (reply_view result) }
+        ensures grammar { InVaultReplies (reply_view result) }
     {
         reply_of(self.at(slot))
     }
 
+    /// Takes the memory for an update that isn't refused: a put fills its slot with a copy of its text.
+    pub(crate) fn prepare(&mut self, frame: &VaultFrame<'_>) -> Result<(), AllocError>
+        requires { IsVaultTaken self.old (frame_view frame.now) }
+        ensures ok { OnOk result (self.new ≡ prepared self.old (frame_view frame.now)) }
+        ensures err { OnErr result (self.new ≡ self.old) }
+    {
+        match frame {
+            VaultFrame::Put {
+                slot,
+                tag,
+                sealed,
+                ..
+            } => self.fill(slot, tag, sealed),
+            VaultFrame::Drop { .. } => Ok(()),
+            VaultFrame::Fetch { .. } => Ok(()),
+            VaultFrame::Ask => Ok(()),
+        }
+    }
+
+    /// Finishes an update that was prepared, after its record was kept: a drop empties its slot. Takes no memory.
+    pub(crate) fn finish(&mut self, frame: &VaultFrame<'_>)
+        requires { CanFinish self.old (frame_view frame.now) }
+        ensures { self.new ≡ finished self.old (frame_view frame.now) }
+    {
+        if let VaultFrame::Drop { slot, .. } = frame {
+            self.empty(slot);
+        }
+    }
+
+    /// Gives up an update that was prepared: the slot of a put is empty again. Takes no memory.
+    pub(crate) fn undo(&mut self, frame: &VaultFrame<'_>)
+        requires { CanUndo self.old (frame_view frame.now) }
+        ensures { self.new ≡ undone self.old (frame_view frame.now) }
+    {
+        if let VaultFrame::Put { slot, .. } = frame {
+            self.put_back(slot);
+        }
+    }
+
+    /// Fills a slot with a copy of a tag and a text.
+    fn fill(&mut self, slot: &[u8; 16], tag: &[u8; 32], sealed: &[u8]) -> Result<(), AllocError>
+        requires next { self.old.next < 0xffffffff }
+        requires short { length sealed.now ≤ 65547 }
+        ensures ok { OnOk result (self.new ≡ record { slots = finmap.insert self.old.slots slot.now (record { tag = tag.now; sealed = sealed.now }); next = self.old.next + 1 }) }
+        ensures err { OnErr result (self.new ≡ self.old) }
+    {
+        let held = Sealed::new(self.alloc, tag, sealed)?;
+        self.put(slot, held)
+    }
+
     /// Fills a slot.
-    pub(crate) fn put(&mut self, slot: &[u8; 16], held: Sealed) -> Result<(), AllocError>
+    fn put(&mut self, slot: &[u8; 16], held: Sealed) -> Result<(), AllocError>
         requires { self.old.next < 0xffffffff }
         ensures ok { OnOk result (self.new ≡ record { slots = finmap.insert self.old.slots slot.now held; next = self.old.next + 1 }) }
         ensures err { OnErr result (self.new ≡ self.old) }
@@ -82,7 +128,7 @@ impl Vault {
     }
 
     /// Empties a slot.
-    pub(crate) fn empty(&mut self, slot: &[u8; 16])
+    fn empty(&mut self, slot: &[u8; 16])
         requires { self.old.next < 0xffffffff }
         ensures { self.new ≡ record { slots = finmap.remove self.old.slots slot.now; next = self.old.next + 1 } }
     {
@@ -91,7 +137,7 @@ impl Vault {
     }
 
     /// Undoes the put before.
-    pub(crate) fn put_back(&mut self, slot: &[u8; 16])
+    fn put_back(&mut self, slot: &[u8; 16])
         requires { 0 < self.old.next }
         ensures { self.new ≡ record { slots = finmap.remove self.old.slots slot.now; next = self.old.next - 1 } }
     {

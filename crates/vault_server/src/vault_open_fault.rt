@@ -2,9 +2,11 @@ ghost use Rattle.std.specs.Prelude.{◌≡◌};
 ghost use Rattle.vault_server.specs.VaultFaults.{of_start, of_read};
 
 use sse_journal::{ReadFault, StartFault};
+use std::error::Error;
+use std::fmt;
 
 /// Why a vault was not started.
-#[derive(Clone, Copy)]
+#[derive(Clone, Copy, Debug, PartialEq, Eq)]
 pub enum VaultOpenFault {
     /// The disk failed: its count of faults rose in the call.
     DiskFault,
@@ -15,6 +17,26 @@ pub enum VaultOpenFault {
     /// Out of memory.
     NoMemory,
 }
+
+impl fmt::Display for VaultOpenFault {
+    ghost use Rattle.std.specs.Prelude.{Some};
+    ghost use Rattle.vault_server.specs.VaultTexts.{open_fault_text};
+
+    ghost output = { λ fault. Some (open_fault_text fault) };
+
+    fn fmt<W: fmt::Write>(&self, f: &mut fmt::Formatter<W>) -> fmt::Result {
+        match self {
+            VaultOpenFault::DiskFault => f.write_str("the disk failed"),
+            VaultOpenFault::NotAJournal(place) => write!(f, "not a journal at {place}"),
+            VaultOpenFault::BadRecord(number) => {
+                write!(f, "record {number} is no update that the vault takes")
+            }
+            VaultOpenFault::NoMemory => f.write_str("out of memory"),
+        }
+    }
+}
+
+impl Error for VaultOpenFault {}
 
 impl From<StartFault> for VaultOpenFault {
     ghost from_gives = { λ fault gives. gives ≡ of_start fault };

@@ -1,0 +1,3 @@
+pub mod ServedLaws
+pub mod ReplyLaws
+mod AnswerLaws
