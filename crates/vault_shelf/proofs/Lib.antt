@@ -1,0 +1,3 @@
+pub mod RecordGrammar
+pub mod PutFrames
+pub mod RebuildLaws
