@@ -1,0 +1,35 @@
+use Rattle.std.proofs.Common.{refl, sym, ◌∙◌}
+use Rattle.keyed_fn.specs.KeyedFn.{keyed_fn}
+use Rattle.vault_shelf.specs.CommandView.{command_view}
+use Rattle.doc_vault.specs.LineRuns.{InCommand}
+use Rattle.doc_vault.proofs.TurnsTaken.{exchanged_printed, exchanged_unprinted, get_printed, get_unprinted, takes-stopped}
+use Rattle.doc_vault.proofs.turn.accept.Goals as goal
+
+pub returns-in_err-show-in-Some-clause-turn : goal.returns-in_err-show-in-Some-clause-turn
+returns-in_err-show-in-Some-clause-turn g c s line keeps fine =
+    takes-stopped (keyed_fn g.K.Keyed.prf g.K.Keyed.pad) c.args.tools.now.keys s (command_view c.args.command.now) line c.from_residual.result c.in_err-show-in-Some.field-0.0 _ _ _ c.from_residual.ensures.1
+    (get_unprinted (keyed_fn g.K.Keyed.prf g.K.Keyed.pad) c.args.tools.now.keys s (command_view c.args.command.now) line c.in-Some.id c.in-Some.ensures.some.0 (sym (keeps.there c.in-Some.id) ∙ c.in-Some.ensures.some.1) fine
+    _ _ _ _ _ c.in_err-show-in-Some.ensures)
+
+pub returns-in_err-carry_out-in-None-clause-turn : goal.returns-in_err-carry_out-in-None-clause-turn
+returns-in_err-carry_out-in-None-clause-turn g c s line keeps fine =
+    takes-stopped (keyed_fn g.K.Keyed.prf g.K.Keyed.pad) c.args.tools.now.keys s (command_view c.args.command.now) line c.from_residual-in_err-carry_out-in-None.result c.in_err-carry_out-in-None.field-0.0 _ _ _
+    c.from_residual-in_err-carry_out-in-None.ensures.1 (InCommand fine (c.in-None.ensures.none refl s keeps) (c.in_err-carry_out-in-None.ensures.carried s keeps) refl)
+
+pub returns-in_err-show_command-in-None-clause-turn : goal.returns-in_err-show_command-in-None-clause-turn
+returns-in_err-show_command-in-None-clause-turn g c s line keeps fine =
+    let carried = c.in_ok-carry_out-in-None.ensures.carried s keeps in
+    takes-stopped (keyed_fn g.K.Keyed.prf g.K.Keyed.pad) c.args.tools.now.keys s (command_view c.args.command.now) line c.from_residual-in_err-show_command-in-None.result c.in_err-show_command-in-None.field-0.0 _ _ _
+    c.from_residual-in_err-show_command-in-None.ensures.1
+    (exchanged_unprinted (keyed_fn g.K.Keyed.prf g.K.Keyed.pad) c.args.tools.now.keys s (command_view c.args.command.now) line _ _ _ _ _ _ _ _ fine (c.in-None.ensures.none refl s keeps) carried.0 carried.1 c.in_err-show_command-in-None.ensures)
+
+pub returns-in_ok-show-in-Some-clause-turn : goal.returns-in_ok-show-in-Some-clause-turn
+returns-in_ok-show-in-Some-clause-turn g c s line keeps fine =
+    get_printed (keyed_fn g.K.Keyed.prf g.K.Keyed.pad) c.args.tools.now.keys s (command_view c.args.command.now) line c.in-Some.id c.in-Some.ensures.some.0 (sym (keeps.there c.in-Some.id) ∙ c.in-Some.ensures.some.1) fine
+    _ _ _ _ _ keeps c.in_ok-show-in-Some.ensures
+
+pub returns-in_ok-show_command-in-None-clause-turn : goal.returns-in_ok-show_command-in-None-clause-turn
+returns-in_ok-show_command-in-None-clause-turn g c s line keeps fine =
+    let carried = c.in_ok-carry_out-in-None.ensures.carried s keeps in
+    exchanged_printed (keyed_fn g.K.Keyed.prf g.K.Keyed.pad) c.args.tools.now.keys s (command_view c.args.command.now) line _ _ _ _ _ _ _ _ fine (c.in-None.ensures.none refl s keeps) carried.0 carried.1 c.in_ok-show_command-in-None.ensures
+    (c.in_ok-carry_out-in-None.ensures.keeps s keeps)

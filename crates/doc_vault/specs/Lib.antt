@@ -1,0 +1,15 @@
+pub mod Beginnings
+pub mod CommandRuns
+pub mod CommandViews
+pub mod FairStops
+pub mod Greetings
+pub mod HonestRuns
+pub mod HonestTexts
+pub mod LineRuns
+pub mod NextLines
+pub mod Openings
+pub mod Outcomes
+pub mod ScriptRuns
+pub mod Scripts
+pub mod Sights
+pub mod VaultRuns

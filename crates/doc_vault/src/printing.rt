@@ -1,0 +1,60 @@
+ghost use Rattle.std.specs.Prelude.{◌≡◌, ◌∷◌, []};
+ghost use Rattle.def_vault.specs.declared.shelf_fault.ShelfFault.{ShelfFault};
+ghost use Rattle.doc_vault.specs.CommandViews.{refusal_of, shown_of};
+ghost use Rattle.doc_vault.specs.LineRuns.{Prints};
+ghost use Rattle.vault_script.specs.VaultShown as says;
+ghost use Rattle.vault_script.specs.VaultShown.{vault_shown_view};
+ghost use Rattle.vault_shelf.specs.CommandView.{command_view};
+ghost use Rattle.vault_shelf.specs.OpenedView.{text_in};
+
+use sse_outside::Sink;
+use vault_script::{VaultRefusal, VaultShown, VaultStop, print_vault_line};
+use vault_shelf::{ShelfFault, TextBuffer, VaultCommand};
+
+/// Prints one line.
+pub(crate) fn show<W: Sink>(sink: &mut W, shown: &VaultShown<'_>) -> Result<(), VaultStop>
+    ensures { Prints (vault_shown_view shown.now ∷ []) (W.written sink.old) (W.written sink.new) result }
+{
+    match print_vault_line(sink, shown) {
+        Ok(()) => Ok(()),
+        Err(fault) => Err(VaultStop::from(fault)),
+    }
+}
+
+/// Prints why a command was refused.
+pub(crate) fn show_refusal<W: Sink>(sink: &mut W, fault: ShelfFault) -> Result<(), VaultStop>
+    ensures { Prints (says.Refused (refusal_of fault) ∷ []) (W.written sink.old) (W.written sink.new) result }
+{
+    show(sink, &VaultShown::Refused(refusal(fault)))
+}
+
+/// The printed cause of a refusal.
+fn refusal(fault: ShelfFault) -> VaultRefusal
+    ensures { result ≡ refusal_of fault }
+{
+    match fault {
+        ShelfFault::IdentifierZero => VaultRefusal::Zero,
+        ShelfFault::IsThere(id) => VaultRefusal::BodyThere { id },
+        ShelfFault::NotThere(id) => VaultRefusal::NoBody { id },
+        ShelfFault::TooLong(n) => VaultRefusal::TooLong { n },
+        ShelfFault::Full => VaultRefusal::VaultFull,
+    }
+}
+
+/// Prints the line of a command that was carried out; that of a get has the text that was received.
+pub(crate) fn show_command<W: Sink>(
+    sink: &mut W,
+    command: &VaultCommand<'_>,
+    text: &TextBuffer,
+) -> Result<(), VaultStop>
+    ensures { Prints (shown_of (command_view command.now) (text_in text.now) ∷ []) (W.written sink.old) (W.written sink.new) result }
+{
+    match *command {
+        VaultCommand::Put { id, .. } => show(sink, &VaultShown::Stored { id }),
+        VaultCommand::Drop { id } => show(sink, &VaultShown::Dropped { id }),
+        VaultCommand::Get { id } => {
+            let body = text.text();
+            show(sink, &VaultShown::Fetched { id, body })
+        }
+    }
+}
