@@ -4,7 +4,9 @@ folder of its own."""
 import concurrent.futures
 import multiprocessing
 import os
+import resource
 import select
+import signal
 import socket
 import subprocess
 import tempfile
@@ -49,6 +51,12 @@ def read(path):
 def write(path, content):
     with open(path, "wb") as file:
         file.write(content)
+
+
+def no_larger_than(size):
+    """From now on this process can't make a file larger than so many bytes."""
+    signal.signal(signal.SIGXFSZ, signal.SIG_IGN)
+    resource.setrlimit(resource.RLIMIT_FSIZE, (size, size))
 
 
 def free_address():
@@ -146,11 +154,11 @@ class Server:
     is tried as long as one is taken in between. What it says on standard error is left out, unless it is started otherwise. What is given
     besides is how it is started."""
 
-    def __init__(self, path, *count, address=None, folder=None, **given):
+    def __init__(self, path, *count, address=None, folder=None, program=SERVED, **given):
         given.setdefault("stderr", subprocess.DEVNULL)
         for _ in range(TRIES):
             self.address = address or free_address()
-            self.process = subprocess.Popen([SERVED, self.address, path, *count], stdout=subprocess.PIPE, cwd=folder, **given)
+            self.process = subprocess.Popen([program, self.address, path, *count], stdout=subprocess.PIPE, cwd=folder, **given)
             self.printed = b""
             if select.select([self.process.stdout], [], [], SECONDS)[0]:
                 self.printed = os.read(self.process.stdout.fileno(), len(SERVING))

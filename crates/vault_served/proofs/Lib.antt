@@ -1,0 +1,8 @@
+mod Chains
+mod KeptFiles
+mod StopLaws
+mod LastingUpdates
+mod DiskAnswers
+mod StepLaws
+mod Servings
+mod FrontLaws

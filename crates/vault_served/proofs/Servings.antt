@@ -1,0 +1,63 @@
+-- A connection more, and nothing more.
+use Rattle.std.proofs.Common.{◌≡◌, ℕ, List, [], ◌∷◌, ◌++◌, None, Some, refl, sym, ap, subst, ◌∙◌, append_assoc}
+use Rattle.std.specs.declared.option.Option.{Option}
+use Rattle.std.specs.Option.{option_map}
+use Rattle.std.proofs.lemmas.List.{append-nil}
+use Rattle.server_connections.specs.declared.duplex.Duplex.{Duplex}
+use Rattle.vault_server.specs.VaultFrames.{VaultFrameText}
+use Rattle.vault_server.specs.VaultServerView.{VaultServerView}
+use Rattle.vault_served.specs.Served.{AreServed, HaveServed, IsServed}
+
+-- a list that grew by some and then by one
+grown-last : {A : Type 0} (old mid new : Option (List A)) (xs : List A) (x : A)
+    → mid ≡ option_map (λ l. l ++ xs) old → new ≡ option_map (λ l. l ++ x ∷ []) mid → new ≡ option_map (λ l. l ++ (xs ++ x ∷ [])) old
+grown-last None mid new xs x is more = more ∙ ap (option_map (λ l. l ++ x ∷ [])) is
+grown-last (Some l) mid new xs x is more = more ∙ ap (option_map (λ l. l ++ x ∷ [])) is ∙ ap Some (append_assoc l xs (x ∷ []))
+
+-- a list that didn't grow
+grown-none : {A : Type 0} (old : Option (List A)) → old ≡ option_map (λ l. l ++ []) old
+grown-none None = refl
+grown-none (Some l) = ap Some (sym (append-nil l))
+
+module _ {D I O : Type 0} (lasts : VaultServerView → D → List VaultFrameText → Type 0) (remaining : I → Option (List ℕ)) (written : O → Option (List ℕ)) where
+  AreServed-last : (server mid server2 : VaultServerView) (disk mid_disk disk2 : D) (conns backs : List (Duplex I O)) (conn back : Duplex I O)
+      → AreServed lasts remaining written conns backs server mid disk mid_disk → IsServed lasts remaining written mid server2 mid_disk disk2 conn back
+      → AreServed lasts remaining written (conns ++ conn ∷ []) (backs ++ back ∷ []) server server2 disk disk2
+  AreServed-last server mid server2 disk mid_disk disk2 [] [] conn back are is =
+      (server2, disk2, subst (λ d. IsServed lasts remaining written server server2 d disk2 conn back) are.1 (subst (λ s. IsServed lasts remaining written s server2 mid_disk disk2 conn back) are.0 is), (refl, refl))
+  AreServed-last server mid server2 disk mid_disk disk2 [] (_ ∷ _) conn back are is = elim are [ ]
+  AreServed-last server mid server2 disk mid_disk disk2 (_ ∷ _) [] conn back are is = elim are [ ]
+  AreServed-last server mid server2 disk mid_disk disk2 (first ∷ conns) (back1 ∷ backs) conn back are is =
+      (are.0, are.1, are.2, AreServed-last are.0 mid server2 are.1 mid_disk disk2 conns backs conn back are.3 is)
+
+  pub HaveServed-none : (server : VaultServerView) (disk : D) (offered returned : Option (List (Duplex I O))) → HaveServed lasts remaining written server server disk disk offered offered returned returned
+  HaveServed-none server disk offered returned = record {
+    conns = [];
+    backs = [];
+    offered_is = grown-none offered;
+    returned_is = grown-none returned;
+    served = (refl, refl);
+  }
+
+  pub HaveServed-still : (server server2 : VaultServerView) (disk disk2 : D) (offered offered2 offered3 returned returned2 returned3 : Option (List (Duplex I O)))
+      → HaveServed lasts remaining written server server2 disk disk2 offered offered2 returned returned2 → offered3 ≡ offered2 → returned3 ≡ returned2
+      → HaveServed lasts remaining written server server2 disk disk2 offered offered3 returned returned3
+  HaveServed-still server server2 disk disk2 offered offered2 offered3 returned returned2 returned3 have o r = record {
+    conns = have.conns;
+    backs = have.backs;
+    offered_is = o ∙ have.offered_is;
+    returned_is = r ∙ have.returned_is;
+    served = have.served;
+  }
+
+  pub HaveServed-last : (server mid server2 : VaultServerView) (disk mid_disk disk2 : D) (offered offered2 offered3 returned returned2 returned3 : Option (List (Duplex I O))) (conn back : Duplex I O)
+      → HaveServed lasts remaining written server mid disk mid_disk offered offered2 returned returned2 → IsServed lasts remaining written mid server2 mid_disk disk2 conn back
+      → offered3 ≡ option_map (λ l. l ++ conn ∷ []) offered2 → returned3 ≡ option_map (λ l. l ++ back ∷ []) returned2
+      → HaveServed lasts remaining written server server2 disk disk2 offered offered3 returned returned3
+  HaveServed-last server mid server2 disk mid_disk disk2 offered offered2 offered3 returned returned2 returned3 conn back have is o r = record {
+    conns = have.conns ++ conn ∷ [];
+    backs = have.backs ++ back ∷ [];
+    offered_is = grown-last offered offered2 offered3 have.conns conn have.offered_is o;
+    returned_is = grown-last returned returned2 returned3 have.backs back have.returned_is r;
+    served = AreServed-last server mid server2 disk mid_disk disk2 have.conns have.backs conn back have.served is;
+  }
