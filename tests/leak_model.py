@@ -272,42 +272,45 @@ class Search:
 
 
 def accepted(script):
-    """Each line of a script with what it brings: the key, a document of the setup, a setup or a command behind it; None where it is
-    empty or refused, or where the script stops at it or before it."""
+    """Each line of a script with what it brings: the key, a document of the setup, a setup or commands after it; nothing if it is
+    empty or refused, or if the script stops at it or before it."""
     store, key, documents, is_stopped = script_model.Store(), None, [], False
     for line in script_model.lines_of(script):
-        what = None
+        found = []
         try:
             command = None if is_stopped else script_model.command_in(line)
             if command and (command[0] == "key") != (key is None):
                 raise script_model.BadLine
             if command and command[0] == "key":
-                what = key = bytes.fromhex(script_model.KEY.search(line)[0].decode())
+                key = bytes.fromhex(script_model.KEY.search(line)[0].decode())
+                found = [key]
             elif command:
                 store.carry_out(*command)
-                what = brought(documents, *command)
+                found = brought(documents, *command)
         except script_model.BadLine:
             is_stopped = True
         except script_model.Refused:
             pass
-        yield line, what
+        yield line, found
 
 
 def brought(documents, name, numbers, words):
-    """What a line brings that isn't refused, behind these documents, which it may join."""
+    """What a line brings that isn't refused, after these documents, which it may join. A query brings a search of each of its words."""
     if name == "doc":
         documents.append((numbers[0], tuple(words)))
-        return documents[-1]
+        return [documents[-1]]
     if name == "setup":
-        return Setup(tuple(documents), *numbers)
+        return [Setup(tuple(documents), *numbers)]
     if name == "add":
-        return Add(numbers[0], tuple(words))
-    return Delete(numbers[0]) if name == "del" else Search(words[0])
+        return [Add(numbers[0], tuple(words))]
+    if name == "del":
+        return [Delete(numbers[0])]
+    return [Search(word) for word in (script_model.Query(words).words() if name == "query" else words)]
 
 
 def history_in(script):
     """The key of a script, its setup, which is None where there is none, and the commands behind it."""
-    parts = [what for _, what in accepted(script)]
+    parts = [what for _, found in accepted(script) for what in found]
     key = next((what for what in parts if isinstance(what, bytes)), None)
     setup = next((what for what in parts if isinstance(what, Setup)), None)
     return key, setup, [what for what in parts if isinstance(what, (Add, Delete, Search))]
@@ -617,10 +620,11 @@ def told(script):
     """The lines of a script, with a line behind each that leaks something: what it leaks."""
     _, setup, later = history_in(script)
     items = iter(leak(setup, later))
-    for line, what in accepted(script):
+    for line, found in accepted(script):
         yield line.decode()
-        if isinstance(what, (Setup, Add, Delete, Search)):
-            yield "leaks " + item_text(next(items))
+        for what in found:
+            if isinstance(what, (Setup, Add, Delete, Search)):
+                yield "leaks " + item_text(next(items))
 
 
 # An item as a line for a person.

@@ -9,9 +9,11 @@ BAD_WORDS = [b"x" * 65, b"y" * 300, b"\x7f", b"a\tb", b"ab\r", b"\x01" * 65, b"\
 PADS = [1, 2, 2, 4, 8, 16, 64, 1024, 4096]
 BAD_PADS = [0, 3, 6, 4095, 8192, 2**32, 2**64 - 1]
 IDENTIFIERS = [2**64 - 1, 2**63, 2**32, 256, 255]
+# fields of a query that are no operands; the last ones are none of a query
+MARKS = [b"and", b"or", b"not", b"(", b")", b"=", b"AND", b"a", b"and=", b"\xff"]
 BAD_LINES = [b"add", b"add 01 a", b"add +1", b"add a", b"add 18446744073709551616 a", b"add\t1 a", b"ADD 1 a",
              b"del", b"del 1 2", b"del a", b"delete 1", b"find", b"find a b", b"\tfind a", b"setup 1",
-             b"setup 1 1 01", b"setup 1 1 1 1", b"setup 1 1 18446744073709551616", b"doc", b"key", b"key " + b"0" * 64, b"twin"]
+             b"setup 1 1 01", b"setup 1 1 1 1", b"setup 1 1 18446744073709551616", b"doc", b"key", b"key " + b"0" * 64, b"twin", b"QUERY =a", b"query=a"]
 
 
 def key_line(draw):
@@ -148,8 +150,43 @@ class RandomScript:
         return b"\n".join(self.lines) + b"\n" * self.chance(0.9)
 
 
+class QueriedScript(RandomScript):
+    """A short script that has queries of every kind beside its searches."""
+
+    def find(self):
+        super().find()
+        while self.chance(0.5):
+            self.query()
+
+    def query(self):
+        fields = self.expression(self.draw.choice([0, 1, 1, 2, 2, 3, 4, 6]))
+        while self.chance(self.spoils):
+            way, place = self.draw.randrange(5), self.draw.randint(0, len(fields))
+            if way == 0:
+                del fields[place:]
+            elif way == 1:
+                del fields[place:place + 1]
+            elif way <= 3:
+                fields.insert(place, self.draw.choice(MARKS))
+            else:
+                fields.insert(place, b"=" + self.draw.choice(BAD_WORDS))
+        if self.chance(self.spoils / 4):
+            fields = (b"=a or " * 40).split()[:self.draw.choice([61, 63, 64, 65, 66, 79])]
+        self.put(b"query", *fields)
+
+    def expression(self, depth):
+        """The fields of an expression; a bad word in it is refused."""
+        if depth == 0:
+            is_bad = self.chance(self.spoils / 8)
+            return [b"=" + self.draw.choice(BAD_WORDS if is_bad else self.words + [b"nowhere", b"=", b"and"])]
+        if self.chance(0.2):
+            return [b"(", *self.expression(depth - 1), b")"]
+        left, right = self.expression(depth - 1), self.expression(self.draw.randint(0, depth - 1))
+        return [*left, self.draw.choice([b"and", b"or", b"not"]), *right]
+
+
 def random_script(seed):
-    return RandomScript(seed).bytes()
+    return QueriedScript(seed).bytes()
 
 
 def one_word(documents):

@@ -13,6 +13,7 @@ CELL_NUMBERS = 64
 BLOCK_NUMBERS = 256
 PADS = [2**k for k in range(13)]
 INDEX_BYTES = 2**28
+QUERY_FIELDS = 64
 
 KEY = re.compile(rb"[0-9A-Fa-f]{64}")
 NUMBER = re.compile(rb"0|[1-9][0-9]{0,19}")
@@ -47,17 +48,24 @@ def command_in(line):
         return name.decode(), [number_in(field) for field in fields], []
     if name == b"find" and len(fields) == 1:
         return "find", [], fields
+    if name == b"query":
+        return "query", [], fields
     raise BadLine
 
 
 def refuse_bad_words(words):
-    """The first bad word, then too many words, then the first word that is repeated."""
+    """The first bad word."""
     for position, word in enumerate(words):
         if len(word) > WORD_BYTES:
             raise Refused(f"word {position} is too long: {len(word)}")
         place = bad_byte_in(word)
         if place is not None:
             raise Refused(f"word {position} has a bad byte at {place}")
+
+
+def refuse_bad_document(words):
+    """The first bad word, then too many words, then the first word that is repeated."""
+    refuse_bad_words(words)
     if len(words) > DOCUMENT_WORDS:
         raise Refused(f"too many words: {len(words)}")
     seen = set()
@@ -75,6 +83,73 @@ def bad_byte_in(word):
     except UnicodeDecodeError as fault:
         places.append(fault.start)
     return min(places, default=None)
+
+
+class Query:
+    """A query by its fields: an expression of words, read from the left."""
+
+    def __init__(self, fields):
+        if len(fields) > QUERY_FIELDS:
+            raise Refused(f"query has {len(fields)} fields")
+        self.fields, self.place, self.operands = fields, 0, []
+        self.expression = self.joined(self.term, b"or")
+        if self.place < len(fields):
+            self.refuse()
+        refuse_bad_words(self.operands)
+
+    def refuse(self):
+        raise Refused(f"query is wrong at {self.place}")
+
+    def takes(self, *names):
+        """The next field, if it is one of these names."""
+        if self.fields[self.place:self.place + 1] and self.fields[self.place] in names:
+            self.place += 1
+            return self.fields[self.place - 1]
+        return None
+
+    def joined(self, part, *names):
+        """Parts with these names between them; the left ones are joined first."""
+        expression = part()
+        while name := self.takes(*names):
+            expression = name, expression, part()
+        return expression
+
+    def term(self):
+        return self.joined(self.factor, b"and", b"not")
+
+    def factor(self):
+        if self.takes(b"("):
+            expression = self.joined(self.term, b"or")
+            if not self.takes(b")"):
+                self.refuse()
+            return expression
+        if self.place == len(self.fields) or not re.match(b"=.", self.fields[self.place], re.DOTALL):
+            self.refuse()
+        self.operands.append(self.fields[self.place][1:])
+        self.place += 1
+        return self.operands[-1]
+
+    def words(self):
+        """The different words, in the order in which they come first."""
+        return list(dict.fromkeys(self.operands))
+
+    def chosen(self, found, expression=None):
+        """The identifiers that the query chooses from those found for each word."""
+        expression = expression or self.expression
+        if isinstance(expression, bytes):
+            return set(found[expression])
+        name, left, right = expression
+        left, right = self.chosen(found, left), self.chosen(found, right)
+        return {b"and": left & right, b"or": left | right, b"not": left - right}[name]
+
+
+def rising(identifiers):
+    return sorted(identifiers)
+
+
+def listed(name, identifiers):
+    """The line of identifiers that were found."""
+    return f"{name} {len(identifiers)}:" + "".join(f" {identifier}" for identifier in rising(identifiers))
 
 
 def blocks_of(count, b, B):
@@ -104,22 +179,29 @@ class Store:
 
     def carry_out(self, name, numbers, words):
         """The printed line, or None where there is none."""
-        if self.is_set_up != (name in ("add", "del", "find")):
+        if self.is_set_up != (name in ("add", "del", "find", "query")):
             raise Refused("set up already" if self.is_set_up else "not set up")
         if name == "setup":
             return self.set_up(*numbers)
         if numbers == [0]:
             raise Refused("identifier zero")
-        refuse_bad_words(words)
         if name == "find":
-            found = sorted(self.holders.get(words[0], ()))
-            return f"found {len(found)}:" + "".join(f" {identifier}" for identifier in found)
+            refuse_bad_words(words)
+            return listed("found", self.found(words[0]))
+        if name == "query":
+            query = Query(words)
+            return listed("matched", query.chosen({word: self.found(word) for word in query.words()}))
+        refuse_bad_document(words)
         identifier = numbers[0]
         if name == "del":
             self.delete(identifier)
             return f"deleted {identifier}"
         self.add(identifier, words)
         return f"added {identifier}" if name == "add" else None
+
+    def found(self, word):
+        """The identifiers of the live documents with a word."""
+        return self.holders.get(word, ())
 
     def add(self, identifier, words):
         if identifier in self.live:

@@ -221,14 +221,19 @@ class Replies:
             yield reply
 
 
-def rising(identifiers):
-    return sorted(identifiers)
-
-
 def found_in(pages):
-    """What is printed for these pages."""
-    found = rising(identifier for page in pages for identifier in reply_model.page_in(page, True)[1])
-    return f"found {len(found)}:" + "".join(f" {identifier}" for identifier in found)
+    """The identifiers of these pages."""
+    return [identifier for page in pages for identifier in reply_model.page_in(page, True)[1]]
+
+
+def answer_to(command, answers):
+    """What is printed of a line `find` or `query`, by the pages that came for each of its words."""
+    name, _, fields = command
+    found = list(map(found_in, answers))
+    if name == "find":
+        return script_model.listed("found", found[0])
+    query = script_model.Query(fields)
+    return script_model.listed("matched", query.chosen(dict(zip(query.words(), found))))
 
 
 # The client.
@@ -366,29 +371,28 @@ class Run:
         told, known = [], len(self.later)
         for command in commands:
             if isinstance(command, Stopped):
-                told.append((None, command))
+                told.append((command, [], command))
                 continue
             try:
-                shown, what = self.store.carry_out(*command), leak_model.brought(self.documents, *command)
+                shown, found = self.store.carry_out(*command), leak_model.brought(self.documents, *command)
             except script_model.Refused as why:
-                told.append((None, f"refused: {why}"))
+                told.append((command, [], f"refused: {why}"))
                 continue
-            if isinstance(what, leak_model.Setup):
-                self.setup, known = what, -1
+            if isinstance(found[0], leak_model.Setup):
+                self.setup, known = found[0], -1
             elif shown is not None:
-                self.later.append(what)
+                self.later += found
             if shown is not None:
-                told.append((what, shown))
+                told.append((command, found, shown))
         frames = iter(exchanges(self.key, self.setup, self.later)[known + 1:] if self.setup else [])
-        for what, shown in told:
+        for command, found, shown in told:
             if isinstance(shown, Stopped):
                 raise shown
-            if what is None:
+            if not found:
                 self.status = 1
-            else:
-                replies = self.send(what, next(frames))
-                if isinstance(self.link, Replies) and isinstance(what, leak_model.Search):
-                    shown = found_in(replies)
+            answers = [self.send(what, next(frames)) for what in found]
+            if isinstance(self.link, Replies) and command[0] in ("find", "query") and found:
+                shown = answer_to(command, answers)
             self.tell(shown)
 
     def send(self, what, frames):

@@ -63,8 +63,16 @@ def each_byte():
 DOCUMENTS = (
     KEY, "doc 7  b  a ", "doc 0 a", "doc 8 a b\x01", "doc 8 a b a", "doc 8 a b " + 65 * "x", "doc 9 a c", "doc 7 d", "setup 4 4",
     "find ab\x7f", "find " + 64 * "x", "find a")
+# queries that are taken, and fields that are none
+QUERIES = (
+    KEY, "query =a", "doc 3 a b", "doc 9 a", "doc 12 b c", "setup 4 4", "query =a and ( =b or =c )", "query =a not =b", "query =b or =a", "query =a and",
+    "query  =c ", "query =c not =c or =nowhere", "query =a not =b and =c", "query =a not ( =b and =c )", "query =a or =b and =c", "query ( ( =a ) )",
+    "query", "query =", "query a", "query =a =b", "query and =a", "query ( =a", "query =a )", "query ( )", "query =a and or =b", "query =a AND =b",
+    "query =a and not =b", "query " + "=a or " * 32, "query " + "=a or " * 31 + "( =a )", "query " + "=a or " * 31 + "=a", "query " + "( " * 65, "query =a\x7f =b",
+    "query =a or =b\x7f", "query =a or =" + 65 * "x" + " or =\x7f", "query == or =and or =(", "add 5 = and", "query == and =and", "del 9", "query =a or =b")
 RUNS = {
     "a worked example": (*WORKED, "find a"),
+    "queries, taken or refused": QUERIES,
     "a worked example of updates": (*WORKED, "add 5 a c", "del 9", "add 9 a", "find a"),
     "two levels of blocks": (KEY, "doc 11 a b", *(f"doc {number} a" for number in range(12, 16)), "setup 2 2"),
     "dummies beside words and blocks": (KEY, "doc 11 a b", "doc 12 a", "doc 13 a", "setup 2 2 4"),

@@ -58,13 +58,13 @@ keys = keys_under key (Some run)
 
 -- What holds before the session.
 
-kept_row : IsKeptAt 2 (at_run key docs run)
+kept_row : IsKeptAt 64 (at_run key docs run)
 unfolding utf8_valid_len is_utf8 chars encode
-kept_row = kept_next 1 (record { key = key; documents = docs; history = None }) (SetupLine 1 1 1) tt (kept_next 0 (opened key) (Doc 1 (a ∷ [])) (lit< tt) (IsKeptAt-opened 0 key))
+kept_row = kept_next 32 (record { key = key; documents = docs; history = None }) (SetupLine 1 1 1) tt (kept_next 0 (opened key) (Doc 1 (a ∷ [])) (lit< tt) (IsKeptAt-opened 0 key))
 
 whole_kept_row : IsKept (longer more (Some run))
 unfolding utf8_valid_len is_utf8 chars encode
-whole_kept_row = (kept_follow 2 (at_run key docs run) 1 lines false (lit< tt, (tt, tt)) kept_row).0
+whole_kept_row = (kept_follow 64 (at_run key docs run) 1 lines false (lit< tt, (tt, tt)) kept_row).0
 
 free_row : IsCollisionFree (table_of toy keys run) at_first run
 free_row = IsCollisionFree-from_test (table_of toy keys run) at_first run refl
@@ -174,5 +174,5 @@ honest_row =
 -- so what is said of such sessions is said of this one
 continued_row : Continued toy before key run (follow (at_run key docs run) 1 lines false) (seen [] [] []) (seen passing records text) 0 (steps toy before frames).0
 unfolding utf8_valid_len is_utf8 chars encode
-continued_row = continued toy toy_laws key run before held_row docs 2 1 lines false (lit< tt, (tt, tt)) kept_row 2 3 (lit< tt) (omega (arith, next_row)) (omega (arith, next_row))
+continued_row = continued toy toy_laws key run before held_row docs 64 1 lines false (lit< tt, (tt, tt)) kept_row 2 3 (lit< tt) (omega (arith, next_row)) (omega (arith, next_row))
     (seen [] [] []) end goes_on_row (steps toy before frames).0 honest_row (seen passing records text) (record { told = refl; kept = refl; q = 0; printed = sym (append_known-nothing (Some text)) }) whole_free_row calm_row

@@ -32,10 +32,11 @@ use Rattle.sse_model.specs.Histories.{table_of, frames_sent, frames_of_next, Has
 use Rattle.sse_outside.proofs.Known.{append_known-twice}
 use Rattle.sse_script.specs.Texts.{text_of}
 use Rattle.sse_outside.specs.Kept.{with_records}
+use Rattle.def_script_meaning.specs.Outcome.{said}
 use Rattle.def_script_meaning.specs.Carries.{Keeps, Outside, text_with, with_answers}
 use Rattle.def_script_meaning.specs.Continues.{at_run, GoesOn, frames_since, Continued}
 use Rattle.def_script_meaning.specs.Exchange.{Adds}
-use Rattle.def_script_meaning.specs.Goes.{Passes, HasPassed, Goes}
+use Rattle.def_script_meaning.specs.Goes.{Passes, HasPassed, Goes, updates_count}
 use Rattle.def_script_meaning.specs.Headline.{IsOverHonest, IsUndisturbed}
 use Rattle.def_script_meaning.specs.Lines.{Line}
 use Rattle.def_script_meaning.specs.Meaning.{Meaning, follow}
@@ -131,7 +132,7 @@ module _ (f : KeyedFn) (laws : IsKeyedFn f) (key : List ℕ) (run : Run) (before
               key = inr (away.same_key ∙ sym (follow-key (at_run key docs run) number lines refused));
               history = subst (λ h. IsFirstOf h m.history) (sym away.history) (first-follow (at_run key docs run) number lines refused);
               answers = [];
-              passes = inr (inl (record { key = key; same_key = away.same_key; cause = away.cause; stops = away.stops; away = away.away; none = refl; most = λ next least most. omega (arith, ap (λ cs. length (frames_since f key run cs)) (no_commands run end.history first away.history)) }));
+              passes = inr (inl (record { key = key; same_key = away.same_key; cause = away.cause; stops = away.stops; away = away.away; none = refl; most = λ next least most. omega (arith, ap (λ cs. updates_count (frames_since f key run cs)) (no_commands run end.history first away.history)) }));
               prints = Prints-none m [] now.written end.outside.written away.unprinted;
               ended = λ low_status. absurd (omega (arith, low_status, ap status_of away.stops, turned_status low high away.away.events away.cause away.away.turned));
             };

@@ -1,8 +1,8 @@
 -- What follows a place of a script: its history begins with that of the place, a line finds no collision that the history
 -- after it hasn't, the answers in its printed lines are what its searches find, and its frames stand after those that were sent.
 use Rattle.std.proofs.Common.{◌≡◌, ◌≤◌, ℕ, ◌+◌, Bool, false, ◌||◌, List, [], ◌∷◌, ◌++◌, length, Some, None, refl, sym, ap, ◌∙◌, subst, arith, append_assoc}
-use Rattle.std.specs.Prelude.{Option, option_map}
-use Rattle.std.proofs.lemmas.List.{append-nil}
+use Rattle.std.specs.Prelude.{Option, option_map, map}
+use Rattle.std.proofs.lemmas.List.{append-nil, length-map}
 use Rattle.client_registry.proofs.HistoryLaws.{IsFirstOf-same, IsFirstOf-trans, IsFirstOf-before, IsFirstOf-longer, found_in_turn-before, found_in_turn-update, found_in_turn-search}
 use Rattle.client_registry.specs.Command.{Command, Add, Delete, Search}
 use Rattle.client_registry.specs.Histories.{begun_by, IsKept, IsFirstOf, found_in_turn, longer}
@@ -18,12 +18,16 @@ use Rattle.sse_model.specs.Histories.{frames_sent, frames_of_first, frames_of_ne
 use Rattle.sse_model.specs.Names.{Table, table}
 use Rattle.sse_model.specs.Wire.{frames_of, next_number}
 use Rattle.script_documents.specs.LineDocument.{document}
+use Rattle.client_registry.specs.Live.{matching_in}
+use Rattle.bool_search.specs.Fields.{words_of}
+use Rattle.def_script_meaning.proofs.QueryLaws.{found-searches, no_updates-searches, searches-searches, collision-searches}
+use Rattle.def_script_meaning.proofs.UpdatesLeft.{updates_fewer}
 use Rattle.def_script_meaning.specs.Carries.{keys_at, frames_by, collision_cause, clash_in_hand}
-use Rattle.def_script_meaning.specs.Goes.{frames_in_hand, frames_of_last}
+use Rattle.def_script_meaning.specs.Goes.{frames_in_hand, frames_of_last, updates_count}
 use Rattle.def_script_meaning.specs.Lines as script
 use Rattle.def_script_meaning.specs.Lines.{Line, Empty, Key, Request}
 use Rattle.def_script_meaning.specs.Meaning.{follow, meant_from}
-use Rattle.def_script_meaning.specs.Outcome.{Place, Printed, Says, Finds, Outcome, Collects, Refuses, SetsUp, Does, opened, outcome, after, shown_by, is_refusal}
+use Rattle.def_script_meaning.specs.Outcome.{Place, Printed, Says, Finds, Matches, Outcome, Collects, Refuses, SetsUp, Does, opened, outcome, after, shown_by, is_refusal}
 use Rattle.def_script_meaning.proofs.Outcomes.{by_cases}
 
 -- the answers in printed lines
@@ -31,11 +35,13 @@ abbrev pub finds : List Printed → List (List ℕ)
 finds [] = []
 finds (Says line ∷ shown) = finds shown
 finds (Finds ids ∷ shown) = ids ∷ finds shown
+finds (Matches fields lists ∷ shown) = lists ++ finds shown
 
 pub finds-append : (xs ys : List Printed) → finds (xs ++ ys) ≡ finds xs ++ finds ys
 finds-append [] ys = refl
 finds-append (Says line ∷ xs) ys = finds-append xs ys
 finds-append (Finds ids ∷ xs) ys = ap (λ rest. ids ∷ rest) (finds-append xs ys)
+finds-append (Matches fields lists ∷ xs) ys = ap (λ rest. lists ++ rest) (finds-append xs ys) ∙ sym (append_assoc lists (finds xs) (finds ys))
 
 -- one command after a history sends at most one frame, and is its last
 one_command : (f : KeyedFn) (keys : ℕ → List ℕ) (h : History) (c : Command) → (commands : List Command) → commands ≡ c ∷ [] → length (frames_of_next f keys h commands) ≤ frames_in_hand (longer commands h)
@@ -54,6 +60,9 @@ one_command f keys h c commands e = subst (λ cs. length (frames_of_next f keys 
     by None = omega arith
     by (Some run) = omega (arith, one (table_of f keys run) run.setup run.later c, last run.setup run.later)
 
+one_alone : (f : KeyedFn) (keys : ℕ → List ℕ) (h : History) (c : Command) → (commands : List Command) → commands ≡ c ∷ [] → updates_count (frames_of_next f keys h commands) ≤ frames_in_hand (longer commands h)
+one_alone f keys h c commands e = let one = one_command f keys h c commands e in omega (arith, one, updates_fewer (frames_of_next f keys h commands))
+
 module _ (place : Place) (line : Request) where
   abbrev result : Outcome
   result = outcome place line
@@ -69,6 +78,7 @@ module _ (place : Place) (line : Request) where
     adds = λ id words is up e. IsFirstOf-longer place.history _;
     deletes = λ id is up e. IsFirstOf-longer place.history _;
     finds = λ word up e. IsFirstOf-longer place.history _;
+    queries = λ fields up e. IsFirstOf-longer place.history _;
   })
 
   -- what the searches before a line find, and then its own answers, is what those after it find
@@ -80,6 +90,8 @@ module _ (place : Place) (line : Request) where
     adds = λ id words is up e. found_in_turn-update place.history _ refl ∙ sym (append-nil (found_in_turn place.history));
     deletes = λ id is up e. found_in_turn-update place.history _ refl ∙ sym (append-nil (found_in_turn place.history));
     finds = λ word up e. found_in_turn-search place.history word up;
+    queries = λ fields up e.
+        found-searches place.history (words_of fields) up ∙ ap (λ found. found_in_turn place.history ++ found) (sym (append-nil (map (matching_in place.history) (words_of fields))));
   })
 
   -- the frames after a line are those before it, and then its own
@@ -93,17 +105,19 @@ module _ (place : Place) (line : Request) where
     adds = λ id words is up e. frames_sent-longer f (keys_at place) place.history _;
     deletes = λ id is up e. frames_sent-longer f (keys_at place) place.history _;
     finds = λ word up e. frames_sent-longer f (keys_at place) place.history _;
+    queries = λ fields up e. frames_sent-longer f (keys_at place) place.history _;
   })
 
   -- and are at most those of the history's last command
-  pub few-next : (f : KeyedFn) → length (frames_by f place result) ≤ frames_in_hand (after result place).history
-  few-next f = by_cases place line (λ r. length (frames_by f place r) ≤ frames_in_hand (after r place).history) (record {
+  pub few-next : (f : KeyedFn) → updates_count (frames_by f place result) ≤ frames_in_hand (after result place).history
+  few-next f = by_cases place line (λ r. updates_count (frames_by f place r) ≤ frames_in_hand (after r place).history) (record {
     refuses = λ refusal. omega arith;
     collects = λ id words is none e. omega arith;
-    sets_up = λ b big pad none e. omega (arith, length-frames_of_setup (table f (setup_with place.documents b big pad).shape (keys_at place)) at_first (setup_with place.documents b big pad));
-    adds = λ id words is up e. one_command f (keys_at place) place.history _ _ refl;
-    deletes = λ id is up e. one_command f (keys_at place) place.history _ _ refl;
-    finds = λ word up e. one_command f (keys_at place) place.history _ _ refl;
+    sets_up = λ b big pad none e. omega (arith, updates_fewer (frames_of_first f (keys_at place) (setup_with place.documents b big pad)), length-frames_of_setup (table f (setup_with place.documents b big pad).shape (keys_at place)) at_first (setup_with place.documents b big pad));
+    adds = λ id words is up e. one_alone f (keys_at place) place.history _ _ refl;
+    deletes = λ id is up e. one_alone f (keys_at place) place.history _ _ refl;
+    finds = λ word up e. one_alone f (keys_at place) place.history _ _ refl;
+    queries = λ fields up e. omega (arith, no_updates-searches f (keys_at place) place.history (words_of fields));
   })
 
   -- a line sends as many searches as it prints answers
@@ -115,6 +129,10 @@ module _ (place : Place) (line : Request) where
     adds = λ id words is up e. searches_behind-update f (keys_at place) place.history _ refl;
     deletes = λ id is up e. searches_behind-update f (keys_at place) place.history _ refl;
     finds = λ word up e. ap searches (frames_of_next-search f (keys_at place) place.history word up);
+    queries = λ fields up e.
+        searches-searches f (keys_at place) place.history (words_of fields) up
+        ∙ sym (length-map (words_of fields) (matching_in place.history))
+        ∙ ap length (sym (append-nil (map (matching_in place.history) (words_of fields))));
   })
 
 -- where the history after a line keeps the limits and has no collision, there is none in hand
@@ -128,6 +146,7 @@ no_clash-next f place line = by_cases place line (λ r. IsKept (after r place).h
   adds = λ id words is up e kept free. ap (option_map collision_cause) (collision_of_next-none f (keys_at place) place.history (Add (document id words)) kept free);
   deletes = λ id is up e kept free. ap (option_map collision_cause) (collision_of_next-none f (keys_at place) place.history (Delete id) kept free);
   finds = λ word up e kept free. ap (option_map collision_cause) (collision_of_next-search f (keys_at place) place.history word);
+  queries = λ fields up e kept free. ap (option_map collision_cause) (collision-searches f (keys_at place) place.history (words_of fields));
 })
 
 -- no line changes the key

@@ -1,9 +1,9 @@
 -- A run goes as its script means: by induction over the lines that are left.
-use Rattle.std.proofs.Common.{◌≡◌, ℕ, zero, suc, ◌+◌, ◌≤◌, inl, List, [], ◌∷◌, ◌++◌, length, map, take, Some, None, refl, sym, ap, ◌∙◌, subst, arith, append_assoc, length-append}
+use Rattle.std.proofs.Common.{◌≡◌, ℕ, zero, suc, ◌+◌, ◌≤◌, inl, List, [], ◌∷◌, ◌++◌, length, map, take, drop, Some, None, refl, sym, ap, ◌∙◌, subst, arith, append_assoc, length-append}
 use Rattle.std.specs.Prelude.{flat_map, Option, All, option_map}
 use Rattle.std.specs.Io.KnownBytes.{append_known}
 use Rattle.std.proofs.Math.Seq.{take-append-add, drop-append-add}
-use Rattle.std.proofs.lemmas.List.{append-nil, map-append, length-map}
+use Rattle.std.proofs.lemmas.List.{append-nil, map-append, length-map, take-append-le, drop-append-le, length-drop}
 use Rattle.std.proofs.lemmas.List.Concat.{flat_map-append}
 use Rattle.std.proofs.lemmas.List.Elements.{All-nil, All-append}
 use Rattle.client_registry.specs.Live.{in_order}
@@ -14,16 +14,18 @@ use Rattle.sse_frames.specs.Replies.{IsIdentifier}
 use Rattle.def_link_events.specs.Events.{Event}
 use Rattle.sse_model.proofs.ExchangeLaws.{exchange-append, searches-append}
 use Rattle.sse_script.specs.Shown.{Cause, BadWords, BadLine, SourceFault, LinkFault, DiskFault, NoMemory, LabelClash, PlaceClash, NumberClash, Clash, PeerElsewhere, BadReply, NoJournal, HasRecords, BadRecord, WrongKey}
-use Rattle.sse_script.specs.Shown.{Found}
+use Rattle.sse_script.specs.Shown.{Found, Matched}
 use Rattle.sse_script.specs.Stops.{cause_status}
 use Rattle.sse_script.specs.Texts.{text_of}
 use Rattle.sse_outside.specs.Kept.{Kept, with_records}
 use Rattle.def_script_meaning.specs.Carries.{Keeps, with_answers, text_with}
 use Rattle.def_script_meaning.specs.Exchange.{Told, Adds, AreExchanged, ShowsInReplies, as_event, bare}
-use Rattle.def_script_meaning.specs.Goes.{IsLeft, Passes, Prints}
+use Rattle.def_script_meaning.specs.Goes.{IsLeft, Passes, Prints, updates_count, frames_in_hand}
 use Rattle.def_script_meaning.specs.HelloExchange.{ShowsInAnswer}
 use Rattle.def_script_meaning.specs.Outcome.{Printed, Says, Finds}
 use Rattle.def_script_meaning.specs.Stops.{status_of}
+use Rattle.def_script_meaning.specs.Outcome.{Printed, Says, Finds, Matches}
+use Rattle.bool_search.specs.Chosen.{chosen_by}
 use Rattle.def_script_meaning.specs.Runs.{Ended}
 use Rattle.def_script_meaning.proofs.FollowedPlaces.{finds}
 
@@ -74,6 +76,12 @@ with_answers-append (ids ∷ xs) ys [] t count = absurd (omega (arith, count))
 with_answers-append xs ys (Says line ∷ s) t count = ap (λ rest. line ∷ rest) (with_answers-append xs ys s t count)
 with_answers-append [] ys (Finds found ∷ s) t count = absurd (omega (arith, count))
 with_answers-append (ids ∷ xs) ys (Finds found ∷ s) t count = ap (λ rest. Found ids ∷ rest) (with_answers-append xs ys s t (omega (arith, count)))
+with_answers-append xs ys (Matches fields lists ∷ s) t count =
+    let sum : length (lists ++ finds s) ≡ length lists + length (finds s) = length-append lists (finds s) in
+    let few : length lists ≤ length xs = omega (arith, count, sum) in
+    let left : length (drop (length lists) xs) ≡ length (finds s) = length-drop (length lists) xs ∙ omega (arith, count, sum) in
+    (λ i. Matched (chosen_by fields (take-append-le (length lists) xs ys few i)) ∷ with_answers (drop-append-le (length lists) xs ys few i) (s ++ t))
+    ∙ ap (λ rest. Matched (chosen_by fields (take (length lists) xs)) ∷ rest) (with_answers-append (drop (length lists) xs) ys s t left)
 
 pub text_with-append : (xs ys : List (List ℕ)) (s t : List Printed) → length xs ≡ length (finds s) → text_with (xs ++ ys) (s ++ t) ≡ text_with xs s ++ text_with ys t
 text_with-append xs ys s t count =
@@ -102,7 +110,7 @@ Passes-behind f frames more xs ys old now end events adds first rest = record {
   parts = ap (λ es. events ++ es) rest.parts ∙ sym (append_assoc events rest.before rest.cut);
   exchanged = subst (λ fs. AreExchanged (xs ++ ys) fs (events ++ rest.before)) (sym (take-append-add frames more rest.n)) (AreExchanged-both xs ys frames (take rest.n more) events rest.before first rest.exchanged);
   left = subst (λ fs. IsLeft f end fs rest.cut) (sym (drop-append-add frames more rest.n)) rest.left;
-  most = omega (arith, rest.most, length-append frames more);
+  most = subst (λ fs. updates_count fs ≤ frames_in_hand end.history) (sym (drop-append-add frames more rest.n)) rest.most;
   whole = λ few. AreExchanged-both xs ys frames more events rest.events first (rest.whole few);
 }
 

@@ -5,7 +5,7 @@ use Rattle.std.proofs.Common.{◌≡◌, ◌⊎◌, ℕ, suc, false, ◌+◌, �
 use Rattle.std.specs.Prelude.{flat_map, Option, All, option_map}
 use Rattle.std.specs.Io.KnownBytes.{append_known}
 use Rattle.std.specs.List.{AllByRecursion}
-use Rattle.std.proofs.Math.Seq.{take-length}
+use Rattle.std.proofs.Math.Seq.{take-length, take-append_seam, drop-append_seam}
 use Rattle.std.proofs.lemmas.List.{append-nil, append_cancel_left, map-append, drop_all}
 use Rattle.std.proofs.lemmas.List.Elements.{recursion_from_All}
 use Rattle.client_registry.proofs.HistoryLaws.{IsKept-first}
@@ -27,17 +27,19 @@ use Rattle.sse_model.proofs.ExchangeLaws.{session-exchange, searches-sent}
 use Rattle.sse_model.proofs.HistoryLaws.{frames_sent-in_grammar, HasNoCollision-first}
 use Rattle.sse_model.specs.Epochs.{keys_under}
 use Rattle.sse_script.specs.Shown.{Cause}
-use Rattle.sse_script.specs.Shown.{Found}
+use Rattle.sse_script.specs.Shown.{Found, Matched}
 use Rattle.sse_script.specs.Stops.{cause_status}
 use Rattle.sse_script.specs.Texts.{text_of}
 use Rattle.sse_outside.specs.Kept.{with_records}
+use Rattle.def_script_meaning.proofs.UpdatesLeft.{updates_farther}
+use Rattle.bool_search.specs.Chosen.{chosen_by}
 use Rattle.def_script_meaning.specs.Carries.{Outside, with_answers, text_with}
 use Rattle.def_script_meaning.specs.Exchange.{Told, Adds, AreExchanged, IsCut, as_event, bare}
-use Rattle.def_script_meaning.specs.Goes.{frames_in_hand, Passes, IsOpened, HasPassed, GoesFirst}
+use Rattle.def_script_meaning.specs.Goes.{frames_in_hand, Passes, IsOpened, HasPassed, GoesFirst, updates_count}
 use Rattle.def_script_meaning.specs.Headline.{IsOverHonest, IsUndisturbed, Headline}
 use Rattle.def_script_meaning.specs.Lines.{Line, Empty, Key, Command, script_lines}
 use Rattle.def_script_meaning.specs.Meaning.{Meaning, meant_from, meaning}
-use Rattle.def_script_meaning.specs.Outcome.{Printed, Says, Finds, said, opened}
+use Rattle.def_script_meaning.specs.Outcome.{Printed, Says, Finds, Matches, said, opened}
 use Rattle.def_script_meaning.specs.Runs.{Ended, Opens, Ends}
 use Rattle.def_script_meaning.specs.Recorded.{records_with}
 use Rattle.def_script_meaning.specs.Session.{session_with, session_of, frames_with, frames_of, IsFree}
@@ -167,10 +169,10 @@ module _ (f : KeyedFn) (low high : ℕ) (frames : (next : ℕ) → List FrameTex
 
   -- wherever it stopped, the server is one that was sent the first of them, all but some of the last command's
   pub session_left : (key : List ℕ) → end.key ≡ Some key → (shown : List (List ℕ)) → AreAnswered f before (frames before.next) shown → HasPassed f low high frames answers now end
-      → (n : ℕ) × (length (frames before.next) ≤ n + frames_in_hand end.history) × (state ≡ (steps f before (take n (frames before.next))).0)
+      → (n : ℕ) × (updates_count (drop n (frames before.next)) ≤ frames_in_hand end.history) × (state ≡ (steps f before (take n (frames before.next))).0)
   session_left key same_key shown answered passed = elim passed [
     | inl u ↦ absurd (let no : Some key ≡ None = sym same_key ∙ u.key in cc)
-    | inr (inl u) ↦ let few = u.most before.next least most in (0, omega (arith, few), turned_state f (idle before) (idle state) low high u.away.events u.cause (IsServed-bare f (idle before) (idle state) u.away.events (served u.away.events u.away.adds)) u.away.turned)
+    | inr (inl u) ↦ let few = u.most before.next least most in (0, few, turned_state f (idle before) (idle state) low high u.away.events u.cause (IsServed-bare f (idle before) (idle state) u.away.events (served u.away.events u.away.adds)) u.away.turned)
     | inr (inr o) ↦
         let mid = opened_over o in
         let same : frames o.greets.next ≡ frames before.next = ap frames mid.2 in
@@ -179,7 +181,7 @@ module _ (f : KeyedFn) (low high : ℕ) (frames : (next : ℕ) → List FrameTex
         let left = passes_left f mid.0 (frames o.greets.next) shown here state o.greeted end answers o.passes mid.3 in
         let all = o.passes.most in (
           left.0,
-          omega (arith, all, left.1, ap length same),
+          omega (arith, all, updates_farther o.passes.n left.0 (frames o.greets.next) left.1, ap (λ fs. updates_count (drop left.0 fs)) same),
           left.2 ∙ (λ i. (steps f (mid.1 i) (take left.0 (same i))).0),
         )
   ]
@@ -209,6 +211,9 @@ pub with_answers-finds : (shown : List Printed) → with_answers (finds shown) s
 with_answers-finds [] = refl
 with_answers-finds (Says line ∷ shown) = ap (λ rest. line ∷ rest) (with_answers-finds shown)
 with_answers-finds (Finds ids ∷ shown) = ap (λ rest. Found ids ∷ rest) (with_answers-finds shown)
+with_answers-finds (Matches fields lists ∷ shown) =
+    (λ i. Matched (chosen_by fields (take-append_seam lists (finds shown) i)) ∷ with_answers (drop-append_seam lists (finds shown) i) shown)
+    ∙ ap (λ rest. Matched (chosen_by fields lists) ∷ rest) (with_answers-finds shown)
 
 -- the first part of a history has no collision where the whole has none
 pub IsFree-first : (f : KeyedFn) (key whole_key : Option (List ℕ)) (part whole : History) → (key ≡ None) ⊎ (key ≡ whole_key) → IsFirstOf part whole → IsFree f whole_key whole → IsFree f key part
@@ -266,7 +271,7 @@ module _ (f : KeyedFn) (laws : IsKeyedFn f) (bytes : List ℕ) (now : Outside) (
 
     -- wherever it stopped, the server is one that was sent the first frames of the history up to there, all but some of the last command's
     pub frames_left : (key : List ℕ) → end.key ≡ Some key → IsFree f end.key end.history
-        → (n : ℕ) × (length (frames_with f end.key end.history) ≤ n + frames_in_hand end.history) × (state ≡ (steps f before (take n (frames_with f end.key end.history))).0)
+        → (n : ℕ) × (updates_count (drop n (frames_with f end.key end.history)) ≤ frames_in_hand end.history) × (state ≡ (steps f before (take n (frames_with f end.key end.history))).0)
     frames_left key same_key free =
         session_left f 0 0 (λ next. frames_with f end.key end.history) g.answers now.told end (omega arith) before state least most free served key same_key (shown_with end.key end.history)
         (history_is_answered f laws end.key end.history before (IsKept-first end.history m.history g.history kept) free expects) g.passes

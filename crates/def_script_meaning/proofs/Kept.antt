@@ -1,5 +1,5 @@
 -- The history that a script means keeps all limits.
-use Rattle.std.proofs.Common.{◌≡◌, ◌≢◌, ℕ, suc, ◌+◌, ◌-◌, ◌^◌, ◌<◌, ◌≤◌, Bool, true, false, not, ◌&&◌, ◌||◌, List, [], ◌∷◌, length, nat_lt, refl, ap, ◌∙◌, subst, arith}
+use Rattle.std.proofs.Common.{◌≡◌, ◌≢◌, ℕ, suc, ◌+◌, ◌-◌, ◌^◌, ◌<◌, ◌≤◌, Bool, true, false, not, ◌&&◌, ◌||◌, List, [], ◌∷◌, length, nat_lt, refl, ap, ◌∙◌, subst, arith, zero, ◌*◌, take, sym}
 use Rattle.std.specs.Prelude.{◌==◌, filter, Option, None, Some, if◌then◌else◌}
 use Rattle.std.specs.List.{list_all, position_from, AllByRecursion, IsDistinct}
 use Rattle.std.specs.Option.{option_and_then, option_map}
@@ -20,11 +20,15 @@ use Rattle.client_registry.specs.Setup.{setup_with}
 use Rattle.client_registry.specs.Sized.{IsSizedCommand}
 use Rattle.sse_script.specs.declared.refusal.Refusal.TheVariants.{Zero, AlreadyLive, UnknownDocument, CounterFull, HistoryFull}
 use Rattle.script_documents.specs.LineDocument.{document}
-use Rattle.script_documents.specs.Refused.{word_refused, document_refusal}
+use Rattle.script_documents.specs.Refused.{word_refused, document_refusal, bad_word}
 use Rattle.script_documents.proofs.Passed.{some-none, neither, passed, word_passed, document_passed, docs_passed}
+use Rattle.std.proofs.lemmas.List.{length-map}
+use Rattle.bool_search.specs.Fields.{words_of}
+use Rattle.def_script_meaning.proofs.QueryWords.{IsWord, words_are_words, words_few}
+use Rattle.def_script_meaning.proofs.QueryLaws.{searching, longer-none, longer-twice, set_up-longer}
 use Rattle.def_script_meaning.specs.Refused.{size_refused, index_refusal, frame_refusal, counter_refusal, add_refusal, delete_refusal}
 use Rattle.def_script_meaning.specs.Outcome.{Place, Outcome, opened, outcome, after, is_refusal}
-use Rattle.def_script_meaning.specs.Lines.{Request, Doc, SetupLine, AddLine, Del, Find, Line, Empty, Key, Command as CommandLine}
+use Rattle.def_script_meaning.specs.Lines.{Request, Doc, SetupLine, AddLine, Del, Find, Query, Line, Empty, Key, Command as CommandLine}
 use Rattle.def_script_meaning.specs.Meaning.{follow, meant_from}
 use Rattle.def_script_meaning.proofs.Outcomes.{ByCases, by_cases}
 
@@ -92,6 +96,7 @@ IsWithin (SetupLine b big pad) = Unit {0}
 IsWithin (AddLine id words) = id < 2 ^ 64
 IsWithin (Del id) = id < 2 ^ 64
 IsWithin (Find word) = Unit {0}
+IsWithin (Query fields) = Unit {0}
 
 abbrev pub IsWithinItem : Option Line → Type 0
 IsWithinItem None = Unit {0}
@@ -99,7 +104,7 @@ IsWithinItem (Some Empty) = Unit {0}
 IsWithinItem (Some (Key key)) = Unit {0}
 IsWithinItem (Some (CommandLine line)) = IsWithin line
 
--- after so many lines the documents keep their limits, and so does the history, which has no more commands than lines
+-- the documents keep their limits, and so does the history, which has at most so many commands: 32 for each line before
 pub record IsKeptAt (n : ℕ) (place : Place) : Type 0 where
   pub documents : IsCollected place.documents
   pub history : IsKept place.history
@@ -112,15 +117,24 @@ no_documents = record { documents = omega arith; pairs = omega arith; different 
 pub IsKeptAt-opened : (n : ℕ) (key : List ℕ) → IsKeptAt n (opened key)
 IsKeptAt-opened n key = record { documents = no_documents; history = tt; few = omega arith }
 
-kept_longer : (n : ℕ) (place : Place) → IsKeptAt n place → IsKeptAt (suc n) place
+kept_longer : (n : ℕ) (place : Place) → IsKeptAt n place → IsKeptAt (n + 32) place
 kept_longer n place kept = record { documents = kept.documents; history = kept.history; few = omega (arith, kept.few) }
+
+-- several searches of words keep the rules of a history
+kept_searches : (h : History) (words : List (List ℕ)) → IsKept h → is_set_up h ≡ true → AllByRecursion IsWord words → IsKept (longer (searching words) h)
+kept_searches h [] kept up each = subst IsKept (sym (longer-none h)) kept
+kept_searches h (word ∷ words) kept up each =
+    subst IsKept (sym (longer-twice h (Search word) (searching words)))
+    (kept_searches (longer (Search word ∷ []) h) words
+    (IsKept-longer h (Search word) kept each.0 (accepts-search h word up) (omega (arith, frames_in-below h kept)))
+    (set_up-longer h (Search word ∷ []) up) each.1)
 
 -- the place after a line keeps the limits
 module _ (n : ℕ) (place : Place) (line : Request) (within : IsWithin line) (kept : IsKeptAt n place) where
   abbrev Kept : Outcome → Type 0
-  Kept result = IsKeptAt (suc n) (after result place)
+  Kept result = IsKeptAt (n + 32) (after result place)
 
-  kept_command : (c : Command) → IsSizedCommand c × (accepts place.history c ≡ true) → frames_in place.history + length (filter is_update (c ∷ [])) < 2 ^ 32 → IsKeptAt (suc n) (record place { history = longer (c ∷ []) place.history })
+  kept_command : (c : Command) → IsSizedCommand c × (accepts place.history c ≡ true) → frames_in place.history + length (filter is_update (c ∷ [])) < 2 ^ 32 → IsKeptAt (n + 32) (record place { history = longer (c ∷ []) place.history })
   kept_command c ok frames = record {
     documents = kept.documents;
     history = IsKept-longer place.history c kept.history ok.0 ok.1 frames;
@@ -150,25 +164,30 @@ module _ (n : ℕ) (place : Place) (line : Request) (within : IsWithin line) (ke
         kept_command (Delete id) ((known.0, subst IsWithin is within), known.1) known.2;
     finds = λ word up e.
         kept_command (Search word) (word_passed 0 word (neither (option_and_then (word_refused 0) (word_refusal word)) None e).0, accepts-search place.history word up) (omega (arith, frames_in-below place.history kept.history));
+    queries = λ fields up e. record {
+      documents = kept.documents;
+      history = kept_searches place.history (words_of fields) kept.history up (words_are_words fields e);
+      few = omega (arith, kept.few, length-commands_of place.history (searching (words_of fields)), length-map (words_of fields) (λ word. Search word), words_few fields e);
+    };
   }
 
-  pub kept_next : IsKeptAt (suc n) (after (outcome place line) place)
+  pub kept_next : IsKeptAt (n + 32) (after (outcome place line) place)
   kept_next = by_cases place line Kept cases
 
 -- and so does the history of all that follows
 pub kept_follow : (n : ℕ) (place : Place) (number : ℕ) (lines : List (Option Line)) (refused : Bool) → AllByRecursion IsWithinItem lines → IsKeptAt n place
-    → IsKept (follow place number lines refused).history × (length (commands_of (follow place number lines refused).history) ≤ n + length lines)
+    → IsKept (follow place number lines refused).history × (length (commands_of (follow place number lines refused).history) ≤ n + 32 * length lines)
 kept_follow n place number [] refused within kept = (kept.history, omega (arith, kept.few))
 kept_follow n place number (None ∷ lines) refused within kept = (kept.history, omega (arith, kept.few))
 kept_follow n place number (Some Empty ∷ lines) refused within kept =
     let rest = kept_follow n place (number + 1) lines refused within.1 kept in (rest.0, omega (arith, rest.1))
 kept_follow n place number (Some (Key key) ∷ lines) refused within kept = (kept.history, omega (arith, kept.few))
 kept_follow n place number (Some (CommandLine line) ∷ lines) refused within kept =
-    let rest = kept_follow (suc n) (after (outcome place line) place) (number + 1) lines (refused || is_refusal (outcome place line)) within.1 (kept_next n place line within.0 kept) in
+    let rest = kept_follow (n + 32) (after (outcome place line) place) (number + 1) lines (refused || is_refusal (outcome place line)) within.1 (kept_next n place line within.0 kept) in
     (rest.0, omega (arith, rest.1))
 
 pub kept_meant : (number : ℕ) (lines : List (Option Line)) → AllByRecursion IsWithinItem lines
-    → IsKept (meant_from number lines).history × (length (commands_of (meant_from number lines).history) ≤ length lines)
+    → IsKept (meant_from number lines).history × (length (commands_of (meant_from number lines).history) ≤ 32 * length lines)
 kept_meant number [] within = (tt, omega arith)
 kept_meant number (None ∷ lines) within = (tt, omega arith)
 kept_meant number (Some Empty ∷ lines) within = let rest = kept_meant (number + 1) lines within.1 in (rest.0, omega (arith, rest.1))

@@ -20,6 +20,7 @@ use Rattle.def_agreement.specs.TakenFrames.{Expects}
 use Rattle.sse_frames.specs.Exchange.{asked}
 use Rattle.sse_frames.specs.Frames.{FrameText, Hello, SetupBegin, SetupDict, SetupArray, SetupEnd, AddFrame, DeleteFrame, SearchFrame}
 use Rattle.sse_model.proofs.Updates.{is_no_search}
+use Rattle.def_script_meaning.proofs.UpdatesLeft.{updates_parts}
 use Rattle.def_script_meaning.proofs.Headline.{frames_left, history_is_answered, shown_with}
 use Rattle.def_script_meaning.proofs.Honest.{IsBehindGreeting}
 use Rattle.def_script_meaning.proofs.JoinedSessions.{steps-updates}
@@ -31,7 +32,7 @@ use Rattle.def_script_meaning.proofs.UpdatesAlone.{frames_alone, updates_again}
 use Rattle.def_script_meaning.proofs.Within.{meaning_is_kept}
 use Rattle.def_script_meaning.specs.Carries.{Outside}
 use Rattle.def_script_meaning.specs.Continues.{at_run}
-use Rattle.def_script_meaning.specs.Goes.{frames_in_hand, frames_of_last}
+use Rattle.def_script_meaning.specs.Goes.{frames_in_hand, frames_of_last, updates_count}
 use Rattle.def_script_meaning.specs.Headline.{IsOverHonest}
 use Rattle.def_script_meaning.specs.Joined.{updates_of, LeavesServer, LeavesTaken}
 use Rattle.def_script_meaning.specs.Lines.{Line, script_lines}
@@ -129,7 +130,7 @@ module _ (f : KeyedFn) (laws : IsKeyedFn f) (key : List ℕ) (run : Run) (kept :
   alone = frames_under f key (Some (updates_of run))
 
   -- a server that was sent the first of its frames, all but some of the last command's, was sent the first of its updates' so
-  pub leaves_taken : (n : ℕ) (state : ServerState) → length all ≤ n + frames_in_hand (Some run) → state ≡ (steps f start (take n all)).0 → LeavesTaken f key run state
+  pub leaves_taken : (n : ℕ) (state : ServerState) → updates_count (drop n all) ≤ frames_in_hand (Some run) → state ≡ (steps f start (take n all)).0 → LeavesTaken f key run state
   leaves_taken n state most stored =
       let answered = history_is_answered f laws (Some key) (Some run) start kept free expects in
       let next = length (filter is_no_search (take n all)) in
@@ -149,14 +150,14 @@ module _ (f : KeyedFn) (laws : IsKeyedFn f) (key : List ℕ) (run : Run) (kept :
               ∙ ap (λ fs. (steps f start fs).0) (filter-front is_no_search n all ∙ ap (take next) (sym (frames_alone f key run)));
           number = omega (arith, ap (λ (s : ServerState). s.next) stored, counted f start (take n all) none behind, expects.next);
         };
-        most = omega (arith, count, left, filter-behind is_no_search n all, length-drop n all, most, in_hand-alone run.setup run.later (omega arith));
+        most = omega (arith, count, left, updates_parts n all, most, in_hand-alone run.setup run.later (omega arith));
       }
 
 -- Whole runs.
 
 -- a history so far sent leaves its server
 leaves_server : (f : KeyedFn) → IsKeyedFn f → (key : Option (List ℕ)) (h : History) (start state : ServerState) → IsKept h → IsFree f key h → Expects 0 start
-    → ((k : List ℕ) → key ≡ Some k → (n : ℕ) × (length (frames_under f k h) ≤ n + frames_in_hand h) × (state ≡ (steps f start (take n (frames_under f k h))).0)) → LeavesServer f key h state
+    → ((k : List ℕ) → key ≡ Some k → (n : ℕ) × (updates_count (drop n (frames_under f k h)) ≤ frames_in_hand h) × (state ≡ (steps f start (take n (frames_under f k h))).0)) → LeavesServer f key h state
 leaves_server f laws None h start state kept free expects left = tt
 leaves_server f laws (Some key) None start state kept free expects left = tt
 leaves_server f laws (Some key) (Some run) start state kept free expects left = let l = left key refl in leaves_taken f laws key run kept free start expects l.0 state l.1 l.2
@@ -171,7 +172,7 @@ run_leaves f laws bytes now end opens before state expects honest free =
     (λ key same.
     let left = frames_left f laws bytes now end opens before state expects honest key same free in
     let frames : frames_with f end.key end.history ≡ frames_under f key end.history = ap (λ k. frames_with f k end.history) same in
-    (left.0, omega (arith, left.1, ap length frames), left.2 ∙ ap (λ fs. (steps f before (take left.0 fs)).0) frames))
+    (left.0, omega (arith, left.1, ap (λ fs. updates_count (drop left.0 fs)) frames), left.2 ∙ ap (λ fs. (steps f before (take left.0 fs)).0) frames))
 
 -- whatever stopped one that goes on after a history with a server that was sent the first of its frames
 module _ (f : KeyedFn) (laws : IsKeyedFn f) (key : List ℕ) (run : Run) (updates : filter is_update run.later ≡ run.later) (next : ℕ) (before : ServerState) (had : HasTaken f key run next before)
@@ -187,7 +188,7 @@ module _ (f : KeyedFn) (laws : IsKeyedFn f) (key : List ℕ) (run : Run) (update
       leaves_server f laws end.key end.history had.start state (IsKept-first end.history (follow (at_run key [] run) number lines false).history g.history (kept_follow n (at_run key [] run) number lines false within kept_at).0) free had.expects
       (λ other same.
       let key_is : key ≡ other = inside key other (sym g.same_key ∙ same) in
-      subst (λ k. (q : ℕ) × (length (frames_under f k end.history) ≤ q + frames_in_hand end.history) × (state ≡ (steps f had.start (take q (frames_under f k end.history))).0)) key_is
+      subst (λ k. (q : ℕ) × (updates_count (drop q (frames_under f k end.history)) ≤ frames_in_hand end.history) × (state ≡ (steps f had.start (take q (frames_under f k end.history))).0)) key_is
       (frames_left_after f laws key run updates next before had n number lines within kept_at low high fits least most near now end goes state honest free))
     where
       inside : (a b : List ℕ) → Some a ≡ Some b → a ≡ b

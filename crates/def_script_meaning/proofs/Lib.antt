@@ -26,3 +26,6 @@ mod ContinuedRows
 mod ClashRows
 pub mod RecordedBehind
 pub mod SessionsInARow
+pub mod QueryWords
+pub mod QueryLaws
+pub mod UpdatesLeft

@@ -1,6 +1,6 @@
 -- What a line comes to, case by case: what holds of each of these cases holds of what any line comes to.
 use Rattle.std.proofs.Common.{◌≡◌, ℕ, true, false, List, [], ◌∷◌, None, Some, refl}
-use Rattle.std.specs.Prelude.{Bool, Option, if◌then◌else◌}
+use Rattle.std.specs.Prelude.{Bool, Option, map, if◌then◌else◌}
 use Rattle.client_registry.specs.Command.{Add, Delete, Search}
 use Rattle.client_registry.specs.Histories.{is_set_up}
 use Rattle.client_registry.specs.Live.{matching_in}
@@ -10,8 +10,10 @@ use Rattle.sse_script.specs.declared.refusal.Refusal.TheVariants.{NotSetUp, SetU
 use Rattle.sse_script.specs.Shown.{Added, Deleted}
 use Rattle.script_documents.specs.LineDocument.{document}
 use Rattle.script_documents.specs.Refused.{bad_word, collect_refusal}
-use Rattle.def_script_meaning.specs.Lines.{Request, Doc, SetupLine, AddLine, Del, Find}
-use Rattle.def_script_meaning.specs.Outcome.{Place, Says, Finds, Outcome, Collects, Refuses, SetsUp, Does, unless, before_setup, after_setup, outcome}
+use Rattle.def_script_meaning.specs.Lines.{Request, Doc, SetupLine, AddLine, Del, Find, Query}
+use Rattle.def_script_meaning.specs.Outcome.{Place, Says, Finds, Matches, Outcome, Collects, Refuses, SetsUp, Does, unless, before_setup, after_setup, outcome}
+use Rattle.bool_search.specs.Fields.{words_of}
+use Rattle.bool_search.specs.LineRefusals.{fields_refusal}
 use Rattle.def_script_meaning.specs.Refused.{index_refusal, add_refusal, delete_refusal}
 
 module _ (place : Place) (line : Request) (P : Outcome → Type 0) where
@@ -25,6 +27,8 @@ module _ (place : Place) (line : Request) (P : Outcome → Type 0) where
         → P (Does (Add (document id words) ∷ []) (Says (Added id)))
     pub deletes : (id : ℕ) → line ≡ Del id → is_set_up place.history ≡ true → delete_refusal place.history id ≡ None → P (Does (Delete id ∷ []) (Says (Deleted id)))
     pub finds : (word : List ℕ) → is_set_up place.history ≡ true → bad_word 0 (word ∷ []) ≡ None → P (Does (Search word ∷ []) (Finds (matching_in place.history word)))
+    pub queries : (fields : List (List ℕ)) → is_set_up place.history ≡ true → fields_refusal fields ≡ None
+        → P (Does (map (λ word. Search word) (words_of fields)) (Matches fields (map (matching_in place.history) (words_of fields))))
 
   module _ (cases : ByCases) where
     if_not : (r : Option Refusal) (result : Outcome) → (r ≡ None → P result) → P (unless r result)
@@ -40,6 +44,7 @@ module _ (place : Place) (line : Request) (P : Outcome → Type 0) where
     before (AddLine id words) e none = cases.refuses NotSetUp
     before (Del id) e none = cases.refuses NotSetUp
     before (Find word) e none = cases.refuses NotSetUp
+    before (Query fields) e none = cases.refuses NotSetUp
 
     behind : (l : Request) → line ≡ l → is_set_up place.history ≡ true → P (after_setup place.history l)
     behind (Doc id words) e up = cases.refuses SetUpAlready
@@ -47,6 +52,7 @@ module _ (place : Place) (line : Request) (P : Outcome → Type 0) where
     behind (AddLine id words) e up = if_not _ _ (cases.adds id words e up)
     behind (Del id) e up = if_not _ _ (cases.deletes id e up)
     behind (Find word) e up = if_not _ _ (cases.finds word up)
+    behind (Query fields) e up = if_not _ _ (cases.queries fields up)
 
     -- so it holds of what the line comes to
     pub by_cases : P (outcome place line)

@@ -18,6 +18,8 @@ use Rattle.sse_model.specs.Epochs.{keys_under}
 use Rattle.sse_model.specs.Histories.{frames_sent}
 use Rattle.sse_outside.specs.Kept.{Kept, with_records, with_refused}
 use Rattle.sse_script.specs.Shown.{Cause}
+use Rattle.bool_search.specs.Fields.{words_of}
+use Rattle.def_script_meaning.proofs.QueryLaws.{no_updates}
 use Rattle.def_script_meaning.specs.Carries.{Keeps, Outside, keys_at, frames_by, records_by, Carries, FindsClash, LacksMemory, IsUnkept, IsCutShort, IsUnprinted}
 use Rattle.def_script_meaning.specs.Exchange.{Adds, AreExchanged, AreCut, sent_in}
 use Rattle.def_script_meaning.specs.Lines.{Line, Empty, Key, Command as CommandLine, Request}
@@ -55,6 +57,7 @@ module _ (f : KeyedFn) (place : Place) (line : Request) where
     adds = λ id words is up e. omega arith;
     deletes = λ id is up e. omega arith;
     finds = λ word up e. omega arith;
+    queries = λ fields up e. omega (arith, ap (λ updates. length (map update_record updates)) (no_updates (words_of fields)));
   })
 
   -- the records after a line are those before it, and then its own
@@ -66,6 +69,7 @@ module _ (f : KeyedFn) (place : Place) (line : Request) where
     adds = λ id words is up e. records-longer f place.key place.history _ up;
     deletes = λ id is up e. records-longer f place.key place.history _ up;
     finds = λ word up e. records-longer f place.key place.history _ up;
+    queries = λ fields up e. records-longer f place.key place.history _ up;
   })
     where
       before : (h : History) → is_set_up h ≡ false → (records : List (List ℕ)) → records ≡ records_in f place.key h ++ records

@@ -6,7 +6,7 @@ use Rattle.std.specs.Prelude.{filter, flat_map, Option}
 use Rattle.std.specs.Io.KnownBytes.{append_known}
 use Rattle.std.specs.List.{AllByRecursion}
 use Rattle.std.proofs.Math.Seq.{take-add}
-use Rattle.std.proofs.lemmas.List.{append-nil, append_cancel_left, drop-append-le, length-drop, take-append-drop, take-append-le}
+use Rattle.std.proofs.lemmas.List.{append-nil, append_cancel_left, drop-drop, drop-append-le, length-drop, take-append-drop, take-append-le}
 use Rattle.client_records.specs.Recorded.{recorded}
 use Rattle.client_registry.proofs.HistoryLaws.{IsFirstOf-same, IsKept-first}
 use Rattle.client_registry.specs.Command.{Command, Add, Delete, Search, is_update}
@@ -38,10 +38,12 @@ use Rattle.sse_script.specs.Shown.{NoMemory, Resumed}
 use Rattle.sse_script.specs.Stops.{cause_status}
 use Rattle.sse_script.specs.Texts.{text_of}
 use Rattle.sse_outside.specs.Kept.{with_records}
+use Rattle.def_script_meaning.proofs.UpdatesLeft.{updates_fewer}
+use Rattle.def_script_meaning.specs.Outcome.{said}
 use Rattle.def_script_meaning.specs.Carries.{Keeps, Outside, text_with, with_answers}
 use Rattle.def_script_meaning.specs.Continues.{at_run, frames_since}
 use Rattle.def_script_meaning.specs.Exchange.{Adds, as_event, bare}
-use Rattle.def_script_meaning.specs.Goes.{frames_in_hand, Passes, IsOpened, HasPassed}
+use Rattle.def_script_meaning.specs.Goes.{frames_in_hand, Passes, IsOpened, HasPassed, updates_count}
 use Rattle.def_script_meaning.specs.Headline.{IsOverHonest, IsUndisturbed}
 use Rattle.def_script_meaning.specs.Lines.{Line}
 use Rattle.def_script_meaning.specs.Meaning.{Meaning, follow}
@@ -192,6 +194,9 @@ module _ (f : KeyedFn) (laws : IsKeyedFn f) (key : List ℕ) (run : Run) (update
         subst (λ h. length (lacking f key run q) ≤ frames_in_hand h) (sym history)
         (omega (arith, near, at_least, length-drop q all, length-frames_under f key run updates))
 
+    few_lacking_updates : (q : ℕ) → low ≤ q → end.history ≡ Some run → updates_count (lacking f key run q) ≤ frames_in_hand end.history
+    few_lacking_updates q at_least history = let few = few_lacking q at_least history in omega (arith, few, updates_fewer (lacking f key run q))
+
     module _ (greeted : Outside) (g : IsGreeted low high now greeted) where
       abbrev lacked : List FrameText
       lacked = lacking f key run g.greets.next
@@ -207,7 +212,7 @@ module _ (f : KeyedFn) (laws : IsKeyedFn f) (key : List ℕ) (run : Run) (update
 
       short : StopsShort f lacked key run greeted end → GoesRejoining
       short s = elim s.short [
-        | inl cut ↦ stopped_open cut.2.answers s.same_key s.history (Passes-cut f lacked greeted.told end cut.0 s.cause s.stops cut.1 (few_lacking g.greets.next g.greets.least s.history) cut.2)
+        | inl cut ↦ stopped_open cut.2.answers s.same_key s.history (Passes-cut f lacked greeted.told end cut.0 s.cause s.stops cut.1 (few_lacking_updates g.greets.next g.greets.least s.history) cut.2)
         | inr (inl unsent) ↦
             let memory : end.stop ≡ At NoMemory = s.stops ∙ ap (λ c. At c) unsent.1 in
             stopped_open [] s.same_key s.history (record {
@@ -218,7 +223,7 @@ module _ (f : KeyedFn) (laws : IsKeyedFn f) (key : List ℕ) (run : Run) (update
               cut = [];
               parts = refl;
               exchanged = AreExchanged-none;
-              most = let few = few_lacking g.greets.next g.greets.least s.history in omega (arith, few);
+              most = let few = few_lacking_updates g.greets.next g.greets.least s.history in omega (arith, few);
               left = unsent_left f end lacked memory;
               whole = λ low_status. absurd (omega (arith, low_status, ap status_of memory));
             })
@@ -232,7 +237,7 @@ module _ (f : KeyedFn) (laws : IsKeyedFn f) (key : List ℕ) (run : Run) (update
               cut = [];
               parts = refl;
               exchanged = AreExchanged-none;
-              most = let few = few_lacking g.greets.next g.greets.least s.history in omega (arith, few);
+              most = few_lacking_updates g.greets.next g.greets.least s.history;
               left = inr (inr (inr (refl, λ free. clash.2 (subst (λ h. IsFree f (Some key) h) s.history (subst (λ k. IsFree f k end.history) s.same_key free)))));
               whole = λ low_status. absurd (omega (arith, low_status, status));
             })
@@ -293,7 +298,7 @@ module _ (f : KeyedFn) (laws : IsKeyedFn f) (key : List ℕ) (run : Run) (update
         none = refl;
         most = λ q least most.
             let here = few_lacking q least away.history in
-            omega (arith, here, length-append (lacking f key run q) (frames_since f key run commands), ap (λ cs. length (frames_since f key run cs)) none);
+            omega (arith, here, updates_fewer (lacking f key run q ++ frames_since f key run commands), length-append (lacking f key run q) (frames_since f key run commands), ap (λ cs. length (frames_since f key run cs)) none);
       })))
       | inr (greeted, g, inl s) ↦ short greeted g s
       | inr (greeted, g, inr (inl u)) ↦ untold greeted g u
@@ -329,7 +334,7 @@ module _ (f : KeyedFn) (laws : IsKeyedFn f) (key : List ℕ) (run : Run) (update
 
       -- wherever it stopped, the server is one that was sent the first frames of the history up to there, all but some of the last command's
       pub frames_left_after : IsFree f end.key end.history
-          → (n : ℕ) × (length (frames_under f key end.history) ≤ n + frames_in_hand end.history) × (state ≡ (steps f had.start (take n (frames_under f key end.history))).0)
+          → (n : ℕ) × (updates_count (drop n (frames_under f key end.history)) ≤ frames_in_hand end.history) × (state ≡ (steps f had.start (take n (frames_under f key end.history))).0)
       frames_left_after free =
           let g = goes_rejoining in
           let cs = commands_in end.history g.first in
@@ -343,7 +348,7 @@ module _ (f : KeyedFn) (laws : IsKeyedFn f) (key : List ℕ) (run : Run) (update
           ∙ ap (take next) (frames_sent-longer f keys (Some run) cs)
           ∙ take-append-le next all (frames_since f key run cs) (omega (arith, had.within, length-frames_under f key run updates)) in (
             next + left.0,
-            omega (arith, left.1, ap length sends, length-drop next whole),
+            omega (arith, left.1, ap (λ fs. updates_count (drop left.0 fs)) sends, ap updates_count (drop-drop left.0 next whole)),
             left.2
                 ∙ ap (λ fs. (steps f before (take left.0 fs)).0) sends
                 ∙ ap (λ s. (steps f s (take left.0 (drop next whole))).0) (had.sent ∙ ap (λ fs. (steps f had.start fs).0) (sym first))

@@ -7,6 +7,7 @@ use Rattle.std.specs.Str.Lossy.{utf8_valid_len}
 use Rattle.hex.proofs.OnLiterals.{hex_on_literals}
 use Rattle.sse_script.specs.Shown.{Found}
 use Rattle.sse_script.specs.Texts.{text_of}
+use Rattle.def_script_meaning.specs.Outcome.{Finds, said}
 use Rattle.def_script_meaning.specs.Carries.{with_answers}
 use Rattle.def_script_meaning.specs.Lines.{lines_in}
 use Rattle.def_script_meaning.specs.Meaning.{Meaning, meant}

@@ -19,9 +19,10 @@ use Rattle.sse_model.specs.Histories.{frames_sent, HasNoCollision}
 use Rattle.sse_script.specs.Shown.{Cause, DiskFault, NoMemory}
 use Rattle.sse_script.specs.Stops.{cause_status}
 use Rattle.sse_script.specs.TextLines.{lines_of}
+use Rattle.def_script_meaning.proofs.UpdatesLeft.{updates_behind}
 use Rattle.def_script_meaning.specs.Carries.{Outside, keys_at, frames_by, collision_cause, clash_in_hand, text_with, Carries, FindsClash, LacksMemory, IsUnkept, IsCutShort, IsUnprinted}
 use Rattle.def_script_meaning.specs.Exchange.{Told, Adds, AreCut, IsCut}
-use Rattle.def_script_meaning.specs.Goes.{frames_in_hand, IsLeft, Passes, Prints, GoesFirst}
+use Rattle.def_script_meaning.specs.Goes.{frames_in_hand, IsLeft, Passes, Prints, GoesFirst, updates_count}
 use Rattle.def_script_meaning.specs.HelloExchange.{IsTurned}
 use Rattle.def_script_meaning.specs.Lines.{Line, Empty, Key, Command, Request, script_lines}
 use Rattle.def_script_meaning.specs.Meaning.{Meaning, showing, follow, meant_from, meaning}
@@ -64,7 +65,7 @@ unsent_left f end [] memory = inl (refl, refl, omega (arith, ap status_of memory
 unsent_left f end (frame ∷ frames) memory = inr (inl (NoMemory, memory, inr refl))
 
 -- a cut exchange is what passed of these frames
-pub Passes-cut : (f : KeyedFn) (frames : List FrameText) (now : Told) (end : Ended) (events : List Event) (cause : Cause) → end.stop ≡ At cause → Adds now end.outside.told events → length frames ≤ frames_in_hand end.history → (c : AreCut frames events cause)
+pub Passes-cut : (f : KeyedFn) (frames : List FrameText) (now : Told) (end : Ended) (events : List Event) (cause : Cause) → end.stop ≡ At cause → Adds now end.outside.told events → updates_count frames ≤ frames_in_hand end.history → (c : AreCut frames events cause)
     → Passes f frames c.answers now end
 Passes-cut f frames now end events cause stops adds few c = record {
   events = events;
@@ -75,7 +76,7 @@ Passes-cut f frames now end events cause stops adds few c = record {
   parts = c.parts;
   exchanged = c.exchanged;
   left = inr (inl (cause, stops, c.one_more));
-  most = omega (arith, few);
+  most = omega (arith, few, updates_behind c.n frames);
   whole = λ low. absurd (omega (arith, low, ap status_of stops, cut_status (drop c.n frames) c.cut cause c.one_more));
 }
 
@@ -133,8 +134,8 @@ module _ (f : KeyedFn) where
       frames_of : frames_sent f (keys_at place) end.history ≡ frames_sent f (keys_at place) place.history ++ frames_by f place result
       frames_of = ap (frames_sent f (keys_at place)) s.history ∙ frames-next place line f
 
-      few_in_hand : length (frames_by f place result) ≤ frames_in_hand end.history
-      few_in_hand = subst (λ h. length (frames_by f place result) ≤ frames_in_hand h) (sym s.history) (few-next place line f)
+      few_in_hand : updates_count (frames_by f place result) ≤ frames_in_hand end.history
+      few_in_hand = subst (λ h. updates_count (frames_by f place result) ≤ frames_in_hand h) (sym s.history) (few-next place line f)
 
       went-clash : FindsClash f place result now end.outside end.stop → Went f place.key place.history whole now end
       went-clash c =
@@ -305,7 +306,7 @@ module _ (f : KeyedFn) where
   went n place number (Some (Command line) ∷ lines) refused now end within kept (inr (inr (next, carries, runs))) =
       let r = outcome place line in
       went-carried place line (follow (after r place) (number + 1) lines (refused || is_refusal r)) now end next carries
-      (went (suc n) (after r place) (number + 1) lines (refused || is_refusal r) next end within.1 (kept_next n place line within.0 kept) runs)
+      (went (n + 32) (after r place) (number + 1) lines (refused || is_refusal r) next end within.1 (kept_next n place line within.0 kept) runs)
 
   -- Before the key line.
 
@@ -342,7 +343,7 @@ module _ (f : KeyedFn) where
         key = inr (away.same_key ∙ sym (follow-key (opened key) (number + 1) lines false));
         history = subst (λ h. IsFirstOf h m.history) (sym away.history) tt;
         answers = [];
-        passes = inr (inl (record { key = key; same_key = away.same_key; cause = away.cause; stops = away.stops; away = away.away; none = refl; most = λ next least most. omega (arith, ap length (λ i. frames_with f (away.same_key i) (away.history i))) }));
+        passes = inr (inl (record { key = key; same_key = away.same_key; cause = away.cause; stops = away.stops; away = away.away; none = refl; most = λ next least most. omega (arith, ap updates_count (λ i. frames_with f (away.same_key i) (away.history i))) }));
         prints = Prints-none m [] now.written end.outside.written away.unprinted;
         ended = λ few. absurd (omega (arith, few, ap status_of away.stops, turned_status 0 0 away.away.events away.cause away.away.turned));
       }

@@ -1,5 +1,5 @@
 -- The identifiers of a script's lines are below 2^64, so what a script means is a history.
-use Rattle.std.proofs.Common.{◌≡◌, ℕ, ◌+◌, ◌^◌, ◌<◌, ◌≤◌, Bool, true, false, ◌&&◌, List, [], ◌∷◌, length, nat_lt, refl, arith}
+use Rattle.std.proofs.Common.{◌≡◌, ℕ, ◌+◌, ◌^◌, ◌<◌, ◌≤◌, Bool, true, false, ◌&&◌, List, [], ◌∷◌, length, nat_lt, refl, arith, ◌*◌}
 use Rattle.std.specs.Prelude.{Option, None, Some, IfSome, bytes_eq, codes, if◌then◌else◌}
 use Rattle.std.specs.List.{AllByRecursion}
 use Rattle.std.specs.Option.{option_map}
@@ -12,7 +12,7 @@ use Rattle.client_registry.specs.Run.{commands_of}
 use Rattle.client_registry.specs.Sized.{IsSized, run_words}
 use Rattle.sse_script.specs.Fields.{fields_of}
 use Rattle.sse_script.specs.Numbers.{number_of, key_of, is_numeral}
-use Rattle.sse_script.specs.Lines.{Line, Key, Doc, AddLine, Del, key_line, document_line, setup_numbers, setup_line, delete_line, find_line, line_by_kind}
+use Rattle.sse_script.specs.Lines.{Line, Key, Doc, AddLine, Del, Query, key_line, document_line, setup_numbers, setup_line, delete_line, find_line, line_by_kind}
 use Rattle.sse_script.specs.TextLines.{lines_of}
 use Rattle.def_script_meaning.specs.Lines.{line_read, line_in, lines_in, script_lines}
 use Rattle.def_script_meaning.specs.Meaning.{meant}
@@ -76,17 +76,18 @@ find-within (word ∷ other ∷ fields) = tt
 kind-within : (fields : List (List ℕ)) → IfSome (line_by_kind fields) IsWithinRead
 kind-within [] = tt
 kind-within (kind ∷ fields) =
-    by (bytes_eq kind (codes "key")) (bytes_eq kind (codes "doc")) (bytes_eq kind (codes "setup")) (bytes_eq kind (codes "add")) (bytes_eq kind (codes "del")) (bytes_eq kind (codes "find"))
+    by (bytes_eq kind (codes "key")) (bytes_eq kind (codes "doc")) (bytes_eq kind (codes "setup")) (bytes_eq kind (codes "add")) (bytes_eq kind (codes "del")) (bytes_eq kind (codes "find")) (bytes_eq kind (codes "query"))
   where
-    by : (a b c d e g : Bool) →
-        IfSome (if a then key_line fields else if b then document_line Doc fields else if c then setup_line fields else if d then document_line AddLine fields else if e then delete_line fields else if g then find_line fields else None) IsWithinRead
-    by true b c d e g = key-within fields
-    by false true c d e g = document-within Doc (λ n words h. h) fields
-    by false false true d e g = setup-within fields
-    by false false false true e g = document-within AddLine (λ n words h. h) fields
-    by false false false false true g = delete-within fields
-    by false false false false false true = find-within fields
-    by false false false false false false = tt
+    by : (a b c d e g h : Bool) →
+        IfSome (if a then key_line fields else if b then document_line Doc fields else if c then setup_line fields else if d then document_line AddLine fields else if e then delete_line fields else if g then find_line fields else if h then Some (Query fields) else None) IsWithinRead
+    by true b c d e g h = key-within fields
+    by false true c d e g h = document-within Doc (λ n words h. h) fields
+    by false false true d e g h = setup-within fields
+    by false false false true e g h = document-within AddLine (λ n words h. h) fields
+    by false false false false true g h = delete-within fields
+    by false false false false false true h = find-within fields
+    by false false false false false false true = tt
+    by false false false false false false false = tt
 
 IsWithin-line_in : (bytes : List ℕ) → IsWithinItem (line_in bytes)
 IsWithin-line_in bytes = by (nat_lt (2 ^ 19) (length bytes))
@@ -105,14 +106,14 @@ IsWithin-lines_in (text ∷ texts) = (IsWithin-line_in text, IsWithin-lines_in t
 
 -- Promise P162 (inside): A run sends and prints a prefix of its script's meaning with the answers received; ending with 0, 1 or 2, all of it.
 --   assumes: keyed function, honest link, no collision
--- what a script means keeps the rules of every history, and has no more commands than lines
-pub meaning_is_kept : (bytes : List ℕ) → IsKept (meant (script_lines bytes)).history × (length (commands_of (meant (script_lines bytes)).history) ≤ length (lines_of bytes))
+-- what a script means keeps the rules of every history, and has at most 32 commands for each line
+pub meaning_is_kept : (bytes : List ℕ) → IsKept (meant (script_lines bytes)).history × (length (commands_of (meant (script_lines bytes)).history) ≤ 32 * length (lines_of bytes))
 meaning_is_kept bytes =
     let kept = kept_meant 1 (script_lines bytes) (IsWithin-lines_in (lines_of bytes)) in
     (kept.0, omega (arith, kept.1, length-map (lines_of bytes) line_in))
 
 -- and is sized, where its lines and its words can be numbered in 32 bits
-pub meaning_is_sized : (bytes : List ℕ) → length (lines_of bytes) + 1 < 2 ^ 32 → IfSome (meant (script_lines bytes)).history (λ run. length (run_words run) < 2 ^ 32)
+pub meaning_is_sized : (bytes : List ℕ) → 32 * length (lines_of bytes) + 1 < 2 ^ 32 → IfSome (meant (script_lines bytes)).history (λ run. length (run_words run) < 2 ^ 32)
     → IfSome (meant (script_lines bytes)).history IsSized
 meaning_is_sized bytes few words =
     let kept = meaning_is_kept bytes in

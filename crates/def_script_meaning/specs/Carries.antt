@@ -1,5 +1,5 @@
 -- The effect of one line of a script: its traffic, its printed lines, and how a run stops within it.
-use Rattle.std.specs.Prelude.{◌≡◌, ◌≢◌, ◌⊎◌, ℕ, List, [], ◌∷◌, drop, filter, flat_map, map, Option, Some, None, option_map}
+use Rattle.std.specs.Prelude.{◌≡◌, ◌≢◌, ◌⊎◌, ℕ, List, [], ◌∷◌, drop, take, length, filter, flat_map, map, Option, Some, None, option_map}
 use Rattle.std.specs.Io.KnownBytes.{append_known}
 use Rattle.client_records.specs.Records.{setup_record, update_record}
 use Rattle.client_registry.specs.Command.{is_update}
@@ -13,12 +13,13 @@ use Rattle.sse_model.specs.Compared.{Collision, Labels, Places, Numbers}
 use Rattle.sse_model.specs.Epochs.{keys_under}
 use Rattle.sse_model.specs.Histories.{frames_of_first, frames_of_next, collision_of_first, collision_of_next}
 use Rattle.sse_script.specs.Shown.{Cause, DiskFault, LabelClash, PlaceClash, NumberClash, NoMemory}
-use Rattle.sse_script.specs.Shown.{Shown, Found}
+use Rattle.sse_script.specs.Shown.{Shown, Found, Matched}
 use Rattle.sse_outside.specs.Fronts.{TookFront}
 use Rattle.sse_outside.specs.Kept.{Kept, with_records, with_refused}
 use Rattle.sse_script.specs.Texts.{text_of}
 use Rattle.def_script_meaning.specs.Exchange.{Told, Adds, AreExchanged, AreCut}
-use Rattle.def_script_meaning.specs.Outcome.{Place, Printed, Says, Finds, Outcome, Collects, Refuses, SetsUp, Does, shown_by}
+use Rattle.def_script_meaning.specs.Outcome.{Place, Printed, Says, Finds, Matches, Outcome, Collects, Refuses, SetsUp, Does, shown_by}
+use Rattle.bool_search.specs.Chosen.{chosen_by}
 use Rattle.def_script_meaning.specs.Stops.{Stop, SinkFault, At}
 
 -- these records were taken behind those that were kept before
@@ -70,6 +71,7 @@ abbrev pub with_answers : List (List ℕ) → List Printed → List Shown
 with_answers answers [] = []
 with_answers answers (Says line ∷ shown) = line ∷ with_answers answers shown
 with_answers answers (Finds ids ∷ shown) = Found (first_answer answers) ∷ with_answers (drop 1 answers) shown
+with_answers answers (Matches fields lists ∷ shown) = Matched (chosen_by fields (take (length lists) answers)) ∷ with_answers (drop (length lists) answers) shown
 
 -- their text, the identifiers of each answer rising
 abbrev pub text_with : List (List ℕ) → List Printed → List ℕ

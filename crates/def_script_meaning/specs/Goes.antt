@@ -1,6 +1,6 @@
 -- The consequences of a run over any link, by the meaning of its script. The traffic is a prefix of the session of the history up to the stop, and
 -- the printed text is a prefix of the meaning's lines with the answers that came.
-use Rattle.std.specs.Prelude.{◌≡◌, ◌⊎◌, ◌≤◌, ℕ, ◌+◌, List, [], ◌∷◌, ◌++◌, length, take, drop, None, Some, Option}
+use Rattle.std.specs.Prelude.{◌≡◌, ◌⊎◌, ◌≤◌, ℕ, ◌+◌, List, [], ◌∷◌, ◌++◌, length, filter, take, drop, None, Some, Option}
 use Rattle.std.specs.Io.KnownBytes.{append_known}
 use Rattle.client_registry.specs.Acceptance.{frames_needed}
 use Rattle.client_registry.specs.Command.{Command}
@@ -10,6 +10,7 @@ use Rattle.client_registry.specs.Setup.{Setup}
 use Rattle.keyed_fn.specs.KeyedFn.{KeyedFn}
 use Rattle.sse_frames.specs.Frames.{FrameText}
 use Rattle.def_link_events.specs.Events.{Event}
+use Rattle.sse_model.proofs.Updates.{is_no_search}
 use Rattle.sse_script.specs.Shown.{Cause, DiskFault}
 use Rattle.def_script_meaning.specs.Carries.{Outside, text_with}
 use Rattle.def_script_meaning.specs.Exchange.{Told, Adds, AreExchanged, IsCut}
@@ -37,8 +38,12 @@ abbrev pub frames_in_hand : History → ℕ
 frames_in_hand None = 0
 frames_in_hand (Some run) = frames_of_last run.setup run.later
 
--- the first n of these frames were exchanged, with these answers, and at most a part of the next: all of them but some of the last
--- command of the history up to the stop; and all of them, where the run came to the end of its script or to a bad line
+-- how many of these frames are no searches: only they change a server
+abbrev pub updates_count : List FrameText → ℕ
+updates_count frames = length (filter is_no_search frames)
+
+-- the first n of these frames were exchanged, with these answers, and at most a part of the next. Of the update frames all were, but for some of
+-- the last command of the history up to the stop; and all frames, where the run came to the end of its script or to a bad line
 pub record Passes (f : KeyedFn) (frames : List FrameText) (answers : List (List ℕ)) (now : Told) (end : Ended) : Type 0 where
   pub events : List Event
   pub adds : Adds now end.outside.told events
@@ -48,7 +53,7 @@ pub record Passes (f : KeyedFn) (frames : List FrameText) (answers : List (List 
   pub parts : events ≡ before ++ cut
   pub exchanged : AreExchanged answers (take n frames) before
   pub left : IsLeft f end (drop n frames) cut
-  pub most : length frames ≤ n + frames_in_hand end.history
+  pub most : updates_count (drop n frames) ≤ frames_in_hand end.history
   pub whole : status_of end.stop ≤ 2 → AreExchanged answers frames events
 
 -- After the greeting.
@@ -60,7 +65,7 @@ pub record IsUnopened (answers : List (List ℕ)) (now : Told) (end : Ended) : T
   pub stops : status_of end.stop ≤ 7
   pub none : answers ≡ []
 
--- it wasn't opened, since it was turned away: none of the frames was sent, which are at most those of the last command
+-- it wasn't opened, since it was turned away: none of the frames was sent, and the update frames are at most those of the last command
 pub record IsUngreeted (low high : ℕ) (frames : (next : ℕ) → List FrameText) (answers : List (List ℕ)) (now : Told) (end : Ended) : Type 0 where
   pub key : List ℕ
   pub same_key : end.key ≡ Some key
@@ -68,7 +73,7 @@ pub record IsUngreeted (low high : ℕ) (frames : (next : ℕ) → List FrameTex
   pub stops : end.stop ≡ At cause
   pub away : TurnsAway low high now end.outside.told cause
   pub none : answers ≡ []
-  pub most : (next : ℕ) → low ≤ next → next ≤ high → length (frames next) ≤ frames_in_hand end.history
+  pub most : (next : ℕ) → low ≤ next → next ≤ high → updates_count (frames next) ≤ frames_in_hand end.history
 
 -- it was opened, and then of the frames that are sent to a server that expects this update a front passed
 pub record IsOpened (f : KeyedFn) (low high : ℕ) (frames : (next : ℕ) → List FrameText) (answers : List (List ℕ)) (now : Told) (end : Ended) : Type 0 where

@@ -12,6 +12,7 @@ use Rattle.def_link_events.specs.Served.{IsHonest}
 use Rattle.sse_script.specs.Texts.{text_of}
 use Rattle.def_script_meaning.specs.Carries.{Keeps, Outside}
 use Rattle.def_script_meaning.specs.Exchange.{Told, Adds, as_event, bare, sent_in}
+use Rattle.def_script_meaning.specs.Outcome.{said}
 use Rattle.def_script_meaning.specs.Meaning.{Meaning}
 use Rattle.def_script_meaning.specs.Outcome.{said}
 use Rattle.def_script_meaning.specs.Recorded.{records_with}

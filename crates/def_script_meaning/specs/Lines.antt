@@ -11,6 +11,7 @@ pub data Request : Type 0 where
   AddLine : (id : ℕ) (words : List (List ℕ)) → Request
   Del : (id : ℕ) → Request
   Find : (word : List ℕ) → Request
+  Query : (fields : List (List ℕ)) → Request
 
 pub data Line : Type 0 where
   Empty : Line
@@ -25,6 +26,7 @@ line_read (read.SetupLine b big pad) = Command (SetupLine b big pad)
 line_read (read.AddLine id words) = Command (AddLine id words)
 line_read (read.Del id) = Command (Del id)
 line_read (read.Find word) = Command (Find word)
+line_read (read.Query fields) = Command (Query fields)
 
 -- the line that these bytes are; None where they aren't in the grammar
 abbrev pub line_in : List ℕ → Option Line

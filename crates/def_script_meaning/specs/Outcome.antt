@@ -1,5 +1,8 @@
 -- The outcome of a line of the script.
-use Rattle.std.specs.Prelude.{ℕ, Bool, true, false, List, [], ◌∷◌, ◌++◌, length, Option, None, Some, if◌then◌else◌}
+use Rattle.std.specs.Prelude.{ℕ, Bool, true, false, List, [], ◌∷◌, ◌++◌, length, map, Option, None, Some, if◌then◌else◌}
+use Rattle.bool_search.specs.Chosen.{chosen_by}
+use Rattle.bool_search.specs.Fields.{words_of}
+use Rattle.bool_search.specs.LineRefusals.{fields_refusal}
 use Rattle.client_registry.specs.Document.{Document}
 use Rattle.client_registry.specs.Acceptance.{blocks_of}
 use Rattle.client_registry.specs.Setup.{Setup, setup_with, setup_words}
@@ -9,10 +12,10 @@ use Rattle.client_registry.specs.Histories.{empty, is_set_up, begun_by, longer}
 use Rattle.client_registry.specs.Live.{matching_in}
 use Rattle.sse_script.specs.declared.refusal.Refusal.{Refusal}
 use Rattle.sse_script.specs.declared.refusal.Refusal.TheVariants.{NotSetUp, SetUpAlready}
-use Rattle.sse_script.specs.Shown.{Shown, SetUp, Added, Deleted, Found, Refused}
+use Rattle.sse_script.specs.Shown.{Shown, SetUp, Added, Deleted, Found, Matched, Refused}
 use Rattle.script_documents.specs.LineDocument.{document}
 use Rattle.script_documents.specs.Refused.{bad_word, collect_refusal}
-use Rattle.def_script_meaning.specs.Lines.{Request, Doc, SetupLine, AddLine, Del, Find}
+use Rattle.def_script_meaning.specs.Lines.{Request, Doc, SetupLine, AddLine, Del, Find, Query}
 use Rattle.def_script_meaning.specs.Refused.{index_refusal, add_refusal, delete_refusal}
 
 -- where a script stands after its key line: its key, the documents that were collected, and the history
@@ -25,15 +28,18 @@ pub record Place : Type 0 where
 abbrev pub opened : List ℕ → Place
 opened key = record { key = key; documents = []; history = empty }
 
--- a line that is printed: as it stands, or with the identifiers that a search finds
+-- a line that is printed: as it stands, with the identifiers that a search finds, or with those that a query chooses of what the
+-- searches of its words find, in order
 pub data Printed : Type 0 where
   Says : Shown → Printed
   Finds : (ids : List ℕ) → Printed
+  Matches : (fields lists : List (List ℕ)) → Printed
 
--- how it reads where the search is answered as it should be
+-- how it reads where the searches are answered as they should be
 abbrev pub said : Printed → Shown
 said (Says line) = line
 said (Finds ids) = Found ids
+said (Matches fields lists) = Matched (chosen_by fields lists)
 
 pub data Outcome : Type 0 where
   -- one document more for the setup
@@ -55,6 +61,7 @@ before_setup docs (SetupLine b big pad) = unless (index_refusal docs b big pad) 
 before_setup docs (AddLine id words) = Refuses NotSetUp
 before_setup docs (Del id) = Refuses NotSetUp
 before_setup docs (Find word) = Refuses NotSetUp
+before_setup docs (Query fields) = Refuses NotSetUp
 
 -- a line of a script that is set up
 abbrev pub after_setup : History → Request → Outcome
@@ -63,6 +70,8 @@ after_setup h (SetupLine b big pad) = Refuses SetUpAlready
 after_setup h (AddLine id words) = unless (add_refusal h (document id words)) (Does (Add (document id words) ∷ []) (Says (Added id)))
 after_setup h (Del id) = unless (delete_refusal h id) (Does (Delete id ∷ []) (Says (Deleted id)))
 after_setup h (Find word) = unless (bad_word 0 (word ∷ [])) (Does (Search word ∷ []) (Finds (matching_in h word)))
+after_setup h (Query fields) =
+    unless (fields_refusal fields) (Does (map (λ word. Search word) (words_of fields)) (Matches fields (map (matching_in h) (words_of fields))))
 
 -- what a line comes to at a place of the script
 abbrev pub outcome : Place → Request → Outcome

@@ -25,6 +25,7 @@ use Rattle.def_script_meaning.specs.Carries.{Keeps, Outside, collision_cause}
 use Rattle.def_script_meaning.specs.Continues.{at_run}
 use Rattle.def_script_meaning.specs.Exchange.{Told, Adds, AreCut, AreExchanged, as_event, bare, sent_in}
 use Rattle.def_script_meaning.specs.Lines.{Line}
+use Rattle.def_script_meaning.specs.Outcome.{said}
 use Rattle.def_script_meaning.specs.Meaning.{Meaning}
 use Rattle.def_script_meaning.specs.Outcome.{said}
 use Rattle.def_script_meaning.specs.Recorded.{KeepsFirst, records_in}

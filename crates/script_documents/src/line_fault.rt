@@ -18,8 +18,8 @@ pub enum LineFault {
 }
 
 impl LineFault {
-    /// What a fault of the word field at this position, from 0, means.
-    pub(crate) fn of_word(fault: WordFault, position: u32) -> LineFault
+    /// What a fault of the word at this position, from 0, means for its line. It is a refusal in each case.
+    pub fn of_word(fault: WordFault, position: u32) -> LineFault
         ensures { fault_refusal result ≡ word_refused position fault }
     {
         match fault {

@@ -3,5 +3,6 @@ pub mod Ended
 pub mod MeaningLaws
 mod LinesTaken
 mod PartsTaken
+mod SearchesTaken
 pub mod ReadingGoesOn
 mod WholeScripts

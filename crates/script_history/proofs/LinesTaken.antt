@@ -1,13 +1,20 @@
 -- What a line comes to where a script is read: before a setup as in a run, and after it also refused where the history with it
 -- can't be numbered.
-use Rattle.std.proofs.Common.{◌≡◌, ℕ, Bool, true, false, List, [], ◌∷◌, ◌++◌, Option, None, Some, refl, sym, ap, subst, ◌∙◌}
-use Rattle.std.specs.Prelude.{if◌then◌else◌, Result, Ok, Err, IfOk, IfSome, IsOk, is_some}
-use Rattle.std.specs.Option.{option_or}
+use Rattle.std.proofs.Common.{◌≡◌, ◌≢◌, ℕ, Bool, true, false, List, [], ◌∷◌, ◌++◌, Option, None, Some, refl, sym, ap, subst, ◌∙◌}
+use Rattle.std.specs.Prelude.{if◌then◌else◌, Result, Ok, Err, IfOk, IfSome, IsOk, OnErr, is_some}
+use Rattle.std.specs.Option.{option_and_then, option_or}
+use Rattle.bool_search.specs.LineRefusals.{query_refused, fields_refusal}
+use Rattle.bool_search.specs.Refused.{query_refusal}
+use Rattle.bool_search.specs.declared.fault.QueryFault.{QueryFault}
+use Rattle.bool_search.specs.declared.fault.QueryFault.TheVariants as queries
 use Rattle.client_registry.specs.Command.{Command as Meant}
 use Rattle.client_registry.specs.Document.{Document}
 use Rattle.client_registry.specs.Histories.{is_set_up, longer}
 use Rattle.client_registry.specs.Run.{History, Run}
 use Rattle.script_documents.specs.LineDocument.{document}
+use Rattle.script_documents.specs.LineFaults.{SaysRefusal, fault_refusal}
+use Rattle.script_documents.specs.declared.line_fault.LineFault.{LineFault}
+use Rattle.script_documents.specs.declared.line_fault.LineFault.TheVariants as faults
 use Rattle.script_documents.specs.Refused.{collect_refusal}
 use Rattle.def_script_meaning.specs.Lines.{Line, Empty, Key, Command, Request, Doc, SetupLine}
 use Rattle.def_script_meaning.specs.Outcome.{Place, Printed, Outcome, Collects, Refuses, SetsUp, Does, unless, before_setup, after_setup, after, is_refusal}
@@ -15,7 +22,7 @@ use Rattle.def_script_meaning.specs.Refused.{index_refusal}
 use Rattle.client_registry.specs.Setup.{setup_with}
 use Rattle.sse_script.specs.declared.refusal.Refusal.{Refusal}
 use Rattle.sse_script.specs.declared.refusal.Refusal.TheVariants.{HistoryFull}
-use Rattle.script_history.specs.Numbered.{run_after}
+use Rattle.script_history.specs.Numbered.{run_after, run_after_all}
 use Rattle.script_history.specs.Reads.{is_full, number_refusal, numbered, read_outcome, refusal_in}
 use Rattle.script_history.specs.Stages.{IsAt, ComesTo, IsSetUp, collected_after, keys_at}
 use Rattle.script_history.specs.Turns.{hashed_at}
@@ -83,6 +90,31 @@ module _ (place : Place) (run : Run) (e : place.history ≡ Some run) where
       by : (q : Option Refusal) → next ≡ run_after q run c → (q ≡ refusal_in (unless q (Does (c ∷ []) shown))) × ((after (unless q (Does (c ∷ []) shown)) place).history ≡ Some next)
       by None went = (refl, ap (longer (c ∷ [])) e ∙ ap (λ r. Some r) (sym went))
       by (Some refusal) went = (refl, e ∙ ap (λ r. Some r) (sym went))
+
+  -- several commands of one line
+  pub commands-behind : (request : Request) (r found : Option Refusal) (cs : List Meant) (shown : Printed) (next : Run) → after_setup (Some run) request ≡ unless r (Does cs shown)
+      → found ≡ option_or r (number_refusal (Some run) cs) → next ≡ run_after_all found run cs
+      → (found ≡ refusal_in (read_outcome place request)) × ((after (read_outcome place request) place).history ≡ Some next)
+  commands-behind request r found cs shown next is same went =
+      let whole = behind request ∙ ap (numbered (Some run)) is ∙ numbered-command (Some run) r cs shown ∙ ap (λ q. unless q (Does cs shown)) (sym same) in
+      subst (λ o. (found ≡ refusal_in o) × ((after o place).history ≡ Some next)) (sym whole) (by found went)
+    where
+      by : (q : Option Refusal) → next ≡ run_after_all q run cs → (q ≡ refusal_in (unless q (Does cs shown))) × ((after (unless q (Does cs shown)) place).history ≡ Some next)
+      by None went = (refl, ap (longer cs) e ∙ ap (λ r. Some r) (sym went))
+      by (Some refusal) went = (refl, e ∙ ap (λ r. Some r) (sym went))
+
+-- the fault of a query says why its line is refused, before anything else does
+pub query_says : (line : LineFault) (fault : QueryFault) (fields : List (List ℕ)) (other : Option Refusal) → fault_refusal line ≡ query_refused fault → (fault ≢ queries.NoMemory → query_refusal fields ≡ Some fault)
+    → SaysRefusal line (option_or (fields_refusal fields) other)
+query_says (faults.Refused refusal) fault fields other same bad =
+    let some : fault ≢ queries.NoMemory = λ memory. absurd (let none : Some refusal ≡ None = same ∙ ap query_refused memory in cc) in
+    sym (ap (λ first. option_or first other) (ap (option_and_then query_refused) (bad some) ∙ sym same))
+query_says faults.NoMemory fault fields other same bad = tt
+
+-- a line that may stop for want of memory whatever it is
+pub stops_any : {T E : Type 0} (r : Result T E) → OnErr r (Unit {0})
+stops_any (Ok x) = tt
+stops_any (Err e) = tt
 
 -- Before the setup.
 

@@ -55,6 +55,7 @@ text_first place line shown = by_cases place line (λ o. refusals_text (shown_by
   adds = λ id words is up e. refl;
   deletes = λ id is up e. refl;
   finds = λ word up e. refl;
+  queries = λ fields up e. refl;
 })
 
 -- Histories that can be numbered.
@@ -79,6 +80,7 @@ same_outcome place line = by_cases place line (λ o. IfSome (after o place).hist
   adds = λ id words is up e sized. fits _ _ sized;
   deletes = λ id is up e sized. fits _ _ sized;
   finds = λ word up e sized. fits _ _ sized;
+  queries = λ fields up e sized. fits _ _ sized;
 })
   where
     fits : (commands : List Meant) (shown : Printed) → IfSome (longer commands place.history) IsSized → numbered place.history (Does commands shown) ≡ Does commands shown

@@ -59,6 +59,7 @@ command_of (reads.Setup b big pad) not_empty not_key = (_, refl)
 command_of (reads.Add id words) not_empty not_key = (_, refl)
 command_of (reads.Del id) not_empty not_key = (_, refl)
 command_of (reads.Find word) not_empty not_key = (_, refl)
+command_of (reads.Query fields) not_empty not_key = (_, refl)
 
 -- which is bad where the key line must be
 pub bad_first : (line : ReadLine) → (line ≡ reads.Empty → ⊥) → ((key : List ℕ) → line ≡ reads.Key key → ⊥) → IsBadFirst (Some (line_read (line_view line)))
@@ -69,6 +70,7 @@ bad_first (reads.Setup b big pad) not_empty not_key = tt
 bad_first (reads.Add id words) not_empty not_key = tt
 bad_first (reads.Del id) not_empty not_key = tt
 bad_first (reads.Find word) not_empty not_key = tt
+bad_first (reads.Query fields) not_empty not_key = tt
 
 -- One step over the lines that are left.
 

@@ -6,7 +6,7 @@ use Rattle.def_script_meaning.specs.Meaning.{Meaning}
 use Rattle.def_script_meaning.specs.Outcome.{said}
 use Rattle.def_script_meaning.specs.Stops as ends
 use Rattle.def_script_meaning.specs.Stops.{Stop}
-use Rattle.sse_script.specs.Shown.{SourceFault, NoMemory, Shown, SetUp, Added, Deleted, Found, Resumed, Refused, Stopped as StoppedLine}
+use Rattle.sse_script.specs.Shown.{SourceFault, NoMemory, Shown, SetUp, Added, Deleted, Found, Matched, Resumed, Refused, Stopped as StoppedLine}
 use Rattle.sse_script.specs.Texts.{text_of}
 use Rattle.script_history.specs.Reads.{ReadEnd, Whole, Stopped}
 
@@ -16,6 +16,7 @@ is_refused_line (SetUp words blocks) = false
 is_refused_line (Added id) = false
 is_refused_line (Deleted id) = false
 is_refused_line (Found ids) = false
+is_refused_line (Matched ids) = false
 is_refused_line (Resumed frames) = false
 is_refused_line (Refused refusal) = true
 is_refused_line (StoppedLine cause) = false

@@ -1,5 +1,5 @@
 -- Why a command isn't taken after those of a history whose commands are numbered.
-use Rattle.std.specs.Prelude.{◌≡◌, ◌≤◌, ◌++◌, ◌∷◌, [], length, not, Option, None, Some, if◌then◌else◌}
+use Rattle.std.specs.Prelude.{◌≡◌, ◌≤◌, List, ◌++◌, ◌∷◌, [], length, not, Option, None, Some, if◌then◌else◌}
 use Rattle.std.specs.Option.{option_or}
 use Rattle.client_registry.specs.Command.{Command, Add, Delete, Search, is_update}
 use Rattle.client_registry.specs.Histories.{is_live_in}
@@ -33,6 +33,11 @@ command_refusal run c = option_or (accept_refusal run c) (number_refusal (Some r
 abbrev pub run_after : Option Refusal → Run → Command → Run
 run_after None run c = with_command run c
 run_after (Some refusal) run c = run
+
+-- the run after several commands that were refused or taken
+abbrev pub run_after_all : Option Refusal → Run → List Command → Run
+run_after_all None run commands = record { setup = run.setup; later = run.later ++ commands }
+run_after_all (Some refusal) run commands = run
 
 -- the refusal that a fault of a history is; none where memory was wanting
 abbrev pub fault_refusal : HistoryFault → Option Refusal

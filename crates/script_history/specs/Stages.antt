@@ -1,6 +1,8 @@
 -- The place of a reading in its script, and the effect of a line there.
-use Rattle.std.specs.Prelude.{◌≡◌, ◌≢◌, ℕ, List, [], ◌∷◌, ◌++◌, Option, None, Some}
+use Rattle.std.specs.Prelude.{◌≡◌, ◌≢◌, ℕ, List, [], ◌∷◌, ◌++◌, map, Option, None, Some}
 use Rattle.std.specs.Option.{option_or}
+use Rattle.bool_search.specs.Fields.{words_of}
+use Rattle.bool_search.specs.LineRefusals.{fields_refusal}
 use Rattle.client_registry.specs.Acceptance.{size_refusal}
 use Rattle.client_registry.specs.Command.{Add, Delete, Search}
 use Rattle.client_registry.specs.Document.{Document}
@@ -11,7 +13,7 @@ use Rattle.script_documents.specs.Refused.{bad_word}
 use Rattle.def_script_meaning.specs.Lines.{Request}
 use Rattle.def_script_meaning.specs.Outcome.{Place, Outcome, after}
 use Rattle.def_script_meaning.specs.Refused.{add_refusal, delete_refusal}
-use Rattle.sse_script.specs.Lines.{Line, Doc, SetupLine, AddLine, Del, Find}
+use Rattle.sse_script.specs.Lines.{Line, Doc, SetupLine, AddLine, Del, Find, Query}
 use Rattle.sse_script.specs.declared.refusal.Refusal.{Refusal}
 use Rattle.script_history.specs.Reads.{number_refusal, read_outcome, refusal_in}
 use Rattle.script_history.specs.declared.stage.Stage.{Stage}
@@ -28,13 +30,14 @@ keys_at (Collecting docs) = docs.keys
 keys_at (Built history) = history.keys
 
 -- a reading may be out of memory in this line: no refusal stands that is found without memory, as those of the stage, of the
--- identifier zero, of a setup's size, of a bad word, and of a deletion
+-- identifier zero, of a setup's size, of a bad word, and of a deletion. A query is read in memory, so all its refusals may be missed
 abbrev pub MayStop : Stage → Line → Type 0
 MayStop (Collecting docs) (Doc id words) = id ≢ 0
 MayStop (Collecting docs) (SetupLine b big pad) = size_refusal (setup_with docs.documents b big pad) ≡ None
 MayStop (Built history) (AddLine id words) = id ≢ 0
 MayStop (Built history) (Del id) = delete_refusal (Some (run_of history)) id ≡ None
 MayStop (Built history) (Find word) = bad_word 0 (word ∷ []) ≡ None
+MayStop (Built history) (Query fields) = Unit {0}
 MayStop _ _ = ⊥
 
 -- a line comes to this: its refusal is found where it has one, and the reading stands after it
@@ -61,6 +64,9 @@ read_delete_refusal run id = option_or (delete_refusal (Some run) id) (number_re
 
 abbrev pub read_find_refusal : Run → List ℕ → Option Refusal
 read_find_refusal run word = option_or (bad_word 0 (word ∷ [])) (number_refusal (Some run) (Search word ∷ []))
+
+abbrev pub read_query_refusal : Run → List (List ℕ) → Option Refusal
+read_query_refusal run fields = option_or (fields_refusal fields) (number_refusal (Some run) (map (λ word. Search word) (words_of fields)))
 
 -- the documents after one that was refused or collected
 abbrev pub collected_after : Option Refusal → List Document → Document → List Document

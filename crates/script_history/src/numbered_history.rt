@@ -1,9 +1,10 @@
-ghost use Rattle.std.specs.Prelude.{◌≡◌, ◌≤◌, ◌<◌, ◌+◌, ◌^◌, ◌∷◌, [], IfOk, None, Some, OnErr, OnOk, filter, length};
+ghost use Rattle.std.specs.Prelude.{◌≡◌, ◌≢◌, ◌≤◌, ◌<◌, ◌+◌, ◌^◌, ◌∷◌, [], IfOk, None, Some, OnErr, OnOk, filter, length, map};
 ghost use Rattle.std.specs.Int.{div_ceil};
 ghost use Rattle.client_registry.specs.Acceptance as counts;
-ghost use Rattle.client_registry.specs.Command.{is_update};
+ghost use Rattle.client_registry.specs.Command.{Search, is_update};
 ghost use Rattle.client_registry.specs.Setup.{setup_with, setup_words};
 ghost use Rattle.client_registry.specs.HashNumbers.{hash_numbers};
+ghost use Rattle.client_registry.specs.WordBytes.{word_bytes};
 ghost use Rattle.client_registry.specs.Sized.{IsSized, IsSizedCommand, words_named};
 ghost use Rattle.leakage_history.specs.Commands.{command_of};
 ghost use Rattle.leakage_history.specs.HashedRun.{run_of};
@@ -11,7 +12,7 @@ ghost use Rattle.leakage_history.specs.Refusal.{push_refusal};
 ghost use Rattle.script_history.specs.Numbered.{fault_refusal, with_command};
 ghost use Rattle.script_history.specs.Reads.{number_refusal};
 
-use client_registry::{Docs, HashKeys, Size};
+use client_registry::{Docs, HashKeys, Size, Word};
 use leakage_history::{Command, History, HistoryFault};
 use sse_script::Refusal;
 use std::alloc::{AllocError, Global};
@@ -40,7 +41,7 @@ impl Model for NumberedHistory {
 }
 
 impl NumberedHistory {
-    ghost use Rattle.script_history.specs.Numbered.{accept_refusal, command_refusal, run_after, update_refusal as refused_update};
+    ghost use Rattle.script_history.specs.Numbered.{accept_refusal, command_refusal, run_after, run_after_all, update_refusal as refused_update};
 
     // Promise P73 (caller): A numbered history refuses a command as a script would, or as full; its commands, frames and words fit 32 bits.
     //   clauses: ensures; assumes: accepted setup, earlier calls; not: How much memory there is: for 2^32 words or more it always runs out.
@@ -87,6 +88,25 @@ impl NumberedHistory {
             return Ok(Some(Refusal::HistoryFull));
         }
         self.push_accepted(command)?;
+        Ok(None)
+    }
+
+    // Promise P73, also here; clauses: found, after
+    /// Takes a search for each of these words, in order, or none of them if the history can't number so many commands.
+    ///
+    /// Error: out of memory; some of the searches may be taken then.
+    pub fn push_searches(&mut self, words: &[Word]) -> Result<Option<Refusal>, AllocError>
+        requires some { words.now ≢ [] }
+        ensures found { IfOk result (λ found. found ≡ number_refusal (Some (run_of self.old)) (map (λ word. Search word) (map word_bytes words.now))) }
+        ensures after { IfOk result (λ found. run_of self.new ≡ run_after_all found (run_of self.old) (map (λ word. Search word) (map word_bytes words.now))) }
+        ensures keys { self.new.keys ≡ self.old.keys }
+    {
+        if words.len() > u32::MAX as usize - self.history.len() {
+            return Ok(Some(Refusal::HistoryFull));
+        }
+        for word in words {
+            self.push_accepted(Command::Search(*word))?;
+        }
         Ok(None)
     }
 

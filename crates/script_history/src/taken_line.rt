@@ -1,4 +1,4 @@
-ghost use Rattle.std.specs.Prelude.{◌≡◌, ◌≢◌, ◌≤◌, ◌^◌, ◌∷◌, [], IfOk, IsSome, None, OnErr, Some, length};
+ghost use Rattle.std.specs.Prelude.{◌≡◌, ◌≢◌, ◌≤◌, ◌^◌, ◌∷◌, [], IfOk, IsSome, None, OnErr, Some, length, map};
 ghost use Rattle.script_documents.specs.LineDocument.{document};
 ghost use Rattle.script_documents.specs.LineFaults.{SaysRefusal};
 ghost use Rattle.script_documents.specs.Refused.{bad_word, collect_refusal};
@@ -14,11 +14,13 @@ ghost use Rattle.client_registry.specs.Command.{Add, Delete, Search};
 ghost use Rattle.client_registry.specs.HashNumbers.{hash_numbers};
 ghost use Rattle.client_registry.specs.Setup.{setup_with};
 ghost use Rattle.leakage_history.specs.HashedRun.{run_of};
-ghost use Rattle.script_history.specs.Numbered.{run_after};
-ghost use Rattle.script_history.specs.Stages.{IsSetUp, MayStop, Takes, TakesAfter, collected_after, keys_at, read_add_refusal, read_delete_refusal, read_find_refusal};
+ghost use Rattle.bool_search.specs.Fields.{words_of};
+ghost use Rattle.script_history.specs.Numbered.{run_after, run_after_all};
+ghost use Rattle.script_history.specs.Stages.{IsSetUp, MayStop, Takes, TakesAfter, collected_after, keys_at, read_add_refusal, read_delete_refusal, read_find_refusal, read_query_refusal};
 
 use crate::numbered_history::NumberedHistory;
 use crate::stage::Stage;
+use bool_search::Query;
 use client_registry::{DocId, Docs, HashKeys, SizeFault, Sizes, size_of};
 use leakage_history::Command;
 use script_documents::{LineFault, add_document, document_of, word_of};
@@ -26,7 +28,7 @@ use sse_script::{Fields, Line, Refusal};
 use std::alloc::{AllocError, Global};
 
 // Promise P74 (inside): Reading a script, a line is refused for the same cause as in a run, or as full; otherwise it is taken.
-//   clauses: takes, may_stop, hashed; not: The words of a document that is collected or added, and its later refusals: there memory may run out instead.
+//   clauses: takes, may_stop, hashed; not: The words of a document that is collected or added, and its later refusals, and a query after the setup: there memory may run out instead.
 /// Takes a line of a script after its key line, or tells why it is refused, and then the stage is as before. Its tables hash under
 /// these keys. A line without fields, and a key line, change nothing.
 ///
@@ -67,7 +69,7 @@ fn before_setup(
             Ok((Stage::Collecting(docs), found))
         }
         Line::Setup { b, big, pad } => set_up(alloc, keys, docs, Sizes { b, big, pad }),
-        Line::Add { .. } | Line::Del { .. } | Line::Find { .. } => {
+        Line::Add { .. } | Line::Del { .. } | Line::Find { .. } | Line::Query(_) => {
             Ok((Stage::Collecting(docs), Some(Refusal::NotSetUp)))
         }
     }
@@ -105,6 +107,7 @@ fn command_of_line(
         Line::Add { id, words } => add(alloc, history, id, words),
         Line::Del { id } => delete(history, id),
         Line::Find { word } => find(history, word),
+        Line::Query(fields) => query(alloc, history, fields),
     }
 }
 
@@ -190,6 +193,22 @@ fn find(history: &mut NumberedHistory, field: &[u8]) -> Result<Option<Refusal>, 
     match word_of(field, 0) {
         Ok(word) => history.push(Command::Search(word)),
         Err(fault) => refusal_of(fault),
+    }
+}
+
+/// Takes the searches of a `query` line, one for each of its different words.
+fn query(
+    alloc: Global,
+    history: &mut NumberedHistory,
+    fields: Fields<'_>,
+) -> Result<Option<Refusal>, AllocError>
+    ensures found { IfOk result (λ found. found ≡ read_query_refusal (run_of history.old) fields.entry) }
+    ensures after { IfOk result (λ found. run_of history.new ≡ run_after_all found (run_of history.old) (map (λ word. Search word) (words_of fields.entry))) }
+    ensures keys { history.new.keys ≡ history.old.keys }
+{
+    match Query::read(alloc, fields) {
+        Ok(query) => history.push_searches(query.words()),
+        Err(fault) => refusal_of(LineFault::from(fault)),
     }
 }
 

@@ -8,7 +8,7 @@ use Rattle.std.proofs.lemmas.List.Splits.{length-slice_split}
 use Rattle.std.specs.List.{slice_split}
 use Rattle.sse_script.specs.Fields.{is_space, is_field, fields_of}
 use Rattle.sse_script.specs.Numbers.{number_of, key_of}
-use Rattle.sse_script.specs.Lines.{Line, Key, Doc, AddLine, Del, line_of, line_by_kind, key_line, document_line, setup_numbers, setup_line, delete_line, find_line}
+use Rattle.sse_script.specs.Lines.{Line, Key, Doc, AddLine, Del, Query, line_of, line_by_kind, key_line, document_line, setup_numbers, setup_line, delete_line, find_line}
 use Rattle.script_run_texts.specs.LineWords.{words_in}
 
 -- a line has at most one field more than bytes
@@ -70,7 +70,8 @@ module _ (n : ℕ) where
       chosen (bytes_eq kind (codes "setup")) (setup_line fields) _ (few_setup fields) (
       chosen (bytes_eq kind (codes "add")) (document_line AddLine fields) _ (few_document AddLine (λ id words. refl) fields less) (
       chosen (bytes_eq kind (codes "del")) (delete_line fields) _ (few_delete fields) (
-      chosen (bytes_eq kind (codes "find")) (find_line fields) None (few_find fields) tt)))))
+      chosen (bytes_eq kind (codes "find")) (find_line fields) _ (few_find fields) (
+      chosen (bytes_eq kind (codes "query")) (Some (Query fields)) None (let few : 0 ≤ n = omega arith in few) tt))))))
 
 few_of : (bytes : List ℕ) → IfSome (line_of bytes) (λ line. words_in line ≤ 2 ^ 19)
 few_of bytes = by (nat_lt (2 ^ 19) (length bytes)) refl

@@ -78,6 +78,13 @@ impl Input {
         }
     }
 
+    /// The bytes of the line read last, without their newline.
+    pub fn bytes(&self) -> &[u8]
+        ensures { result.now ≡ self.now.line }
+    {
+        &self.line
+    }
+
     // Promise P106, also here; clauses: read, bad
     /// The line read last, by the grammar.
     pub fn line(&self) -> Result<Line<'_>, InputStop>

@@ -22,6 +22,8 @@ pub enum LineResult {
     Deleted { id: u64 },
     /// A search gave these identifiers, rising.
     Found(Vec<u64>),
+    /// A query chose these identifiers, rising.
+    Matched(Vec<u64>),
     /// The command was refused.
     Refused(Refusal),
 }
@@ -56,6 +58,13 @@ impl LineResult {
                 alloc,
                 sink,
                 &Shown::Found {
+                    ids: ids.as_slice(),
+                },
+            ),
+            LineResult::Matched(ids) => print(
+                alloc,
+                sink,
+                &Shown::Matched {
                     ids: ids.as_slice(),
                 },
             ),

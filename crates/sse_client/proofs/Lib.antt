@@ -7,11 +7,15 @@ pub mod PagesRead
 pub mod PagesUnderWay
 pub mod PagesPassed
 pub mod OwnMemory
+pub mod WordsSearched
 pub mod NextNumber
 pub mod PartOfExchange
 pub mod SetupPlan
 pub mod PlansOfUpdates
 pub mod CommandTaken
+pub mod RisingLists
+pub mod QueryAnswered
+pub mod QueryTaken
 pub mod UpdateCarriedOut
 pub mod KeyLineRead
 pub mod RunGoesOn

@@ -28,31 +28,6 @@ use Rattle.sse_client.proofs.PagesRead.{joined, full_pages, pages-full, page-pag
 use Rattle.sse_client.proofs.PartOfExchange.{AreCut-first, no_notice-answer, shows_fault}
 use Rattle.sse_client.proofs.PagesUnderWay.{IsReading, page_replies, page_replies-push, adds_reply, joined_ids, all_received, full_in_replies}
 
--- the last page ends the search
-pub HasSearched-last : (old now new : Told) (token items items' found : List ℕ) (count : ℕ) (reply ids : List ℕ) → IsReading old now token items count
-    → Adds now new (Received reply ∷ []) → IsNextPage count reply true ids → items' ≡ items ++ ids → found ≡ in_order items' → HasSearched old new (SearchFrame token) found
-HasSearched-last old now new token items items' found count reply ids reading one page more rising =
-    let answer : List ℕ = joined reading.took ++ ids in
-    let replies : List (List ℕ) = page_replies reading.took ++ reply ∷ [] in
-    let some : 1 ≤ length reading.took → 1 ≤ length ids = λ before. page.some (omega (arith, before, reading.counted)) in
-    record {
-      answer = answer;
-      exchanged = record {
-        events = Sent (frame_bytes (SearchFrame token)) reading.mark ∷ map Received replies;
-        adds = adds_reply old now new token items count reading reply one;
-        exchanged = record {
-          ids =
-              All-cons (All IsIdentifier) answer []
-              (All-from_recursion IsIdentifier answer (AllByRecursion-append IsIdentifier (joined reading.took) ids (joined_ids reading.took reading.each) page.reply.grammar.each))
-              (All-nil _);
-          count = refl;
-          each =
-              ap (λ x. Sent (frame_bytes (SearchFrame token)) Unknown ∷ x) (bare_received replies ∙ ap (map Received) (all_received reading.took reply ids reading.each page.reply some) ∙ sym (events_received (pages answer)) ∙ ap (map as_event) (sym (append-nil (map texts.Received (pages answer)))));
-        };
-      };
-      rising = rising ∙ ap in_order (more ∙ ap (λ x. x ++ ids) reading.items_are);
-    }
-
 -- Where it is cut short.
 
 -- full pages are the first of an answer of one identifier more
@@ -150,3 +125,33 @@ HasCut-refused old now new token items count reply fault reading few one refused
       AreCut-first (SearchFrame token) [] _ (cause_of_fault fault reply)
       (refl, (page_replies reading.took ++ reply ∷ [], refl, shows_refused reading.took count reply reading.each few reading.counted fault refused));
 }
+
+-- the last page ends the search
+pub HasSearched-last : (old now new : Told) (token items items' found : List ℕ) (count : ℕ) (reply ids : List ℕ) → IsReading old now token items count
+    → Adds now new (Received reply ∷ []) → IsNextPage count reply true ids → items' ≡ items ++ ids → found ≡ in_order items' → HasSearched old new (SearchFrame token) found
+HasSearched-last old now new token items items' found count reply ids reading one page more rising =
+    let answer : List ℕ = joined reading.took ++ ids in
+    let replies : List (List ℕ) = page_replies reading.took ++ reply ∷ [] in
+    let some : 1 ≤ length reading.took → 1 ≤ length ids = λ before. page.some (omega (arith, before, reading.counted)) in
+    record {
+      answer = answer;
+      exchanged = record {
+        events = Sent (frame_bytes (SearchFrame token)) reading.mark ∷ map Received replies;
+        adds = adds_reply old now new token items count reading reply one;
+        exchanged = record {
+          ids =
+              All-cons (All IsIdentifier) answer []
+              (All-from_recursion IsIdentifier answer (AllByRecursion-append IsIdentifier (joined reading.took) ids (joined_ids reading.took reading.each) page.reply.grammar.each))
+              (All-nil _);
+          count = refl;
+          each =
+              ap (λ x. Sent (frame_bytes (SearchFrame token)) Unknown ∷ x) (bare_received replies ∙ ap (map Received) (all_received reading.took reply ids reading.each page.reply some) ∙ sym (events_received (pages answer)) ∙ ap (map as_event) (sym (append-nil (map texts.Received (pages answer)))));
+        };
+      };
+      rising = rising ∙ ap in_order (more ∙ ap (λ x. x ++ ids) reading.items_are);
+      out_of_memory = record {
+        events = Sent (frame_bytes (SearchFrame token)) reading.mark ∷ map Received replies;
+        adds = adds_reply old now new token items count reading reply one;
+        cut = AreCut-first (SearchFrame token) [] _ cause.NoMemory (refl, (replies, refl, inl (page_allowed reading.took reply true ids reading.each (subst (λ n. IsNextPage n reply true ids) reading.counted page))));
+      };
+    }

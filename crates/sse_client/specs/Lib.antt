@@ -5,6 +5,7 @@ pub mod UpdatePlans
 pub mod Stages
 pub mod Progress
 pub mod Exchanges
+pub mod Queried
 pub mod Calls
 pub mod Steps
 pub mod Stands

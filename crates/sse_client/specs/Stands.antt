@@ -18,7 +18,7 @@ use Rattle.script_documents.specs.Refused.{bad_word}
 use Rattle.def_script_meaning.specs.Refused.{delete_refusal}
 use Rattle.def_script_meaning.specs.Runs.{ended, Moment, RunsFrom, OpensFrom}
 use Rattle.def_script_meaning.specs.Stops as ends
-use Rattle.sse_script.specs.Lines.{Line, Doc, SetupLine, AddLine, Del, Find}
+use Rattle.sse_script.specs.Lines.{Line, Doc, SetupLine, AddLine, Del, Find, Query}
 use Rattle.sse_client.specs.Stages.{key_of, hash_keys_of, hash_keys_under}
 use Rattle.script_run_texts.specs.LineResultViews.{line_result_view, refuses}
 use Rattle.script_run_texts.specs.Stops.{command_cause, input_cause}
@@ -47,13 +47,14 @@ pub record IsAt (f : KeyedFn) (stage : Stage) (place : Place) : Type 0 where
   pub hashed : hash_keys_of stage ≡ hash_keys_under f place.key
 
 -- a session may stop in this line: no refusal stands that is found without memory, as those of the stage, of the identifier
--- zero, of a setup's size, of a bad word, and of a deletion
+-- zero, of a setup's size, of a bad word, and of a deletion. A query is read in memory, so all its refusals may be missed
 abbrev pub MayStop : KeyedFn → Stage → Line → Type 0
 MayStop f (Collecting client docs) (Doc id words) = id ≢ 0
 MayStop f (Collecting client docs) (SetupLine b big pad) = size_refusal (setup_with docs.documents b big pad) ≡ None
 MayStop f (Searching client) (AddLine id words) = id ≢ 0
 MayStop f (Searching client) (Del id) = (place : Place) → IsAt f (Searching client) place → delete_refusal place.history id ≡ None
 MayStop f (Searching client) (Find word) = bad_word 0 (word ∷ []) ≡ None
+MayStop f (Searching client) (Query fields) = Unit {0}
 MayStop f _ _ = ⊥
 
 -- what is seen of a session but for what it prints: what the link told, and the records that are kept

@@ -1,10 +1,10 @@
-//! The client's session: reads a script, keeps its words and documents to itself, sends frames over a link, and
-//! prints what came back. It depends on `client_core` for what is sent and what a reply means, on `sse_script` and
-//! `script_documents` for lines, on `client_journal` and `client_recorder` for records, and on the traits of link and
-//! devices. `sse_run` is all that a client program does; `run_on_disk` begins or resumes a history on a disk;
-//! `run_over_server`, `run_over_store`, `run_in_process` and `run_on_bytes` are the same with a server, a store, both
-//! files or a script in this process. A record is kept before the first frame of its command is sent. First and resumed runs
-//! share one loop, and one function carries every kind of update, so each is proved once.
+//! The client's session: reads a script, keeps its words and documents to itself, sends frames over a link, and prints
+//! what came back. It depends on `client_core` for what is sent and what a reply means, on `sse_script` and
+//! `script_documents` for lines, on `bool_search` for queries, on `client_journal` and `client_recorder` for records,
+//! and on the traits of link and devices. `sse_run` is all that a client program does; `run_on_disk` begins or resumes
+//! a history on a disk; `run_over_server`, `run_over_store`, `run_in_process` and `run_on_bytes` are the same with a
+//! server, a store, both files or a script in this process. A record is kept before the first frame of its command is
+//! sent. First and resumed runs share one loop, and one function carries every kind of update, so each is proved once.
 //! Proved: of a whole run the printed lines, frames, records, the cause of its stop and the status, over any link
 //! (docs/PROMISES.md).
 //! Side: client.
@@ -18,6 +18,7 @@ mod lines;
 mod on_disk;
 mod over_store;
 mod peer_fault;
+mod query_run;
 mod reply_buffer;
 mod resumed_run;
 mod run;

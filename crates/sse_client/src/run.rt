@@ -76,6 +76,12 @@ use word_keys::MasterKey;
 //   clauses: run; fields: IsRun.headline, Headline.simulated, IsSimulated.made, IsSimulated.same, HasGoneOn.headline, Rejoined.simulated, IsSimulatedAfter.makes, IsSimulatedAfter.same;
 //     assumes: observable devices, honest link, no collision, no device fault, enough memory; checks: .ci/leakage; not: That the leakage is harmless; timing. That real values look
 //     random is assumed. Of `more` also a resumable state is assumed; it sends the updates that its server was missing again, as they were first made.
+// Promise P244 (user): A query line asks each of its different words once, in order of first appearance, and lists what it chooses of the answers received.
+//   clauses: run; fields: IsRun.opens; assumes: observable devices; not: Over a link that isn't honest the answers may be wrong. The run may stop within the line, for a visible
+//     cause or out of memory.
+// Promise P245 (user): In an undisturbed run a query line lists exactly the live documents that the query chooses, each once, in rising order.
+//   clauses: run; fields: IsRun.headline, Headline.printed, Headline.session; assumes: observable devices, honest link, no collision, no device fault, enough memory; not: That the
+//     searches of its words leak no more than searches on their own: the server sees that they come in a row.
 /// All that a client program does with these words of its command line: `run` carries out the script
 /// of the source over the link, keeps the record of each setup, addition and deletion before anything
 /// of it is sent, and prints to the sink. Other words end with status 2 and `stopped: words`, and

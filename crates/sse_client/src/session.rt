@@ -25,6 +25,7 @@ ghost use Rattle.sse_script.specs.declared.refusal.Refusal.{Refusal as Reason};
 
 use crate::frame_exchange::catch_up;
 use crate::kept_records::keep_setup;
+use crate::query_run::run_query;
 use crate::reply_buffer::ReplyBuffer;
 use crate::search_run::search;
 use crate::tools::Tools;
@@ -51,7 +52,7 @@ pub(crate) enum Stage {
 // Promise P136 (inside): Wherever the session stands, a command exchanges exactly its frames and shows its lines with the answers received, or stops the run there.
 //   clauses: takes, stops; assumes: observable devices, earlier calls; not: The traffic over a link that isn't observable.
 // Promise P137 (inside): No stop comes in place of a refusal that is found without memory.
-//   clauses: may_stop; assumes: earlier calls; not: The words of a document that is collected or added, and its later refusals: there memory may run out instead.
+//   clauses: may_stop; assumes: earlier calls; not: The words of a document that is collected or added, and its later refusals, and a query after the setup: there memory may run out instead.
 /// Carries out a line of the script that is no key line.
 pub(crate) fn take_line<K: Keyed, L: Link, R: Recorder>(
     tools: &Tools<'_, K>,
@@ -91,6 +92,7 @@ pub(crate) fn take_line<K: Keyed, L: Link, R: Recorder>(
         ),
         Line::Del { id } => delete(tools, link, recorder, buffer, stage, id),
         Line::Find { word } => find(tools, link, buffer, stage, word),
+        Line::Query(fields) => query(tools, link, buffer, stage, fields),
     }
 }
 
@@ -126,7 +128,7 @@ fn collect(
 }
 
 /// What a line without a line of its own comes to: nothing, or its refusal.
-fn refusal_of(done: Result<(), LineFault>) -> Result<LineResult, CommandStop>
+pub(crate) fn refusal_of(done: Result<(), LineFault>) -> Result<LineResult, CommandStop>
     ensures nothing { OnOk done (result ≡ Ok LineResult.Nothing) }
     ensures refused { (refusal : Reason) → done ≡ Err (LineFault.Refused refusal) → result ≡ Ok (LineResult.Refused refusal) }
     ensures memory { IsErrOf done LineFault.NoMemory → result ≡ Err CommandStop.Memory }
@@ -369,5 +371,38 @@ fn find<K: Keyed, L: Link>(
             };
             Ok((Stage::Searching(client), outcome))
         }
+    }
+}
+
+// Promise P243 (inside): Wherever the session stands, a query line is refused, or searches each word once and shows what it chooses, or stops the run.
+//   clauses: takes, stops, may_stop, same_key; assumes: observable devices, earlier calls
+/// Carries out a `query` line.
+fn query<K: Keyed, L: Link>(
+    tools: &Tools<'_, K>,
+    link: &mut L,
+    buffer: &mut ReplyBuffer,
+    stage: Stage,
+    fields: Fields<'_>,
+) -> Result<(Stage, LineResult), CommandStop>
+    requires prepared { tools.now.master ≡ key_of stage }
+    ensures takes { IfOk result (λ done. (kept : Kept) → Takes (keyed_fn K.prf K.pad) stage (requests.Query fields.entry) (seen (L.transcript link.old) kept) (seen (L.transcript link.new) kept) done.0 done.1) }
+    ensures stops { IfErr result (λ stop. (kept : Kept) → StopsWithin (keyed_fn K.prf K.pad) stage (requests.Query fields.entry) (seen (L.transcript link.old) kept) (seen (L.transcript link.new) kept) (command_cause stop)) }
+    ensures may_stop { OnErr result (MayStop (keyed_fn K.prf K.pad) stage (lines.Query fields.entry)) }
+    ensures same_key { IfOk result (λ done. key_of done.0 ≡ key_of stage) }
+    ensures no_record { IfErr result (λ stop. (n : ℕ) → KeepCommandCause n n stop) }
+    ensures keeps { KeepsLink CommandCause (shows (L.transcript link.old) (L.faults link.old) (L.began link.old)) (shows (L.transcript link.new) (L.faults link.new) (L.began link.new)) result }
+{
+    match stage {
+        Stage::Collecting(client, docs) => Ok((
+            Stage::Collecting(client, docs),
+            LineResult::Refused(Refusal::NotSetUp),
+        )),
+        Stage::Searching(client) => match run_query(tools, &client, fields, link, buffer) {
+            Ok(outcome) => Ok((Stage::Searching(client), outcome)),
+            Err(stop) => {
+                drop(client);
+                Err(stop)
+            }
+        },
     }
 }

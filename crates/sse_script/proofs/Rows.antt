@@ -2,7 +2,7 @@
 use Rattle.std.proofs.Common.{◌≡◌, ◌∷◌, [], ◌++◌, codes, Some, None, refl}
 use Rattle.std.specs.Fmt.{digits}
 use Rattle.hex.proofs.OnLiterals.{hex_on_literals}
-use Rattle.sse_script.specs.Lines.{line_of, Empty, Key, Doc, SetupLine, AddLine, Find}
+use Rattle.sse_script.specs.Lines.{line_of, Empty, Key, Doc, SetupLine, AddLine, Find, Query}
 use Rattle.sse_script.specs.Shown as shown
 use Rattle.sse_script.specs.declared.refusal.Refusal.TheVariants as refusals
 use Rattle.sse_script.specs.Stops.{cause_status}
@@ -26,6 +26,12 @@ add_line = refl
 
 find_line : line_of (codes "find twin") ≡ Some (Find (codes "twin"))
 find_line = refl
+
+query_line : line_of (codes "query =a not  ( =b or =c )") ≡ Some (Query (codes "=a" ∷ codes "not" ∷ codes "(" ∷ codes "=b" ∷ codes "or" ∷ codes "=c" ∷ codes ")" ∷ []))
+query_line = refl
+
+no_query : line_of (codes "query") ≡ Some (Query [])
+no_query = refl
 
 key_line : line_of (codes "key " ++ codes "000102030405060708090a0b0c0d0e0f101112131415161718191A1B1C1D1E1F")
     ≡ Some (Key (0 ∷ 1 ∷ 2 ∷ 3 ∷ 4 ∷ 5 ∷ 6 ∷ 7 ∷ 8 ∷ 9 ∷ 10 ∷ 11 ∷ 12 ∷ 13 ∷ 14 ∷ 15 ∷ 16 ∷ 17 ∷ 18 ∷ 19 ∷ 20 ∷ 21 ∷ 22 ∷ 23 ∷ 24 ∷ 25 ∷ 26 ∷ 27 ∷ 28 ∷ 29 ∷ 30 ∷ 31 ∷ []))
@@ -60,6 +66,18 @@ found_text = refl
 found_none_text : text_of (shown.Found []) ≡ codes "found 0:" ++ 10 ∷ []
 unfolding digits
 found_none_text = refl
+
+matched_text : text_of (shown.Matched (3 ∷ 9 ∷ 12 ∷ [])) ≡ codes "matched 3: 3 9 12" ++ 10 ∷ []
+unfolding digits
+matched_text = refl
+
+many_fields_text : text_of (shown.Refused (refusals.TooManyFields 65)) ≡ codes "refused: query has 65 fields" ++ 10 ∷ []
+unfolding digits
+many_fields_text = refl
+
+wrong_query_text : text_of (shown.Refused (refusals.BadQuery 2)) ≡ codes "refused: query is wrong at 2" ++ 10 ∷ []
+unfolding digits
+wrong_query_text = refl
 
 refused_text : text_of (shown.Refused (refusals.BadParameter 2 3)) ≡ codes "refused: Q is 3" ++ 10 ∷ []
 unfolding digits

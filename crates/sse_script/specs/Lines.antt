@@ -13,6 +13,7 @@ pub data Line : Type 0 where
   AddLine : (id : ℕ) (words : List (List ℕ)) → Line
   Del : (id : ℕ) → Line
   Find : (word : List ℕ) → Line
+  Query : (fields : List (List ℕ)) → Line
 
 -- `key`: 64 hexadecimal digits
 abbrev pub key_line : List (List ℕ) → Option Line
@@ -55,6 +56,7 @@ line_by_kind (kind ∷ fields) =
     else if bytes_eq kind (codes "add") then document_line AddLine fields
     else if bytes_eq kind (codes "del") then delete_line fields
     else if bytes_eq kind (codes "find") then find_line fields
+    else if bytes_eq kind (codes "query") then Some (Query fields)
     else None
 
 -- the line of at most 2^19 bytes that these bytes are

@@ -27,6 +27,7 @@ pub data Shown : Type 0 where
   Added : (id : ℕ) → Shown
   Deleted : (id : ℕ) → Shown
   Found : (ids : List ℕ) → Shown
+  Matched : (ids : List ℕ) → Shown
   Resumed : (frames : ℕ) → Shown
   Refused : Refusal → Shown
   Stopped : Cause → Shown

@@ -3,9 +3,9 @@ use Rattle.std.specs.Prelude.{ℕ, List, [], ◌∷◌, ◌++◌, length, take, 
 use Rattle.std.specs.List.{concat}
 use Rattle.hex.specs.Hex.{encode_lower}
 use Rattle.sse_script.specs.declared.refusal.Refusal.{Refusal}
-use Rattle.sse_script.specs.declared.refusal.Refusal.TheVariants.{NotSetUp, SetUpAlready, Zero, TooLong, BadByte, TooManyWords, RepeatedWord, AlreadyLive, UnknownDocument, TooManyDocuments, TooManyPairs, TooManyBytes, BadParameter, ListTooLong, CounterFull, HistoryFull}
+use Rattle.sse_script.specs.declared.refusal.Refusal.TheVariants.{NotSetUp, SetUpAlready, Zero, TooLong, BadByte, TooManyWords, RepeatedWord, AlreadyLive, UnknownDocument, TooManyDocuments, TooManyPairs, TooManyBytes, BadParameter, ListTooLong, CounterFull, HistoryFull, TooManyFields, BadQuery}
 use Rattle.sse_script.specs.Shown.{Cause, BadWords, BadLine, SourceFault, LinkFault, DiskFault, NoMemory, LabelClash, PlaceClash, NumberClash, Clash, PeerElsewhere, BadReply, NoJournal, HasRecords, BadRecord, WrongKey}
-use Rattle.sse_script.specs.Shown.{Shown, SetUp, Added, Deleted, Found, Resumed, Refused, Stopped}
+use Rattle.sse_script.specs.Shown.{Shown, SetUp, Added, Deleted, Found, Matched, Resumed, Refused, Stopped}
 
 -- a parameter of a setup by its number
 abbrev pub parameter_name : ℕ → List ℕ
@@ -29,6 +29,8 @@ refusal_text (BadParameter which value) = parameter_name which ∷ codes " is " 
 refusal_text (ListTooLong word n) = codes "list of word " ∷ decimal word ∷ codes " has " ∷ decimal n ∷ codes " identifiers" ∷ []
 refusal_text (CounterFull position) = codes "counter of word " ∷ decimal position ∷ codes " is full" ∷ []
 refusal_text HistoryFull = codes "history is full" ∷ []
+refusal_text (TooManyFields n) = codes "query has " ∷ decimal n ∷ codes " fields" ∷ []
+refusal_text (BadQuery place) = codes "query is wrong at " ∷ decimal place ∷ []
 
 -- two of a kind that are equal
 abbrev pub equal_text : List ℕ → ℕ → ℕ → List (List ℕ)
@@ -64,6 +66,7 @@ line_text (SetUp words blocks) = codes "set up " ∷ decimal words ∷ codes " w
 line_text (Added id) = codes "added " ∷ decimal id ∷ []
 line_text (Deleted id) = codes "deleted " ∷ decimal id ∷ []
 line_text (Found ids) = codes "found " ∷ decimal (length ids) ∷ codes ":" ∷ ids_text ids ∷ []
+line_text (Matched ids) = codes "matched " ∷ decimal (length ids) ∷ codes ":" ∷ ids_text ids ∷ []
 line_text (Resumed frames) = codes "resumed " ∷ decimal frames ∷ codes " frames" ∷ []
 line_text (Refused refusal) = codes "refused: " ∷ refusal_text refusal
 line_text (Stopped cause) = codes "stopped: " ∷ cause_text cause

@@ -20,4 +20,6 @@ pub enum Line<'a> {
     Del { id: u64 },
     /// `find`: the word to be searched, as it stands.
     Find { word: &'a [u8] },
+    /// `query`: the fields of a query, as they stand: operands, `and`, `or`, `not` and parentheses.
+    Query(Fields<'a>),
 }

@@ -60,6 +60,8 @@ fn by_kind<'a>(kind: &[u8], fields: Fields<'a>) -> Option<Line<'a>>
         delete_line(fields)
     } else if kind == b"find".as_slice() {
         find_line(fields)
+    } else if kind == b"query".as_slice() {
+        Some(Line::Query(fields))
     } else {
         None
     }

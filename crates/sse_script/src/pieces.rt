@@ -24,13 +24,13 @@ pub fn at_most_16(bytes: &[u8]) -> &[u8]
     }
 }
 
-/// How many identifiers there are, and each after a space; the line's end after it.
-pub fn found(alloc: Global, ids: &[u64]) -> Result<String, AllocError>
+/// This name, how many identifiers there are, and each after a space; the line's end after it.
+pub fn listed(alloc: Global, name: &str, ids: &[u64]) -> Result<String, AllocError>
     ensures { IfOk result (λ text. string_bytes text
-        ≡ concat (codes "found " ∷ decimal (length ids.now) ∷ codes ":" ∷ ids_text ids.now ∷ (10 ∷ []) ∷ [])) }
+        ≡ concat (name.now ∷ decimal (length ids.now) ∷ codes ":" ∷ ids_text ids.now ∷ (10 ∷ []) ∷ [])) }
 {
     let count = ids.len();
-    let mut text = format!(in alloc; "found {count}:")?;
+    let mut text = format!(in alloc; "{name}{count}:")?;
     push_ids(&mut text, ids)?;
     text.push_str("\n")?;
     Ok(text)

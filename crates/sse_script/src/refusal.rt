@@ -38,6 +38,10 @@ pub enum Refusal {
     CounterFull { position: u32 },
     /// There were as many updates as can be numbered.
     HistoryFull,
+    /// A query of `n` fields, more than 64.
+    TooManyFields { n: u64 },
+    /// The field at `place`, from 0, is one that no query has there; the place after the last field is the query's end.
+    BadQuery { place: u64 },
 }
 
 impl fmt::Display for Refusal {
@@ -72,6 +76,8 @@ impl fmt::Display for Refusal {
             ),
             Refusal::CounterFull { position } => write!(f, "counter of word {position} is full"),
             Refusal::HistoryFull => f.write_str("history is full"),
+            Refusal::TooManyFields { n } => write!(f, "query has {n} fields"),
+            Refusal::BadQuery { place } => write!(f, "query is wrong at {place}"),
         }
     }
 }

@@ -11,6 +11,8 @@ pub enum Shown<'a> {
     Deleted { id: u64 },
     /// A search's identifiers, in the order in which they are printed.
     Found { ids: &'a [u64] },
+    /// The identifiers that a query chooses, in the order in which they are printed.
+    Matched { ids: &'a [u64] },
     /// A run went on from a journal, and sent so many frames again.
     Resumed { frames: u32 },
     /// A command was refused.

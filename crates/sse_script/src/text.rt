@@ -3,7 +3,7 @@ ghost use Rattle.sse_script.specs.ShownViews.{shown_view};
 ghost use Rattle.sse_script.specs.Texts.{text_of};
 
 use crate::Shown;
-use crate::pieces::{found, one};
+use crate::pieces::{listed, one};
 use crate::stop_line::stop_line;
 use std::alloc::{AllocError, Global};
 
@@ -17,7 +17,8 @@ pub fn line_text(alloc: Global, shown: &Shown<'_>) -> Result<String, AllocError>
         }
         Shown::Added { id } => one(alloc, "added ", id, "\n"),
         Shown::Deleted { id } => one(alloc, "deleted ", id, "\n"),
-        Shown::Found { ids } => found(alloc, ids),
+        Shown::Found { ids } => listed(alloc, "found ", ids),
+        Shown::Matched { ids } => listed(alloc, "matched ", ids),
         Shown::Resumed { frames } => one(alloc, "resumed ", u64::from(frames), " frames\n"),
         Shown::Refused(refusal) => format!(in alloc; "refused: {refusal}\n"),
         Shown::Stopped(cause) => String::from_str(alloc, stop_line(&cause).as_str()),

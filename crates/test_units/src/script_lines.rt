@@ -51,6 +51,8 @@ twin
 Doc 1
 keys
 find a\r
+query =a and  =b
+query
 ";
 
 /// What each of them says: the kind, numbers in decimal, the key and words in hexadecimal digits; by an independent reader of the
@@ -102,15 +104,15 @@ bad 7
 bad 7
 bad 7
 find 610d
+query 3d61 616e64 3d62
+query
 ";
 
 fn with_words(
     alloc: Global,
-    kind: &str,
-    id: u64,
+    mut text: String,
     mut words: Fields<'_>,
 ) -> Result<String, AllocError> {
-    let mut text = format!(in alloc; "{kind} {id}")?;
     while let Some(word) = words.next() {
         let digits = in_hex(alloc, word)?;
         text.push_str(" ")?;
@@ -131,14 +133,15 @@ fn said(alloc: Global, line: &[u8]) -> Result<String, AllocError> {
             let digits = in_hex(alloc, &key)?;
             format!(in alloc; "key {digits}")
         }
-        Ok(Line::Doc { id, words }) => with_words(alloc, "doc", id, words),
+        Ok(Line::Doc { id, words }) => with_words(alloc, format!(in alloc; "doc {id}")?, words),
         Ok(Line::Setup { b, big, pad }) => format!(in alloc; "setup {b} {big} {pad}"),
-        Ok(Line::Add { id, words }) => with_words(alloc, "add", id, words),
+        Ok(Line::Add { id, words }) => with_words(alloc, format!(in alloc; "add {id}")?, words),
         Ok(Line::Del { id }) => format!(in alloc; "del {id}"),
         Ok(Line::Find { word }) => {
             let digits = in_hex(alloc, word)?;
             format!(in alloc; "find {digits}")
         }
+        Ok(Line::Query(fields)) => with_words(alloc, String::from_str(alloc, "query")?, fields),
         Err(BadLine(number)) => format!(in alloc; "bad {number}"),
     }
 }

@@ -44,6 +44,9 @@ returns-in-Add-clause-takes c =
       | inl is ↦ of_own P read (requests.AddLine is.0 is.1) (ap (λ (line : Line). line_read (line_view line)) is.2) (λ place at. refused-before place at.1 (requests.AddLine is.0 is.1) NotSetUp (Collecting docs) refl at) request e
       | inr others ↦ elim others [
         | inl is ↦ of_own P read (requests.Del is.0) (ap (λ (line : Line). line_read (line_view line)) is.1) (λ place at. refused-before place at.1 (requests.Del is.0) NotSetUp (Collecting docs) refl at) request e
-        | inr is ↦ of_own P read (requests.Find is.0.now) (ap (λ (line : Line). line_read (line_view line)) is.1) (λ place at. refused-before place at.1 (requests.Find is.0.now) NotSetUp (Collecting docs) refl at) request e
+        | inr last ↦ elim last [
+          | inl is ↦ of_own P read (requests.Find is.0.now) (ap (λ (line : Line). line_read (line_view line)) is.1) (λ place at. refused-before place at.1 (requests.Find is.0.now) NotSetUp (Collecting docs) refl at) request e
+          | inr is ↦ of_own P read (requests.Query is.0) (ap (λ (line : Line). line_read (line_view line)) is.1) (λ place at. refused-before place at.1 (requests.Query is.0) NotSetUp (Collecting docs) refl at) request e
+        ]
       ]
     ]

@@ -1,5 +1,7 @@
 use Rattle.std.proofs.Common.{◌≡◌, ◌∷◌, [], Some, refl, ap, sym, subst, ◌∙◌, inl, inr}
-use Rattle.std.specs.Prelude.{OnErr}
+use Rattle.std.specs.Prelude.{OnErr, map}
+use Rattle.bool_search.specs.Fields.{words_of}
+use Rattle.bool_search.specs.LineRefusals.{fields_refusal}
 use Rattle.client_registry.specs.Command.{Add, Delete, Search}
 use Rattle.client_registry.specs.Live.{matching_in}
 use Rattle.leakage_history.specs.HashedRun.{run_of}
@@ -7,13 +9,13 @@ use Rattle.script_documents.specs.LineDocument.{document}
 use Rattle.script_documents.specs.Refused.{bad_word}
 use Rattle.def_script_meaning.specs.Lines as requests
 use Rattle.def_script_meaning.specs.Lines.{line_read}
-use Rattle.def_script_meaning.specs.Outcome.{Says, Finds}
+use Rattle.def_script_meaning.specs.Outcome.{Says, Finds, Matches}
 use Rattle.def_script_meaning.specs.Refused.{add_refusal, delete_refusal}
 use Rattle.sse_script.specs.Shown.{Added, Deleted}
 use Rattle.sse_script.specs.Views.{line_view}
 use Rattle.sse_script.specs.declared.line.Line.{Line}
 use Rattle.sse_script.specs.declared.refusal.Refusal.TheVariants.{SetUpAlready}
-use Rattle.script_history.proofs.LinesTaken.{IfOk-both, command-behind, of_own, refused-behind}
+use Rattle.script_history.proofs.LinesTaken.{IfOk-both, command-behind, commands-behind, of_own, refused-behind, stops_any}
 use Rattle.script_history.specs.Stages.{MayStop, TakesAfter}
 use Rattle.script_history.specs.declared.stage.Stage.TheVariants.{Built}
 use Rattle.script_history.proofs.taken_line.command_of_line.Goals as goal
@@ -58,6 +60,18 @@ returns-in-Find-clause-takes c =
 
 pub returns-in-Find-clause-may_stop : goal.returns-in-Find-clause-may_stop
 returns-in-Find-clause-may_stop c = subst (λ (line : Line). OnErr c.find.result (MayStop (Built c.args.history.now) (line_view line))) (sym c.in-Find.is) c.find.ensures.may_stop
+
+pub returns-in-Query-clause-takes : goal.returns-in-Query-clause-takes
+returns-in-Query-clause-takes c =
+    let run = run_of c.args.history.now in
+    let next = run_of c.query.new.history in
+    let fields = c.in-Query.fields in
+    let own = requests.Query fields in
+    IfOk-both c.query.result _ _ _ (λ found same went. of_own (λ q. TakesAfter run q next found) (line_read (line_view c.args.line)) own (ap (λ (line : Line). line_read (line_view line)) c.in-Query.is)
+    (λ place at. commands-behind place run at own (fields_refusal fields) found (map (λ word. Search word) (words_of fields)) (Matches fields (map (matching_in (Some run)) (words_of fields))) next refl same went)) c.query.ensures.found c.query.ensures.after
+
+pub returns-in-Query-clause-may_stop : goal.returns-in-Query-clause-may_stop
+returns-in-Query-clause-may_stop c = subst (λ (line : Line). OnErr c.query.result (MayStop (Built c.args.history.now) (line_view line))) (sym c.in-Query.is) (stops_any c.query.result)
 
 pub returns-in-Doc-clause-takes : goal.returns-in-Doc-clause-takes
 returns-in-Doc-clause-takes c =

@@ -53,10 +53,20 @@ returns-in-Find-clause-takes g c =
     takes_own (keyed_fn g.K.Keyed.prf g.K.Keyed.pad) c.args.stage (seen (g.L.Link.transcript c.args.link.now) (g.R.Recorder.kept c.args.recorder.now)) (seen (g.L.Link.transcript c.find.new.link) (g.R.Recorder.kept c.args.recorder.now)) (line_read (line_view c.args.line)) (requests.Find c.in-Find.word.now)
     (ap (λ (line : Line). line_read (line_view line)) c.in-Find.is) c.find.result (of_good c.find.result _ _ (λ done takes. takes (g.R.Recorder.kept c.args.recorder.now)) c.find.ensures.takes)
 
+pub returns-in-Query-clause-takes : goal.returns-in-Query-clause-takes
+returns-in-Query-clause-takes g c =
+    takes_own (keyed_fn g.K.Keyed.prf g.K.Keyed.pad) c.args.stage (seen (g.L.Link.transcript c.args.link.now) (g.R.Recorder.kept c.args.recorder.now)) (seen (g.L.Link.transcript c.query.new.link) (g.R.Recorder.kept c.args.recorder.now)) (line_read (line_view c.args.line)) (requests.Query c.in-Query.fields)
+    (ap (λ (line : Line). line_read (line_view line)) c.in-Query.is) c.query.result (of_good c.query.result _ _ (λ done takes. takes (g.R.Recorder.kept c.args.recorder.now)) c.query.ensures.takes)
+
 pub returns-in-Find-clause-stops : goal.returns-in-Find-clause-stops
 returns-in-Find-clause-stops g c =
     stops_own (keyed_fn g.K.Keyed.prf g.K.Keyed.pad) c.args.stage (seen (g.L.Link.transcript c.args.link.now) (g.R.Recorder.kept c.args.recorder.now)) (seen (g.L.Link.transcript c.find.new.link) (g.R.Recorder.kept c.args.recorder.now)) (line_read (line_view c.args.line)) (requests.Find c.in-Find.word.now)
     (ap (λ (line : Line). line_read (line_view line)) c.in-Find.is) c.find.result (of_fault c.find.result _ _ (λ stop stops. stops (g.R.Recorder.kept c.args.recorder.now)) c.find.ensures.stops)
+
+pub returns-in-Query-clause-stops : goal.returns-in-Query-clause-stops
+returns-in-Query-clause-stops g c =
+    stops_own (keyed_fn g.K.Keyed.prf g.K.Keyed.pad) c.args.stage (seen (g.L.Link.transcript c.args.link.now) (g.R.Recorder.kept c.args.recorder.now)) (seen (g.L.Link.transcript c.query.new.link) (g.R.Recorder.kept c.args.recorder.now)) (line_read (line_view c.args.line)) (requests.Query c.in-Query.fields)
+    (ap (λ (line : Line). line_read (line_view line)) c.in-Query.is) c.query.result (of_fault c.query.result _ _ (λ stop stops. stops (g.R.Recorder.kept c.args.recorder.now)) c.query.ensures.stops)
 
 pub returns-in-Add-clause-takes : goal.returns-in-Add-clause-takes
 returns-in-Add-clause-takes g c =
@@ -109,8 +119,14 @@ returns-in-Del-clause-may_stop g c = subst (λ (line : Line). OnErr c.delete.res
 pub returns-in-Find-clause-may_stop : goal.returns-in-Find-clause-may_stop
 returns-in-Find-clause-may_stop g c = subst (λ (line : Line). OnErr c.find.result (MayStop (keyed_fn g.K.Keyed.prf g.K.Keyed.pad) c.args.stage (line_view line))) (sym c.in-Find.is) c.find.ensures.may_stop
 
+pub returns-in-Query-clause-may_stop : goal.returns-in-Query-clause-may_stop
+returns-in-Query-clause-may_stop g c = subst (λ (line : Line). OnErr c.query.result (MayStop (keyed_fn g.K.Keyed.prf g.K.Keyed.pad) c.args.stage (line_view line))) (sym c.in-Query.is) c.query.ensures.may_stop
+
 pub returns-in-Find-clause-recorder : goal.returns-in-Find-clause-recorder
 returns-in-Find-clause-recorder g c = KeepsRecorder-none KeepCommandCause (g.R.Recorder.faults c.args.recorder.now) c.find.result c.find.ensures.no_record
+
+pub returns-in-Query-clause-recorder : goal.returns-in-Query-clause-recorder
+returns-in-Query-clause-recorder g c = KeepsRecorder-none KeepCommandCause (g.R.Recorder.faults c.args.recorder.now) c.query.result c.query.ensures.no_record
 
 pub returns-in-Doc-clause-keeps_on : goal.returns-in-Doc-clause-keeps_on
 returns-in-Doc-clause-keeps_on g c = keeps-same g.R.Recorder.kept g.R.Recorder.moment g.R.Recorder.left_since c.args.recorder.now (g.met.R.Recorder.at_rest c.args.recorder.now c.requires.whole)
@@ -120,3 +136,6 @@ returns-in-Empty-clause-keeps_on g c = keeps-same g.R.Recorder.kept g.R.Recorder
 
 pub returns-in-Find-clause-keeps_on : goal.returns-in-Find-clause-keeps_on
 returns-in-Find-clause-keeps_on g c = keeps-same g.R.Recorder.kept g.R.Recorder.moment g.R.Recorder.left_since c.args.recorder.now (g.met.R.Recorder.at_rest c.args.recorder.now c.requires.whole)
+
+pub returns-in-Query-clause-keeps_on : goal.returns-in-Query-clause-keeps_on
+returns-in-Query-clause-keeps_on g c = keeps-same g.R.Recorder.kept g.R.Recorder.moment g.R.Recorder.left_since c.args.recorder.now (g.met.R.Recorder.at_rest c.args.recorder.now c.requires.whole)

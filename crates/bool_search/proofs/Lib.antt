@@ -1,0 +1,10 @@
+pub mod Prints
+pub mod Stopping
+pub mod Exactly
+pub mod JoinedLists
+pub mod OneTree
+pub mod QueryOf
+pub mod FirstBad
+pub mod ReadResults
+pub mod Accepted
+pub mod FieldLaws

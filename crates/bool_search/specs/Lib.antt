@@ -1,0 +1,9 @@
+pub mod Grammar
+pub mod Places
+pub mod Fronts
+pub mod Parsing
+pub mod Fields
+pub mod Refused
+pub mod LineRefusals
+pub mod Asked
+pub mod Chosen
