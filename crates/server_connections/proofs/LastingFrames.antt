@@ -17,7 +17,7 @@ use Rattle.sse_server.specs.Taken.{IsTaken, bodies}
 use Rattle.sse_server.specs.declared.store_answer.StoreAnswer.{StoreAnswer}
 use Rattle.sse_server.specs.declared.store_answer.StoreAnswer.TheVariants as stores
 use Rattle.sse_server.proofs.TakenFrames.{bodies-push}
-use Rattle.server_connections.specs.Handled.{GivesAtMostOneMore, IsLasting, Last, Since, taken_by}
+use Rattle.server_connections.specs.Handled.{GivesAtMostOneMore, IsLasting, Last, taken_by}
 
 -- A store whose journal isn't broken.
 

@@ -1,8 +1,12 @@
 mod Ranges
-mod ConnectionStepLaws
+pub mod ConnectionStepLaws
 mod Pages
 mod Servings
 mod LastingFrames
 mod OneGiven
-mod DiskCauses
-mod ClosedDisks
+pub mod DiskCauses
+pub mod ClosedDisks
+mod Pieces
+mod OwnersKept
+mod OwnerServings
+mod OwnersServedLaws

@@ -11,13 +11,13 @@ use Rattle.server_connections.specs.Handled.{Since}
 use Rattle.server_connections.specs.Served.{IsServed, AreServed, HaveServed}
 
 -- a list that grew by some and then by one
-grown-last : {A : Type 0} (old mid new : Option (List A)) (xs : List A) (x : A)
+pub grown-last : {A : Type 0} (old mid new : Option (List A)) (xs : List A) (x : A)
     → mid ≡ option_map (λ l. l ++ xs) old → new ≡ option_map (λ l. l ++ x ∷ []) mid → new ≡ option_map (λ l. l ++ (xs ++ x ∷ [])) old
 grown-last None mid new xs x is more = more ∙ ap (option_map (λ l. l ++ x ∷ [])) is
 grown-last (Some l) mid new xs x is more = more ∙ ap (option_map (λ l. l ++ x ∷ [])) is ∙ ap Some (append_assoc l xs (x ∷ []))
 
 -- a list that didn't grow
-grown-none : {A : Type 0} (old : Option (List A)) → old ≡ option_map (λ l. l ++ []) old
+pub grown-none : {A : Type 0} (old : Option (List A)) → old ≡ option_map (λ l. l ++ []) old
 grown-none None = refl
 grown-none (Some l) = ap Some (sym (append-nil l))
 

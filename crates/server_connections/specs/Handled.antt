@@ -5,6 +5,7 @@ use Rattle.sse_frames.specs.Frames.{FrameText}
 use Rattle.server_core.specs.State.{ServerState, at_first}
 use Rattle.server_core.specs.Step.{step}
 use Rattle.server_core.specs.declared.answer.Answer.TheVariants as answers
+use Rattle.sse_owners.specs.Owned.{OwnedFrame}
 use Rattle.sse_server.specs.Answers.{store_replies}
 use Rattle.sse_server.specs.Taken.{IsTaken, AreTaken, taken_all, bodies}
 use Rattle.sse_server.specs.StoreView.{StoreView}
@@ -27,13 +28,9 @@ abbrev pub taken_by : FrameText → StoreAnswer → List FrameText
 taken_by frame (Answered (answers.Took q)) = frame ∷ []
 taken_by frame _ = []
 
--- a frame of one of many owners
-pub record OwnedFrame : Type 0 where
-  pub owner : ℕ
-  pub frame : FrameText
-
--- whose frames are answered, and the frames of all owners that were taken before
+-- the numbers of all owners, the one whose frames are answered, and the frames of all of them that were taken before
 pub record Since : Type 0 where
+  pub numbers : List ℕ
   pub owner : ℕ
   pub taken : List OwnedFrame
 

@@ -1,9 +1,12 @@
 pub mod Turns
+pub mod Heads
 pub mod Disks
 pub mod Handled
+pub mod OwnersLasting
 pub mod Connections
 pub mod ConnectionSteps
 pub mod RepliesLeft
+pub mod OwnerConnections
 pub mod Served
 pub mod QueuedConns
 pub mod Scripts

@@ -95,6 +95,17 @@ pub fn refuse<W: Sink>(sink: &mut W, fault: FrameFault, outgoing: &mut Outgoing)
     }
 }
 
+/// Writes the reply to a connection whose owner isn't known, which is the only one, and answers how the connection ends.
+pub fn refuse_owner<W: Sink>(sink: &mut W, outgoing: &mut Outgoing) -> ConnEnd
+    ensures refused { IsSaidLast (W.written sink.old) (W.written sink.new) replies.OutOfPlace ConnEnd.BadFrame result }
+    ensures cause { EndsSink (W.faults sink.old) (W.faults sink.new) (W.shortages sink.old) (W.shortages sink.new) result }
+{
+    match say_reply(sink, &Reply::OutOfPlace, &mut outgoing.reply) {
+        Ok(()) => ConnEnd::BadFrame,
+        Err(end) => end,
+    }
+}
+
 /// Writes the replies to an answer. After that of a store fault the connection ends.
 pub fn reply<K: Keyed, D: Disk, S: Keeps<D>, W: Sink>(
     keyed: &K,

@@ -15,6 +15,7 @@ use server_core::Walk;
 use server_tables::Tables;
 use sse_frames::Frame;
 use sse_outside::Disk;
+use sse_owners::Owners;
 use sse_server::{Store, StoreAnswer};
 
 /// What answers the frames of connections, over a file of a disk that it doesn't hold: a server that lasts, or many of
@@ -110,6 +111,43 @@ impl<T: Tables, D: Disk> Keeps<D> for Store<T> {
         page: &mut [u64],
     ) -> StoreAnswer {
         self.handle(keyed, disk, frame, page)
+    }
+
+    fn fill<K: Keyed>(&self, keyed: &K, walk: &mut Walk, page: &mut [u64]) -> usize {
+        self.fill(keyed, walk, page)
+    }
+}
+
+impl<T: Tables, D: Disk> Keeps<D> for Owners<T> {
+    ghost use Rattle.std.specs.Prelude.{IsSome};
+    ghost use Rattle.sse_journal.specs.JournalView.{broken_by};
+    ghost use Rattle.sse_server.specs.StoreView.{IsWithin};
+    ghost use Rattle.sse_owners.specs.OwnersView.{GivesAtMostOneMore, chosen_state};
+    ghost use Rattle.server_connections.specs.Handled.{IsSound};
+    ghost use Rattle.server_connections.specs.OwnersLasting.{AreOwnersLasting, with_own};
+
+    ghost state = { λ s. chosen_state s };
+
+    ghost stands = { λ s disk. IsWithin s.journal (D.content disk) };
+
+    ghost sound = { λ s. IsSound s.journal };
+
+    ghost closed = { λ s. IsSome (broken_by s.journal) };
+
+    ghost lasts = { λ s disk since frames. AreOwnersLasting since frames s (D.content disk) (D.images disk) };
+
+    ghost leaves = { λ since frames bytes. GivesAtMostOneMore since.numbers (with_own since frames) bytes };
+
+    ghost left_by_crash = { λ s disk since frames is. is.left };
+
+    fn keep<K: Keyed>(
+        &mut self,
+        keyed: &K,
+        disk: &mut D,
+        frame: &Frame<'_>,
+        page: &mut [u64],
+    ) -> StoreAnswer {
+        Owners::handle(self, keyed, disk, frame, page)
     }
 
     fn fill<K: Keyed>(&self, keyed: &K, walk: &mut Walk, page: &mut [u64]) -> usize {

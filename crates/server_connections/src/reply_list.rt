@@ -53,8 +53,8 @@ pub fn reply_list_of(answer: StoreAnswer) -> ReplyList
     }
 }
 
-/// Writes all of the bytes.
-fn say<W: Sink>(sink: &mut W, bytes: &[u8]) -> Result<(), ConnEnd>
+/// Writes all of the bytes. After an error a strict prefix was written, and the end says why.
+pub fn say<W: Sink>(sink: &mut W, bytes: &[u8]) -> Result<(), ConnEnd>
     ensures said { IsSaid (W.written sink.old) (W.written sink.new) bytes.now result }
     ensures cause { HasSinkCause (W.faults sink.old) (W.faults sink.new) (W.shortages sink.old) (W.shortages sink.new) result }
 {

@@ -1,0 +1,10 @@
+pub mod OwnedLaws
+pub mod AnswerLaws
+pub mod Placed
+pub mod IsolationLaws
+pub mod OwnedBodies
+pub mod RisingLaws
+pub mod LastingOwners
+pub mod OwnedOnce
+pub mod OwnedReplay
+pub mod StartedOwners
