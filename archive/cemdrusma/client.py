@@ -108,6 +108,14 @@ class Session:
     def find(self, word: str) -> List[int]:
         """The documents that the server says to hold a word."""
         self.tell(f"find {word}")
+        return self.identifiers()
+
+    def match(self, fields: List[str]) -> List[int]:
+        """The documents that a line `query` of these fields chooses of what the server says."""
+        self.tell(" ".join(["query", *fields]))
+        return self.identifiers()
+
+    def identifiers(self) -> List[int]:
         return [int(identifier) for identifier in self.line().partition(":")[2].split()]
 
     def exchange(self, script: Iterable[str], count: int) -> Iterator[str]:

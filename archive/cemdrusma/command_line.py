@@ -36,7 +36,8 @@ earlier ones are looked through. Of a mail From, To, Cc, Subject, Date and the t
 opened even if there is nothing to do, so a status of 0 says that the archive works."""
 SEARCH = """Prints how many texts are found, and of each, the newest first, its number, its name and a piece of it. Words are joined by AND unless
 OR or NOT stands between them; "..." is a phrase (in a shell: '"garden wall"'), garden* a beginning, from: to: subject: name a
-field of a mail, and date:2026-01..2026-03 days. The server is asked the words that narrow most."""
+field of a mail, and date:2026-01..2026-03 days. The server is asked the words that narrow most; with --at-once it is asked every
+word."""
 SHOW = """Prints a text as it is in its file now. NAME is the number that `archive search` prints, or the path of its file; if that
 has several texts they are listed."""
 STATUS = """Prints what is indexed, what is still to do, and whether the server has all of it."""
@@ -96,6 +97,7 @@ def parser() -> argparse.ArgumentParser:
     one.add_argument("--gone", action="store_true", help="delete the texts of paths that aren't there any more")
     one = command("search", SEARCH)
     one.add_argument("words", metavar="WORDS", nargs="+")
+    one.add_argument("--at-once", action="store_true", help="send words, AND, OR and NOT as one line `query`: the server learns all its words")
     one.add_argument("--limit", metavar="N", type=limit_in, help="print N texts at most, 0 for all (20; all with --files, -0 and --json)")
     one.add_argument("--json", action="store_true", help="print what is found as JSON")
     one.add_argument("--files", action="store_true", help="print only the paths of their files")
@@ -183,7 +185,7 @@ def in_folder(asked: argparse.Namespace, archive: Opened) -> int:
         if asked.command == "search":
             from .search import Form, search
 
-            return search(archive, asked.words, Form(asked.limit, asked.files, asked.null, asked.json), progress)
+            return search(archive, asked.words, Form(asked.limit, asked.files, asked.null, asked.json), progress, asked.at_once)
         if asked.command == "index":
             from .index import index
 

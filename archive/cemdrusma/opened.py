@@ -3,7 +3,7 @@ from __future__ import annotations
 
 import os
 import time
-from typing import List, Optional, Tuple
+from typing import Callable, List, Optional, Tuple
 
 from . import state
 from .client import EMPTY_BYTES, MORE, Session
@@ -179,19 +179,27 @@ class Opened:
         return trouble
 
     def find(self, word: str) -> List[int]:
-        """What the server answers. A client that was kept and has lost its connection is started once more."""
+        """What the server answers to a word."""
+        return self.answer(lambda session: session.find(word))
+
+    def match(self, fields: List[str]) -> List[int]:
+        """What a line `query` of these fields chooses of the server's answers."""
+        return self.answer(lambda session: session.match(fields))
+
+    def answer(self, question: Callable[[Session], List[int]]) -> List[int]:
+        """A client that was kept and has lost its connection is started once more."""
         was_kept = self.has_client()
         if not was_kept:
             self.greeted()
         try:
-            return self.session.find(word)  # type: ignore[union-attr]
+            return question(self.session)  # type: ignore[arg-type]
         except Trouble as error:
             self.end_session()
             if not was_kept or error.status not in (SERVER_ENDED, LINK):
                 raise
         self.greeted()
         try:
-            return self.session.find(word)  # type: ignore[union-attr]
+            return question(self.session)  # type: ignore[arg-type]
         except Trouble:
             self.end_session()
             raise

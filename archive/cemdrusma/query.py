@@ -3,7 +3,7 @@ of words. Here it is read, and it is told which words the server is to be asked.
 from __future__ import annotations
 
 import re
-from typing import TYPE_CHECKING, Callable, Dict, FrozenSet, Iterable, List, NamedTuple, Optional, Tuple, Union
+from typing import TYPE_CHECKING, Callable, Dict, FrozenSet, Iterable, List, NamedTuple, Optional, Set, Tuple, Union
 
 from .report import on_a_line
 
@@ -243,6 +243,66 @@ def together(choices: List[Choice]) -> Choice:
     if any(words is None for words, _ in choices):
         return NOTHING
     return frozenset().union(*(words for words, _ in choices if words is not None)), sum(number for _, number in choices)
+
+
+# The line `query` of a script, which asks all words of a query at once and is answered by what their answers leave.
+
+# how many fields such a line has at most
+MOST_FIELDS = 64
+
+
+def fields_in(query: Query, text: str) -> List[str]:
+    """The fields of the line for the query in this text. Raises Trouble if there is no such line."""
+    try:
+        fields = fields_of(query)
+        if len(fields) > MOST_FIELDS:
+            raise Fault(f"with its operators and parentheses it has {len(fields)} parts, and a line has {MOST_FIELDS} at most")
+    except Fault as fault:
+        raise Trouble(REFUSED, f"{on_a_line(text)} can't be asked at once: {fault}") from None
+    return fields
+
+
+def fields_of(query: Query) -> List[str]:
+    if isinstance(query, Word):
+        return [f"={query.word}"]
+    if isinstance(query, Or):
+        return joined("or", [factor(part) if isinstance(part, Or) else fields_of(part) for part in query.parts])
+    if isinstance(query, And):
+        kept, taken = parts_of(query)
+        return joined("and", [factor(part) for part in kept]) + [field for part in taken for field in ["not", *factor(part)]]
+    raise Fault("NOT has nothing before it to take from" if isinstance(query, Not) else "it may have words, AND, OR, NOT and parentheses, and nothing else")
+
+
+def parts_of(query: And) -> Tuple[List[Query], List[Query]]:
+    """The parts that a text must have, and those under NOT."""
+    kept = [part for part in query.parts if not isinstance(part, Not)]
+    if not kept:
+        raise Fault("NOT has nothing before it to take from")
+    return kept, [part.part for part in query.parts if isinstance(part, Not)]
+
+
+def factor(query: Query) -> List[str]:
+    return fields_of(query) if isinstance(query, Word) else ["(", *fields_of(query), ")"]
+
+
+def joined(operator: str, parts: List[List[str]]) -> List[str]:
+    return [field for place, part in enumerate(parts) for field in ([operator] if place else []) + part]
+
+
+def words_asked(fields: List[str]) -> List[str]:
+    """The words that such a line asks, each once, in their order."""
+    return list(dict.fromkeys(field[1:] for field in fields if field[0] == "="))
+
+
+def chosen(query: Query, holders: Callable[[str], Set[int]]) -> Set[int]:
+    """The documents that such a line chooses, by those that hold each word."""
+    if isinstance(query, Word):
+        return holders(query.word)
+    if isinstance(query, Or):
+        return set().union(*(chosen(part, holders) for part in query.parts))
+    assert isinstance(query, And)
+    kept, taken = parts_of(query)
+    return set.intersection(*(chosen(part, holders) for part in kept)).difference(*(chosen(part, holders) for part in taken))
 
 
 # What is marked in a snippet.

@@ -35,10 +35,20 @@ class Form(NamedTuple):
     as_json: bool
 
 
-def search(archive: Opened, words: Sequence[str], form: Form, progress: Progress) -> int:
+class Answer(NamedTuple):
+    """What was found, by the words that the server was asked."""
+
+    rows: Set[int]
+    unread: int  # how many texts couldn't be looked at
+    asked: List[str]
+    is_wrong: bool
+
+
+def search(archive: Opened, words: Sequence[str], form: Form, progress: Progress, at_once: bool = False) -> int:
     """Prints the texts that a query finds. Returns the status."""
     text = " ".join(words)
     wanted = query.parsed(text)
+    fields = query.fields_in(wanted, text) if at_once else []
     archive.start_ahead()
     journal, texts = archive.journal(), archive.texts()
     if not journal.records:
@@ -48,24 +58,43 @@ def search(archive: Opened, words: Sequence[str], form: Form, progress: Progress
     # what was looked up stays for the next search
     index = archive.known.get("searched") or Index(journal, texts)
     archive.known["searched"] = index
-    asked = index.asked(wanted)
-    answers = ask(archive, asked, progress)
-    wrong = differing(index, answers)
-    progress.show("{:,} texts are looked at", len(index.rows))
-    lookup = Lookup(index)
-    found = lookup.rows(wanted, index.answered(answers) if asked is not None else set(range(len(index.rows))))
+    shelf = Shelf()
+    answer = chosen_at_once(archive, index, wanted, fields, progress) if at_once else looked_up(archive, index, wanted, shelf, progress)
     progress.end()
-    shown = sorted(found.rows, key=index.newest_first)
-    printed = Printing(index, wanted, form, lookup.shelf)
+    shown = sorted(answer.rows, key=index.newest_first)
+    printed = Printing(index, wanted, form, shelf)
     if form.as_files or form.with_zeros:
         printed.files(shown)
     elif form.as_json:
-        printed.as_json(text, sorted(answers), shown)
+        printed.as_json(text, answer.asked, shown)
     else:
         printed.lines(text, shown)
-    if found.unread:
-        say(f"{found.unread:,} texts couldn't be looked at, since they changed or are gone: `archive index` them again")
-    return OTHER_ANSWER if wrong else REFUSED if found.unread else 0
+    if answer.unread:
+        say(f"{answer.unread:,} texts couldn't be looked at, since they changed or are gone: `archive index` them again")
+    return OTHER_ANSWER if answer.is_wrong else REFUSED if answer.unread else 0
+
+
+def looked_up(archive: Opened, index: "Index", wanted: Query, shelf: Shelf, progress: Progress) -> Answer:
+    """The server is asked the words that narrow most, and the rest is looked up here."""
+    asked = index.asked(wanted)
+    answers = ask(archive, asked, progress)
+    is_wrong = differing(index, answers)
+    progress.show("{:,} texts are looked at", len(index.rows))
+    within = index.answered(answers) if asked is not None else set(range(len(index.rows)))
+    rows, unread = Lookup(index, shelf).rows(wanted, within)
+    return Answer(rows, unread, sorted(answers), is_wrong)
+
+
+def chosen_at_once(archive: Opened, index: "Index", wanted: Query, fields: List[str], progress: Progress) -> Answer:
+    """The server is asked every word in one line, and what that line chooses of its answers is compared with the journal."""
+    progress.show("the client goes on")
+    if not archive.has_client():
+        archive.greeted()
+    words = query.words_asked(fields)
+    keep_searches(archive, words)
+    identifiers = set(archive.match(fields))
+    is_wrong = is_other(" ".join(fields), identifiers, query.chosen(wanted, index.holders))
+    return Answer(index.rows_of(identifiers), 0, words, is_wrong)
 
 
 def ask(archive: Opened, words: Optional[FrozenSet[str]], progress: Progress) -> Dict[str, Set[int]]:
@@ -74,27 +103,31 @@ def ask(archive: Opened, words: Optional[FrozenSet[str]], progress: Progress) ->
     if not archive.has_client():
         archive.greeted()
     answers: Dict[str, Set[int]] = {}
-    kept = archive.folder.searches() if words else []
     for word in sorted(words or ()):
-        # it is kept before it is sent, as `leaks` tells what the server may have seen
-        kept.append((archive.journal().records, word))
-        archive.folder.keep_searches(kept)
+        keep_searches(archive, [word])
         progress.show("{} of {} words searched", len(answers), len(words or ()))
         answers[word] = set(archive.find(word))
     return answers
 
 
+def keep_searches(archive: Opened, words: Sequence[str]) -> None:
+    """Words are kept before they are sent, as `leaks` tells what the server may have seen."""
+    archive.folder.keep_searches(archive.folder.searches() + [(archive.journal().records, word) for word in words])
+
+
 def differing(index: "Index", answers: Dict[str, Set[int]]) -> bool:
+    """Whether an answer isn't what this archive sent, which is said of each."""
+    return any([is_other(word, identifiers, index.holders(word)) for word, identifiers in answers.items()])
+
+
+def is_other(asked: str, identifiers: Set[int], sent: Set[int]) -> bool:
     """Whether an answer isn't what this archive sent, which is said."""
-    is_wrong = False
-    for word, identifiers in answers.items():
-        sent = index.holders(word)
-        if identifiers != sent:
-            is_wrong = True
-            say(f"the server's answer for {word} isn't what this archive sent: {len(sent - identifiers):,} documents are missing and "
-                f"{len(identifiers - sent):,} aren't of it. The server lies, or its file is damaged: start one over a new file and run `archive "
-                "renew --server ADDRESS`")
-    return is_wrong
+    if identifiers == sent:
+        return False
+    say(f"the server's answer for {asked} isn't what this archive sent: {len(sent - identifiers):,} documents are missing and "
+        f"{len(identifiers - sent):,} aren't of it. The server lies, or its file is damaged: start one over a new file and run `archive "
+        "renew --server ADDRESS`")
+    return True
 
 
 class Index:
@@ -152,8 +185,8 @@ class FoundRows(NamedTuple):
 class Lookup:
     """Which of some texts a query finds."""
 
-    def __init__(self, index: Index) -> None:
-        self.index, self.shelf = index, Shelf()
+    def __init__(self, index: Index, shelf: Shelf) -> None:
+        self.index, self.shelf = index, shelf
 
     def rows(self, wanted: Query, within: Set[int]) -> FoundRows:
         return FoundRows(self.found(wanted, within), len(self.shelf.unread))

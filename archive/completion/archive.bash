@@ -21,7 +21,7 @@ _archive() {
         '') options="$options --version"; [[ $word == -* ]] || options=$commands ;;
         new) options="$options --server --key-command -b -B -Q" ;;
         index) options="$options --gone" ;;
-        search) options="$options --limit --json --files --null -0" ;;
+        search) options="$options --at-once --limit --json --files --null -0" ;;
         status) options="$options --offline" ;;
         renew) options="$options --server --key-command" ;;
     esac

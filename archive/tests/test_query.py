@@ -2,7 +2,7 @@ import datetime
 import unittest
 from typing import Dict, List
 
-from cemdrusma.query import And, Beginning, Dates, Field, Not, Or, Phrase, Word, asked, parsed, wanted
+from cemdrusma.query import And, Beginning, Dates, Field, Not, Or, Phrase, Word, asked, chosen, fields_in, parsed, wanted, words_asked
 from cemdrusma.statuses import REFUSED, Trouble
 
 DAY = datetime.date(2026, 3, 1)
@@ -53,6 +53,35 @@ class ReadingTest(unittest.TestCase):
                      "date:2026-02-30", "date:1..2", "x" * 65, "caf\udce9", "date:٢٠٢٦"):
             with self.assertRaises(Trouble, msg=text) as raised:
                 parsed(text, DAY)
+            self.assertEqual(raised.exception.status, REFUSED)
+
+
+class LineTest(unittest.TestCase):
+    holders = {"a": {1, 2, 3}, "b": {2, 3, 4}, "c": {3, 5}, "or": {1}}
+
+    def test_lines(self) -> None:
+        rows = {
+            "a": ("=a", {1, 2, 3}),
+            "a b": ("=a and =b", {2, 3}),
+            "a NOT b": ("=a not =b", {1}),
+            "NOT b a": ("=a not =b", {1}),
+            "a OR b c": ("=a or =b and =c", {1, 2, 3}),
+            "(a OR b) c": ("( =a or =b ) and =c", {3}),
+            "a NOT (b OR c)": ("=a not ( =b or =c )", {1}),
+            "a OR (b OR c)": ("=a or ( =b or =c )", {1, 2, 3, 4, 5}),
+            "a (b NOT c)": ("=a and ( =b not =c )", {2}),
+            "a or": ("=a and =or", {1}),
+        }
+        for text, (line, found) in rows.items():
+            query = parsed(text)
+            self.assertEqual(" ".join(fields_in(query, text)), line)
+            self.assertEqual(chosen(query, self.holders.__getitem__), found, text)
+        self.assertEqual(words_asked(["=b", "or", "=a", "and", "=b"]), ["b", "a"])
+
+    def test_no_lines(self) -> None:
+        for text in ("NOT a", "NOT a NOT b", "a OR NOT b", "NOT NOT a", "a NOT NOT b", '"a b"', "wal*", "from:a", "date:2026", " ".join(33 * ["a"])):
+            with self.assertRaises(Trouble, msg=text) as raised:
+                fields_in(parsed(text), text)
             self.assertEqual(raised.exception.status, REFUSED)
 
 
