@@ -1,4 +1,4 @@
-# make        proves the crates, then builds the programs into bin/: sse_local, sse_leaks, sse_served and sse_net
+# make        proves the crates, then builds the programs into bin/: sse_local, sse_leaks, sse_served, sse_net and vault_served
 # make try    runs a script, SCRIPT=examples/first.sse, in a minute, without any proof; keeps nothing
 # make demo   builds only bin/sse_local, runs examples/first.sse, and searches a folder of letters
 # make check  the whole gate: every proof, test, must-fail edit and end-to-end check
@@ -7,16 +7,19 @@
 # make docs   writes the generated pages, docs/PROMISES.md and docs/DEFINITIONS.md, and checks all documents, in seconds
 # make draw   draws the pictures of the documents again
 # make bench  times bin/sse_local on made scripts, the rows of bin/tool_bench, and sse_net with sse_served
-# make install puts the programs of bin/, archive, their manual pages, completion and the server's unit below PREFIX=/usr/local
+# make install puts the programs of bin/, archive, their manual pages, completion and the servers' units below PREFIX=/usr/local
 # make clean  removes what was proved and built in this checkout
 # make help   prints these lines
 
-PROGRAMS = sse_local sse_leaks sse_served sse_net
+PROGRAMS = sse_local sse_leaks sse_served sse_net vault_served
+# the programs that run as a service, each with its unit
+SERVICES = sse_served vault_served
 # the words that a program is first run with, once it is built
 words_sse_local = run
 words_sse_bench = prepared 1
 # without words the programs over TCP end at once, with this status
 status_sse_served = 2
+status_vault_served = 2
 status_sse_net = 2
 LAST = bin/.seconds
 # what make try runs
@@ -99,8 +102,10 @@ install:
 	install -m 644 $(PROGRAMS:%=docs/%.1) docs/archive.1 $(DESTDIR)$(PREFIX)/share/man/man1
 	install -m 644 archive/completion/archive.bash $(DESTDIR)$(PREFIX)/share/bash-completion/completions/archive
 	install -m 644 archive/completion/_archive $(DESTDIR)$(PREFIX)/share/zsh/site-functions/_archive
-	sed 's|@BIN@|$(PREFIX)/bin|' archive/sse_served@.service > $(DESTDIR)$(PREFIX)/lib/systemd/system/sse_served@.service
-	chmod 644 $(DESTDIR)$(PREFIX)/lib/systemd/system/sse_served@.service
+	for name in $(SERVICES); do \
+	    sed 's|@BIN@|$(PREFIX)/bin|' archive/$$name@.service > $(DESTDIR)$(PREFIX)/lib/systemd/system/$$name@.service || exit 1; \
+	    chmod 644 $(DESTDIR)$(PREFIX)/lib/systemd/system/$$name@.service; \
+	done
 
 clean:
 	rm -rf bin crates/*/out

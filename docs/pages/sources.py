@@ -9,6 +9,7 @@ called `ensures`. A law has no clauses: its statement is the clause. A line that
 A tag takes few lines, since `rt` plans its memory by the lines of a source."""
 import functools
 import re
+import textwrap
 
 TAG = re.compile(r"Promise (P\d\d+)(?: \((user|caller|inside)\): (.+)|, also here(?:; (clauses: .+))?)$")
 KEYS = ("clauses", "fields", "assumes", "checks", "not")
@@ -211,9 +212,10 @@ def tags_of(path, text):
 
 @functools.lru_cache(maxsize=None)
 def field_of(text, record, field):
-    """The text of a record's field, or none."""
-    block = re.search(rf"^(?:pub )?(?:record|data) (?:pub )?{re.escape(record)}\b.*\n((?:[ ]+.*\n|\n(?=  ))*)", text, re.M)
-    if not block:
+    """The text of a record's field, or none. The record may stand inside a module."""
+    head = re.search(rf"^( *)(?:pub )?(?:record|data) (?:pub )?{re.escape(record)}\b.*\n", text, re.M)
+    if not head:
         return None
-    found = re.search(rf"^  (?:pub )?{re.escape(field)} : .*\n?((?:    .*\n?)*)", block[1] + "\n", re.M)
+    block = re.match(rf"(?:{head[1]} +.*\n|\n(?={head[1]}  ))*", text[head.end() :] + "\n")[0]
+    found = re.search(rf"^  (?:pub )?{re.escape(field)} : .*\n?((?:    .*\n?)*)", textwrap.indent(textwrap.dedent(block), "  "), re.M)
     return found[0].rstrip() if found else None
