@@ -1,6 +1,8 @@
-ghost use Rattle.std.specs.Prelude.{◌≡◌, ◌≢◌, ◌↔◌, ◌≤◌, true, false, length, take, Some, None, Ok, Err, IsTrue, IfOk, OnOk, OnErr};
+ghost use Rattle.std.specs.Prelude.{◌≡◌, ◌≢◌, ◌⊎◌, ◌↔◌, ◌≤◌, true, false, length, take, Some, None, Ok, Err, IsTrue, IfOk, OnOk, OnErr};
+ghost use Rattle.std.specs.Int.{w64, to_be_bytes};
 ghost use Rattle.std.specs.Io.KnownBytes.{append_known, prepend_known};
 ghost use Rattle.sse_outside.specs.Causes.{Rose};
+ghost use Rattle.sse_outside.specs.Fronts.{TookFront};
 ghost use Rattle.sse_frames.specs.Frames.{IsFrame};
 ghost use Rattle.sse_frames.specs.Replies.{StoreFault, reply_bytes};
 ghost use Rattle.sse_link.specs.Due.{IsOpenPage};
@@ -44,6 +46,29 @@ impl<S: Source, W: Sink> StreamLink<S, W> {
             due: false,
             lost: false,
             faults: 0,
+        }
+    }
+
+    // Promise P247 (caller): An owner's number goes out over a stream as exactly eight bytes, or the link is cut and a count of the sink rose.
+    //   clauses: sent, unchanged, cut, less, cause, source_kept; assumes: observable devices; checks: .ci/tcp; not: That no frame went before it: who makes the link sees to that.
+    /// Sends the number of the owner whose frames follow: eight bytes, the most significant first. A server of many owners expects them
+    /// before the first frame; any other takes them for a part of it.
+    ///
+    /// After `Cut` the link carries nothing.
+    pub fn begin_as(&mut self, owner: u64) -> Result<(), LinkFault>
+        ensures sent { OnOk result (W.written self.new.sink ≡ append_known (W.written self.old.sink) (to_be_bytes w64 owner)) }
+        ensures unchanged { OnOk result ((self.new.due ≡ self.old.due) × (self.new.lost ≡ self.old.lost) × (self.new.faults ≡ self.old.faults)) }
+
+        // It is cut.
+        ensures cut { OnErr result (IsCut self.new.due self.new.lost self.old.faults self.new.faults) }
+        ensures less { OnErr result (TookFront (W.written self.old.sink) (W.written self.new.sink) (to_be_bytes w64 owner)) }
+        ensures cause { OnErr result (Rose (W.faults self.old.sink) (W.faults self.new.sink) ⊎ Rose (W.shortages self.old.sink) (W.shortages self.new.sink)) }
+
+        ensures source_kept { self.new.source ≡ self.old.source }
+    {
+        match print_all(&mut self.sink, &owner.to_be_bytes()) {
+            Ok(()) => Ok(()),
+            Err(_) => Err(self.cut()),
         }
     }
 

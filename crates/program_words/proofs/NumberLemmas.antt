@@ -6,7 +6,7 @@ use Rattle.std.specs.Result.{result_ok, OkIff}
 use Rattle.std.specs.Str.Parse.{ParsesUnsigned, digits_value}
 use Rattle.std.proofs.lemmas.Bool.{and_parts, and_from, and_right, lt-ltb, ltb-true, false_from_ne_true}
 use Rattle.std.proofs.lemmas.Str.Parse.{IsNumeralModel, numerals_by_value, parse_digits}
-use Rattle.program_words.specs.Numbers.{is_numeral, number_of}
+use Rattle.program_words.specs.Numbers.{is_numeral, numeral_below}
 
 -- the test for digits and std's value of them are a model of numerals
 own : IsNumeralModel (λ ds. list_all is_ascii_digit ds ≡ true) (digits_value 10)
@@ -22,14 +22,14 @@ some_digit (b ∷ bytes) e = omega arith
 number_if : Bool → ℕ → Option ℕ
 number_if test n = if test then Some n else None
 
-value_of_numeral : {E : Type 0} (word : List ℕ) (r : Result ℕ E) → is_numeral word ≡ true → OkIff r ((0 < length word) × (digits_value 10 word < 2 ^ 32)) (digits_value 10 word) → result_ok r ≡ number_of word
+value_of_numeral : {E : Type 0} (limit : ℕ) (word : List ℕ) (r : Result ℕ E) → is_numeral word ≡ true → OkIff r ((0 < length word) × (digits_value 10 word < limit)) (digits_value 10 word) → result_ok r ≡ numeral_below limit word
 unfolding number_if
-value_of_numeral word (Ok n) e h =
+value_of_numeral limit word (Ok n) e h =
     ap Some h.1 ∙ ap (λ (t : Bool). number_if t (digits_value 10 word)) (sym (and_from _ _ e (lt-ltb _ _ h.0.1)))
-value_of_numeral word (Err error) e h =
-    let large : nat_lt (digits_value 10 word) (2 ^ 32) ≡ false = false_from_ne_true _ (λ t. h (some_digit word e, ltb-true _ _ t)) in
+value_of_numeral limit word (Err error) e h =
+    let large : nat_lt (digits_value 10 word) limit ≡ false = false_from_ne_true _ (λ t. h (some_digit word e, ltb-true _ _ t)) in
     ap (λ (t : Bool). number_if t (digits_value 10 word)) (sym (and_right _ _ large))
 
 -- `parse` gives the number of a numeral
-pub number_of-parse : {E : Type 0} (word text : List ℕ) (r : Result ℕ E) → is_numeral text ≡ true → text ≡ word → ParsesUnsigned 32 10 word r → result_ok r ≡ number_of word
-number_of-parse word text r e same parsed = value_of_numeral word r (rw same at e) (parse_digits own 32 word r parsed (digits_of_numeral word (rw same at e)))
+pub numeral_below-parse : {E : Type 0} (bits : ℕ) (word text : List ℕ) (r : Result ℕ E) → is_numeral text ≡ true → text ≡ word → ParsesUnsigned bits 10 word r → result_ok r ≡ numeral_below (2 ^ bits) word
+numeral_below-parse bits word text r e same parsed = value_of_numeral (2 ^ bits) word r (rw same at e) (parse_digits own bits word r parsed (digits_of_numeral word (rw same at e)))

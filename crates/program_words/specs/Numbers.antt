@@ -9,9 +9,13 @@ use Rattle.std.specs.Str.Parse.{digits_value}
 abbrev pub is_numeral : List ℕ → Bool
 is_numeral word = (length word == 1 || nat_lt 48 (slice_index word 0)) && list_all is_ascii_digit word
 
+-- the number, if it is below a limit
+abbrev pub numeral_below : (limit : ℕ) → List ℕ → Option ℕ
+numeral_below limit word = if is_numeral word && nat_lt (digits_value 10 word) limit then Some (digits_value 10 word) else None
+
 -- the number, where it is one up to 2^32-1
 abbrev pub number_of : List ℕ → Option ℕ
-number_of word = if is_numeral word && nat_lt (digits_value 10 word) (2 ^ 32) then Some (digits_value 10 word) else None
+number_of word = numeral_below (2 ^ 32) word
 
 -- a number, where it is one from `low` to `high`
 abbrev pub within : (low high : ℕ) → ℕ → Option ℕ

@@ -13,7 +13,9 @@ mod found;
 mod hyphen;
 mod local_mode;
 mod number;
+mod owners;
 
 pub use count::count_of;
 pub use disk_mode::{DiskMode, disk_mode_of};
 pub use local_mode::{LocalMode, local_mode_of};
+pub use owners::{owner_of, owners_of};

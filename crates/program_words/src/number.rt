@@ -31,7 +31,7 @@ fn number_of(word: &str) -> Option<u32>
 }
 
 /// Whether the bytes are decimal digits, and don't begin with a 0 in front of others.
-fn is_numeral(bytes: &[u8]) -> bool
+pub(crate) fn is_numeral(bytes: &[u8]) -> bool
     ensures { result ≡ numbers.is_numeral bytes.now }
 {
     has_no_leading_zero(bytes) && all_digits(bytes)

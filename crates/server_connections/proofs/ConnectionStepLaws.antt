@@ -1,14 +1,11 @@
 -- A connection, a step further.
-use Rattle.std.proofs.Common.{◌≡◌, ◌⊎◌, inl, inr, ◌+◌, ℕ, false, List, [], ◌∷◌, ◌++◌, length, take, None, Some, Ok, Err, refl, sym, ap, subst, ◌∙◌, arith, append_assoc, length-append}
+use Rattle.std.proofs.Common.{◌≡◌, ◌⊎◌, inl, inr, ℕ, false, List, [], ◌∷◌, ◌++◌, Ok, Err, refl, sym, ap, subst, ◌∙◌, append_assoc}
 use Rattle.std.specs.Prelude.{◌≢◌, flat_map, is_err, IsErr, if◌then◌else◌}
 use Rattle.std.specs.declared.option.Option.{Option}
 use Rattle.std.specs.declared.result.Result.{Result}
 use Rattle.std.specs.Io.KnownBytes.{append_known, prepend_known}
-use Rattle.std.proofs.Math.Seq.{take-append-add}
-use Rattle.std.proofs.lemmas.Grind.{flat_map-append}
 use Rattle.std.proofs.lemmas.List.{append-nil}
 use Rattle.keyed_fn.specs.KeyedFn.{KeyedFn}
-use Rattle.sse_outside.proofs.Known.{append_known-twice}
 use Rattle.sse_outside.specs.Fronts.{TookFront}
 use Rattle.sse_frames.specs.Frames.{FrameText, InGrammar, frame_bytes}
 use Rattle.sse_frames.specs.ReadOutcomes.{frame_outcome}
@@ -24,25 +21,20 @@ use Rattle.sse_server.specs.Taken.{IsTaken}
 use Rattle.sse_server.specs.declared.store_answer.StoreAnswer.{StoreAnswer}
 use Rattle.sse_server.specs.declared.store_answer.StoreAnswer.TheVariants as stores
 use Rattle.sse_link.specs.BadFrames.{bad_reason}
-use Rattle.server_connections.specs.declared.conn_end.ConnEnd.{ConnEnd}
-use Rattle.server_connections.specs.declared.conn_end.ConnEnd.TheVariants.{Closed, CutShort, ReadFault, WriteFault, OutOfMemory, BadFrame, StoreFault}
+use Rattle.tcp_service.specs.declared.conn_end.ConnEnd.{ConnEnd}
+use Rattle.tcp_service.specs.declared.conn_end.ConnEnd.TheVariants.{Closed, CutShort, ReadFault, WriteFault, OutOfMemory, BadFrame, UnknownOwner, StoreFault}
 use Rattle.server_connections.specs.Connections.{Finishes, IsCut, IsLast, HasFailed, bad_reply}
-use Rattle.server_connections.specs.ConnectionSteps.{Goes, IsCame, IsReplied, IsSaidLast, Stops}
+use Rattle.server_connections.specs.ConnectionSteps.{Goes, IsReplied, IsSaidLast}
+use Rattle.tcp_service.specs.Arrivals.{IsCame, Stops}
+use Rattle.tcp_service.proofs.Pieces.{flat_map-last, front-more, read-more, written-more}
 use Rattle.server_connections.specs.Handled.{IsHandled, Last, Since, taken_by}
 use Rattle.server_connections.specs.Turns.{Turn, IsTurn, AreTurns, IsAnswered, frames_of, replies_of, bytes_of, acknowledged, is_acknowledged}
 
--- Lists, with one more at the end.
-
-flat_map-last : {X A : Type 0} (g : X → List A) (xs : List X) (x : X) → flat_map g (xs ++ x ∷ []) ≡ flat_map g xs ++ g x
-flat_map-last g xs x = flat_map-append g xs (x ∷ []) ∙ ap (λ l. flat_map g xs ++ l) (append-nil (g x))
+-- One more frame.
 
 AreTurns-last : (f : KeyedFn) (before mid after : ServerState) (turns : List Turn) (turn : Turn) → AreTurns f before turns mid → IsTurn f mid turn after → AreTurns f before (turns ++ turn ∷ []) after
 AreTurns-last f before mid after [] turn are is = (after, subst (λ s. IsTurn f s turn after) are is, refl)
 AreTurns-last f before mid after (first ∷ turns) turn are is = (are.0, are.1, AreTurns-last f are.0 mid after turns turn are.2 is)
-
-prepend_known-twice : (xs ys : List ℕ) (known : Option (List ℕ)) → prepend_known xs (prepend_known ys known) ≡ prepend_known (xs ++ ys) known
-prepend_known-twice xs ys None = refl
-prepend_known-twice xs ys (Some l) = ap Some (sym (append_assoc xs ys l))
 
 -- one more frame of what was read
 read-last : (left0 left : Option (List ℕ)) (turns : List Turn) (turn : Turn) (held held2 : List ℕ)
@@ -53,28 +45,6 @@ read-last left0 left turns turn held held2 is held_is =
     (ap (λ l. frames_of turns ++ l) held_is
     ∙ sym (append_assoc (frames_of turns) (frame_bytes turn.frame) held2)
     ∙ ap (λ l. l ++ held2) (sym (flat_map-last (λ t. frame_bytes t.frame) turns turn)))
-
--- more bytes behind those that were read
-read-more : (left0 left left2 : Option (List ℕ)) (said held held2 held3 read : List ℕ)
-    → left0 ≡ prepend_known (said ++ held) left → held2 ≡ held → held3 ≡ held2 ++ read → left ≡ prepend_known read left2
-    → left0 ≡ prepend_known (said ++ held3) left2
-read-more left0 left left2 said held held2 held3 read is same more given =
-    is ∙ ap (prepend_known (said ++ held)) given ∙ prepend_known-twice (said ++ held) read left2
-    ∙ ap (λ l. prepend_known l left2) (append_assoc said held read ∙ ap (λ l. said ++ l) (ap (λ l. l ++ read) (sym same) ∙ sym more))
-
--- more bytes behind those that were written
-written-behind : (written0 written written2 : Option (List ℕ)) (said more : List ℕ)
-    → written ≡ append_known written0 said → written2 ≡ append_known written more → written2 ≡ append_known written0 (said ++ more)
-written-behind written0 written written2 said more is grown = grown ∙ ap (λ k. append_known k more) is ∙ append_known-twice written0 said more
-
--- a front of more bytes behind those that were written
-pub front-behind : (written0 written written2 : Option (List ℕ)) (said more : List ℕ)
-    → written ≡ append_known written0 said → TookFront written written2 more → TookFront written0 written2 (said ++ more)
-front-behind written0 written written2 said more is front = record {
-  n = length said + front.n;
-  short = omega (arith, length-append said more, front.short);
-  taken = written-behind written0 written written2 said (take front.n more) is front.taken ∙ ap (append_known written0) (sym (take-append-add said more front.n));
-}
 
 -- What lasts.
 
@@ -153,7 +123,7 @@ module _ {S D : Type 0} (f : KeyedFn) (state : S → ServerState) (lasts : S →
         answered = AreTurns-last f (state store0) (state store) (state store2) p.turns turn p.answered
             (record { grammar = grammar; answered = IsAnswered-handled f (state store) (state store2) frame answer page handled });
         read_is = read-last left0 left p.turns turn held held2 p.read_is held_is;
-        written_is = written-behind written0 written written2 (replies_of p.turns) (bytes_of turn.replies) p.written_is replied.1
+        written_is = written-more written0 written written2 (replies_of p.turns) (bytes_of turn.replies) p.written_is replied.1
             ∙ ap (append_known written0) (sym (flat_map-last (λ t. bytes_of t.replies) p.turns turn));
         lasting = Last-more (lasts store0 disk0) (lasts store disk) (lasts store2 disk2) (acknowledged p.turns) (taken_by frame (stores.Answered answer)) (acknowledged (p.turns ++ turn ∷ [])) acked p.lasting last;
       }
@@ -169,7 +139,7 @@ module _ {S D : Type 0} (f : KeyedFn) (state : S → ServerState) (lasts : S →
         read_is = read-last left0 left p.turns turn held held2 p.read_is held_is;
         finish = Finishes-cut end (p.turns ++ turn ∷ []) (state store2) held2 left written0 written2 unsaid.end_is
             (inl (subst (λ l. TookFront written0 written2 l) (sym (flat_map-last (λ t. bytes_of t.replies) p.turns turn))
-            (front-behind written0 written written2 (replies_of p.turns) (bytes_of turn.replies) p.written_is unsaid.front)));
+            (front-more written0 written written2 (replies_of p.turns) (bytes_of turn.replies) p.written_is unsaid.front)));
         lasting = Last-more (lasts store0 disk0) (lasts store disk) (lasts store2 disk2) (acknowledged p.turns) (taken_by frame (stores.Answered answer)) (acknowledged (p.turns ++ turn ∷ [])) acked p.lasting last;
       }
   Goes-answered frame answer page (Err end) grammar held_is handled last (inr failed) = absurd (cored failed.0)
@@ -189,7 +159,7 @@ module _ {S D : Type 0} (f : KeyedFn) (state : S → ServerState) (lasts : S →
     answered = subst (λ s. AreTurns f (state store0) p.turns s) (sym same) p.answered;
     read_is = p.read_is;
     finish = subst (λ e. Finishes e p.turns (state store2) held left written0 written2) (sym said.0)
-        (finishes p.turns written0 (written-behind written0 written written2 (replies_of p.turns) (reply_bytes reply) p.written_is said.1));
+        (finishes p.turns written0 (written-more written0 written written2 (replies_of p.turns) (reply_bytes reply) p.written_is said.1));
     lasting = no_more (lasts store0 disk0) (lasts store disk) (lasts store2 disk2) (acknowledged p.turns) p.lasting kept;
   }
   Goes-last reply last end same kept is finishes (inr unsaid) = λ left0 written0 store0 disk0 p. record {
@@ -198,7 +168,7 @@ module _ {S D : Type 0} (f : KeyedFn) (state : S → ServerState) (lasts : S →
     answered = subst (λ s. AreTurns f (state store0) p.turns s) (sym same) p.answered;
     read_is = p.read_is;
     finish = Finishes-cut end p.turns (state store2) held left written0 written2 unsaid.end_is
-        (inr (reply, is, front-behind written0 written written2 (replies_of p.turns) (reply_bytes reply) p.written_is unsaid.front));
+        (inr (reply, is, front-more written0 written written2 (replies_of p.turns) (reply_bytes reply) p.written_is unsaid.front));
     lasting = no_more (lasts store0 disk0) (lasts store disk) (lasts store2 disk2) (acknowledged p.turns) p.lasting kept;
   }
 
@@ -243,6 +213,7 @@ module _ (turns : List Turn) (state : ServerState) (held held2 held3 : List ℕ)
   ends-more WriteFault part same still said stops = absurd stops
   ends-more OutOfMemory part same still said stops = absurd stops
   ends-more BadFrame part same still said stops = absurd stops
+  ends-more UnknownOwner part same still said stops = absurd stops
   ends-more StoreFault part same still said stops = absurd stops
 
 -- no whole frame is in front, and more was read, or nothing came

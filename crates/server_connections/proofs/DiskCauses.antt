@@ -1,5 +1,5 @@
--- The disk over several calls.
-use Rattle.std.proofs.Common.{◌≡◌, ◌⊎◌, inl, inr, ℕ, List, ◌≤◌, Some, None, Ok, Err, refl, sym, subst, ◌∙◌, arith}
+-- The disk over an answer of the store, and over a step of a connection.
+use Rattle.std.proofs.Common.{◌≡◌, ◌⊎◌, inl, inr, ℕ, List, ◌≤◌, Some, None, Ok, Err, refl, sym, subst, ◌∙◌}
 use Rattle.std.specs.Prelude.{◌≢◌, IsSome, IfSome}
 use Rattle.std.specs.declared.option.Option.{Option}
 use Rattle.std.specs.declared.result.Result.{Result}
@@ -14,41 +14,28 @@ use Rattle.sse_outside.specs.declared.device_fault.DeviceFault.{DeviceFault}
 use Rattle.sse_outside.specs.declared.device_fault.DeviceFault.TheVariants as devices
 use Rattle.server_core.specs.declared.answer.Answer.{Answer}
 use Rattle.server_core.specs.declared.answer.Answer.TheVariants as cores
-use Rattle.server_connections.specs.declared.conn_end.ConnEnd.{ConnEnd}
-use Rattle.server_connections.specs.declared.conn_end.ConnEnd.TheVariants.{Closed, CutShort, ReadFault, WriteFault, OutOfMemory, BadFrame, StoreFault}
-use Rattle.server_connections.specs.Disks.{IsSteady, HasFallen, SoFar, EndsDisk, HasDiskCause, AnswersDisk}
-use Rattle.server_connections.specs.ConnectionSteps.{IsCame, IsReplied, IsSaidLast}
+use Rattle.tcp_service.specs.declared.conn_end.ConnEnd.{ConnEnd}
+use Rattle.tcp_service.specs.declared.conn_end.ConnEnd.TheVariants.{BadFrame}
+use Rattle.tcp_service.specs.Disks.{IsSteady, EndsDisk, HasDiskCause}
+use Rattle.tcp_service.proofs.DiskCauses.{cut-end}
+use Rattle.server_connections.specs.Handled.{AnswersDisk}
+use Rattle.server_connections.specs.ConnectionSteps.{IsReplied, IsSaidLast}
 
 no_fault : (core : Answer) → answers.Answered core ≡ answers.StoreFault → ⊥
 no_fault core e = cc
 
 module _ (sound sound2 : Type 0) (faults now : ℕ) where
-  -- at an end at which the sink failed, either may be
-  cut-end : (end : ConnEnd) → (end ≡ WriteFault) ⊎ (end ≡ OutOfMemory) → SoFar sound sound2 faults now → EndsDisk sound sound2 faults now end
-  cut-end end (inl is) far = subst (λ e. EndsDisk sound sound2 faults now e) (sym is) far
-  cut-end end (inr is) far = subst (λ e. EndsDisk sound sound2 faults now e) (sym is) far
-
-  pub disk-more : (held held2 : List ℕ) (left left2 : Option (List ℕ)) (result : Result Unit ConnEnd) → IsCame held held2 left left2 result → IsSteady sound sound2 faults now → HasDiskCause sound sound2 faults now result
-  disk-more held held2 left left2 (Ok _) came steady = steady
-  disk-more held held2 left left2 (Err Closed) came steady = steady
-  disk-more held held2 left left2 (Err CutShort) came steady = steady
-  disk-more held held2 left left2 (Err ReadFault) came steady = steady
-  disk-more held held2 left left2 (Err WriteFault) came steady = inl steady
-  disk-more held held2 left left2 (Err OutOfMemory) came steady = inl steady
-  disk-more held held2 left left2 (Err BadFrame) came steady = steady
-  disk-more held held2 left left2 (Err StoreFault) came steady = absurd came.1
-
   pub disk-refused : (written written2 : Option (List ℕ)) (reply : ReplyText) (end : ConnEnd) → IsSaidLast written written2 reply BadFrame end → IsSteady sound sound2 faults now → EndsDisk sound sound2 faults now end
   disk-refused written written2 reply end (inl said) steady = subst (λ e. EndsDisk sound sound2 faults now e) (sym said.0) steady
-  disk-refused written written2 reply end (inr unsaid) steady = cut-end end unsaid.end_is (inl steady)
+  disk-refused written written2 reply end (inr unsaid) steady = cut-end sound sound2 faults now end unsaid.end_is (inl steady)
 
   pub disk-replied : (f : KeyedFn) (written written2 : Option (List ℕ)) (state : ServerState) (answer : StoreAnswer) (page : List ℕ) (result : Result Unit ConnEnd)
       → IsReplied f written written2 state answer page result → AnswersDisk sound sound2 faults now answer → HasDiskCause sound sound2 faults now result
   disk-replied f written written2 state (answers.Answered answer) page (Ok _) replied steady = steady
   disk-replied f written written2 state answers.StoreFault page (Ok _) replied fell = absurd (replied.0 refl)
-  disk-replied f written written2 state (answers.Answered answer) page (Err end) (inl unsaid) steady = cut-end end unsaid.end_is (inl steady)
+  disk-replied f written written2 state (answers.Answered answer) page (Err end) (inl unsaid) steady = cut-end sound sound2 faults now end unsaid.end_is (inl steady)
   disk-replied f written written2 state (answers.Answered answer) page (Err end) (inr failed) steady = absurd (no_fault answer failed.0)
-  disk-replied f written written2 state answers.StoreFault page (Err end) (inl unsaid) fell = cut-end end unsaid.end_is (inr fell)
+  disk-replied f written written2 state answers.StoreFault page (Err end) (inl unsaid) fell = cut-end sound sound2 faults now end unsaid.end_is (inr fell)
   disk-replied f written written2 state answers.StoreFault page (Err end) (inr failed) fell = subst (λ e. EndsDisk sound sound2 faults now e) (sym failed.1) fell
 
 -- What a store's clauses say of its disk, by what broke its journal.
@@ -79,24 +66,3 @@ disk-handled before after faults now taken answers.StoreFault later failed stead
   later = later;
   rose = λ sound. rose_once before faults now taken sound (failed refl) (fault refl) stays;
 }
-
--- one after the other
-module _ (sound mid sound2 : Type 0) (faults middle now : ℕ) where
-  pub steady-steady : IsSteady sound mid faults middle → IsSteady mid sound2 middle now → IsSteady sound sound2 faults now
-  steady-steady a b = record { count = b.count ∙ a.count; stays = λ s. b.stays (a.stays s) }
-
-  steady-fell : IsSteady sound mid faults middle → HasFallen mid middle now → HasFallen sound faults now
-  steady-fell a b = record { later = omega (arith, a.count, b.later); rose = λ s. subst (λ k. Rose k now) a.count (b.rose (a.stays s)) }
-
-  steady-far : IsSteady sound mid faults middle → SoFar mid sound2 middle now → SoFar sound sound2 faults now
-  steady-far a (inl b) = inl (steady-steady a b)
-  steady-far a (inr b) = inr (steady-fell a b)
-
-  pub ends-after : (end : ConnEnd) → IsSteady sound mid faults middle → EndsDisk mid sound2 middle now end → EndsDisk sound sound2 faults now end
-  ends-after Closed a b = steady-steady a b
-  ends-after CutShort a b = steady-steady a b
-  ends-after ReadFault a b = steady-steady a b
-  ends-after WriteFault a b = steady-far a b
-  ends-after OutOfMemory a b = steady-far a b
-  ends-after BadFrame a b = steady-steady a b
-  ends-after StoreFault a b = steady-fell a b

@@ -1,12 +1,8 @@
-mod Ranges
-pub mod ConnectionStepLaws
+mod ConnectionStepLaws
 mod Pages
 mod Servings
 mod LastingFrames
-mod OneGiven
-pub mod DiskCauses
-pub mod ClosedDisks
-mod Pieces
+mod DiskCauses
 mod OwnersKept
 mod OwnerServings
 mod OwnersServedLaws

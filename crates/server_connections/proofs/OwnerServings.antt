@@ -12,17 +12,18 @@ use Rattle.sse_outside.specs.Fronts.{TookFront}
 use Rattle.server_core.specs.State.{at_first}
 use Rattle.sse_owners.specs.Owned.{OwnedFrame, state_of}
 use Rattle.sse_owners.specs.OwnersView.{OwnersView, GivesAtMostOneMore, IsOwnersOf, chosen_owner, chosen_state}
-use Rattle.server_connections.specs.declared.conn_end.ConnEnd.{ConnEnd}
-use Rattle.server_connections.specs.declared.conn_end.ConnEnd.TheVariants.{CutShort, ReadFault, BadFrame}
-use Rattle.server_connections.specs.Connections.{IsConnection, Finishes, EndsSource, EndsSink}
+use Rattle.tcp_service.specs.declared.conn_end.ConnEnd.{ConnEnd}
+use Rattle.tcp_service.specs.declared.conn_end.ConnEnd.TheVariants.{CutShort, ReadFault, UnknownOwner}
+use Rattle.server_connections.specs.Connections.{IsConnection, Finishes}
+use Rattle.tcp_service.specs.Faults.{EndsSource, EndsSink}
 use Rattle.server_connections.specs.ConnectionSteps.{IsSaidLast}
-use Rattle.server_connections.specs.Disks.{IsSteady, EndsDisk}
+use Rattle.tcp_service.specs.Disks.{IsSteady, EndsDisk}
 use Rattle.server_connections.specs.Handled.{Since}
-use Rattle.server_connections.specs.Heads.{IsCutShort}
+use Rattle.tcp_service.specs.Heads.{IsCutShort}
 use Rattle.server_connections.specs.OwnersLasting.{AreOwnersLasting, with_own}
 use Rattle.server_connections.specs.OwnerConnections.{ServesOwner}
 use Rattle.server_connections.specs.Turns.{AreTurns, frames_of, acknowledged}
-use Rattle.server_connections.proofs.Pieces.{both_read}
+use Rattle.tcp_service.proofs.Pieces.{both_read}
 
 -- the chosen owner's server, after frames that were taken
 chosen_is : (frames : List OwnedFrame) (owners : OwnersView) (owner : ℕ) (content : Option (List ℕ)) (images : List ℕ → Type 0) → IsOwnersOf frames owners content images → chosen_owner owners ≡ owner → chosen_state owners ≡ state_of owner frames
@@ -65,7 +66,7 @@ module _ (f : KeyedFn) (owners chosen owners2 : OwnersView) (owner : ℕ) (left0
       }
 
 module _ (f : KeyedFn) (owners owners2 : OwnersView) (owner : ℕ) (left0 left written written2 : Option (List ℕ)) (content : Option (List ℕ)) (images : List ℕ → Type 0) (frames : List OwnedFrame) where
-  pub refused_owner : (end : ConnEnd) → owners2 ≡ owners → owner < 2 ^ 64 → (Contains owners.numbers owner → ⊥) → left0 ≡ prepend_known (to_be_bytes w64 owner) left → IsSaidLast written written2 OutOfPlace BadFrame end
+  pub refused_owner : (end : ConnEnd) → owners2 ≡ owners → owner < 2 ^ 64 → (Contains owners.numbers owner → ⊥) → left0 ≡ prepend_known (to_be_bytes w64 owner) left → IsSaidLast written written2 OutOfPlace UnknownOwner end
       → IsOwnersOf frames owners content images → ServesOwner f owners owners2 frames left0 left written written2 content images
   refused_owner end same short unknown head said is = record {
     frames2 = frames;
@@ -74,7 +75,7 @@ module _ (f : KeyedFn) (owners owners2 : OwnersView) (owner : ℕ) (left0 left w
     owners_are = subst (λ v. IsOwnersOf frames v content images) (sym same) is;
   }
     where
-      refused : IsSaidLast written written2 OutOfPlace BadFrame end → (written2 ≡ append_known written (reply_bytes OutOfPlace)) ⊎ TookFront written written2 (reply_bytes OutOfPlace)
+      refused : IsSaidLast written written2 OutOfPlace UnknownOwner end → (written2 ≡ append_known written (reply_bytes OutOfPlace)) ⊎ TookFront written written2 (reply_bytes OutOfPlace)
       refused (inl all) = inl all.1
       refused (inr cut) = inr cut.front
 

@@ -5,9 +5,9 @@ use Rattle.std.specs.Option.{option_map}
 use Rattle.keyed_fn.specs.KeyedFn.{KeyedFn}
 use Rattle.sse_owners.specs.Owned.{OwnedFrame}
 use Rattle.sse_owners.specs.OwnersView.{OwnersView, IsOwnersOf}
-use Rattle.server_connections.specs.declared.duplex.Duplex.{Duplex}
+use Rattle.tcp_service.specs.declared.duplex.Duplex.{Duplex}
 use Rattle.server_connections.specs.OwnerConnections.{IsOwnerServed, ServesOwner, AreOwnersServed, HaveOwnersServed}
-use Rattle.server_connections.proofs.Servings.{grown-last, grown-none}
+use Rattle.tcp_service.proofs.GrownLists.{grown-last, grown-none}
 
 module _ {I O : Type 0} (f : KeyedFn) (remaining : I → Option (List ℕ)) (written : O → Option (List ℕ)) (numbers : List ℕ) where
   AreOwnersServed-last : (conns backs : List (Duplex I O)) (conn back : Duplex I O) (frames mid frames2 : List OwnedFrame) → AreOwnersServed f remaining written numbers conns backs frames mid

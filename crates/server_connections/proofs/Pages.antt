@@ -1,7 +1,6 @@
 -- The pages of a search, one after the other.
-use Rattle.std.proofs.Common.{◌≡◌, ℕ, Bool, true, false, List, [], ◌∷◌, ◌++◌, length, take, drop, map, Ok, Err, refl, sym, ap, subst, ◌∙◌, arith, append_assoc, length-append}
-use Rattle.std.specs.Prelude.{flat_map, if◌then◌else◌, IsErrAnd}
-use Rattle.std.specs.declared.result.Result.{Result}
+use Rattle.std.proofs.Common.{◌≡◌, ℕ, Bool, true, false, List, [], ◌∷◌, ◌++◌, length, take, drop, map, refl, sym, ap, subst, ◌∙◌, arith, append_assoc, length-append}
+use Rattle.std.specs.Prelude.{flat_map, if◌then◌else◌}
 use Rattle.std.specs.declared.option.Option.{Option}
 use Rattle.std.specs.Io.KnownBytes.{append_known}
 use Rattle.std.proofs.Math.Seq.{take-append_seam}
@@ -16,10 +15,10 @@ use Rattle.server_core.specs.Walk.{HasPage, contents_of, rest_of}
 use Rattle.server_core.specs.declared.walk.Walk.{Walk}
 use Rattle.sse_link.specs.declared.due.Due.TheVariants as dues
 use Rattle.sse_link.proofs.Pages.{waiting-first}
-use Rattle.server_connections.proofs.ConnectionStepLaws.{front-behind}
-use Rattle.server_connections.specs.ConnectionSteps.{IsSaid, IsUnsaid}
+use Rattle.tcp_service.proofs.Pieces.{front-more}
+use Rattle.tcp_service.specs.Writing.{IsUnsaid}
 use Rattle.server_connections.specs.RepliesLeft.{IsSaying}
-use Rattle.server_connections.specs.declared.conn_end.ConnEnd.{ConnEnd}
+use Rattle.tcp_service.specs.declared.conn_end.ConnEnd.{ConnEnd}
 use Rattle.server_connections.specs.Turns.{bytes_of}
 
 joined-reply_bytes : (replies : List ReplyText) → flat_map (λ bytes. bytes) (map reply_bytes replies) ≡ bytes_of replies
@@ -77,17 +76,12 @@ longer old new front behind all is cut = record {
 pub saying-cut : (written0 written written2 : Option (List ℕ)) (all rest piece behind : List ℕ) → IsSaying written0 written all rest → rest ≡ piece ++ behind → TookFront written written2 piece
     → TookFront written0 written2 all
 saying-cut written0 written written2 all rest piece behind is parts front =
-    let cut = front-behind written0 written written2 is.said piece is.written_is front in
+    let cut = front-more written0 written written2 is.said piece is.written_is front in
     longer written0 written2 (is.said ++ piece) behind all (is.all_is ∙ ap (λ l. is.said ++ l) parts ∙ sym (append_assoc is.said piece behind)) cut
 
 -- a page that was lent whole is the page
 pub lent_page : (lent items : List ℕ) (len : ℕ) → len ≡ length lent → take len (lent ++ drop (length lent) items) ≡ lent
 lent_page lent items len is = ap (λ n. take n (lent ++ drop (length lent) items)) is ∙ take-append_seam lent (drop (length lent) items)
-
--- Whichever error it is, the sink failed there.
-pub IsSaid-err : (written written2 : Option (List ℕ)) (all : List ℕ) (result : Result Unit ConnEnd) (end : ConnEnd) → IsErrAnd result (λ e. e ≡ end) → IsUnsaid end written written2 all → IsSaid written written2 all result
-IsSaid-err written written2 all (Ok x) end is unsaid = absurd is
-IsSaid-err written written2 all (Err e) end is unsaid = subst (λ k. IsUnsaid k written written2 all) (sym is) unsaid
 
 module _ (f : KeyedFn) (s : ServerState) (count : ℕ) (walk : Walk) (page : List ℕ) (written0 written written2 : Option (List ℕ)) (all : List ℕ) (over : Bool)
     (has : HasPage f (contents_of s) count walk page) (long : length page ≡ 8192)

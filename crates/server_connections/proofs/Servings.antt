@@ -1,25 +1,14 @@
 -- A connection more, and nothing more.
-use Rattle.std.proofs.Common.{◌≡◌, ℕ, List, [], ◌∷◌, ◌++◌, None, Some, refl, sym, ap, subst, ◌∙◌, append_assoc}
+use Rattle.std.proofs.Common.{◌≡◌, ℕ, List, [], ◌∷◌, ◌++◌, refl, subst, ◌∙◌}
 use Rattle.std.specs.declared.option.Option.{Option}
 use Rattle.std.specs.Option.{option_map}
-use Rattle.std.proofs.lemmas.List.{append-nil}
 use Rattle.keyed_fn.specs.KeyedFn.{KeyedFn}
 use Rattle.sse_frames.specs.Frames.{FrameText}
 use Rattle.server_core.specs.State.{ServerState}
-use Rattle.server_connections.specs.declared.duplex.Duplex.{Duplex}
+use Rattle.tcp_service.specs.declared.duplex.Duplex.{Duplex}
+use Rattle.tcp_service.proofs.GrownLists.{grown-last, grown-none}
 use Rattle.server_connections.specs.Handled.{Since}
 use Rattle.server_connections.specs.Served.{IsServed, AreServed, HaveServed}
-
--- a list that grew by some and then by one
-pub grown-last : {A : Type 0} (old mid new : Option (List A)) (xs : List A) (x : A)
-    → mid ≡ option_map (λ l. l ++ xs) old → new ≡ option_map (λ l. l ++ x ∷ []) mid → new ≡ option_map (λ l. l ++ (xs ++ x ∷ [])) old
-grown-last None mid new xs x is more = more ∙ ap (option_map (λ l. l ++ x ∷ [])) is
-grown-last (Some l) mid new xs x is more = more ∙ ap (option_map (λ l. l ++ x ∷ [])) is ∙ ap Some (append_assoc l xs (x ∷ []))
-
--- a list that didn't grow
-pub grown-none : {A : Type 0} (old : Option (List A)) → old ≡ option_map (λ l. l ++ []) old
-grown-none None = refl
-grown-none (Some l) = ap Some (sym (append-nil l))
 
 module _ {S D I O : Type 0} (f : KeyedFn) (state : S → ServerState) (lasts : S → D → Since → List FrameText → Type 0) (remaining : I → Option (List ℕ)) (written : O → Option (List ℕ)) where
   AreServed-last : (store mid store2 : S) (disk mid_disk disk2 : D) (conns backs : List (Duplex I O)) (conn back : Duplex I O)

@@ -1,8 +1,7 @@
 -- The steps of a connection.
-use Rattle.std.specs.Prelude.{◌≡◌, ◌≢◌, ◌⊎◌, ℕ, ◌+◌, ◌-◌, ◌*◌, ◌^◌, false, List, [], ◌++◌, length, Option, Result, Ok, Err, MatchResult}
-use Rattle.std.specs.Io.KnownBytes.{append_known, prepend_known, IsAtEnd}
+use Rattle.std.specs.Prelude.{◌≡◌, ◌≢◌, ◌⊎◌, ℕ, false, List, [], ◌++◌, Option, Result, Ok, Err, MatchResult}
+use Rattle.std.specs.Io.KnownBytes.{append_known, prepend_known}
 use Rattle.keyed_fn.specs.KeyedFn.{KeyedFn}
-use Rattle.sse_outside.specs.Fronts.{TookFront}
 use Rattle.sse_frames.specs.Frames.{FrameText, InGrammar, frame_bytes}
 use Rattle.sse_frames.specs.ReadOutcomes.{frame_outcome}
 use Rattle.sse_frames.specs.Replies.{ReplyText, reply_bytes}
@@ -12,11 +11,12 @@ use Rattle.sse_server.specs.declared.store_answer.StoreAnswer.TheVariants as ans
 use Rattle.sse_server.specs.Answers.{store_replies}
 use Rattle.server_connections.specs.declared.front_frame.InFront.{InFront}
 use Rattle.server_connections.specs.declared.front_frame.InFront.TheVariants.{Part, Bad, Whole}
-use Rattle.server_connections.specs.declared.conn_end.ConnEnd.{ConnEnd}
-use Rattle.server_connections.specs.declared.conn_end.ConnEnd.TheVariants.{Closed, CutShort, ReadFault, WriteFault, OutOfMemory, BadFrame, StoreFault}
-use Rattle.server_connections.specs.Connections.{IsConnection, EndsSource, EndsSink}
-use Rattle.server_connections.specs.Disks.{IsSteady, AnswersDisk}
-use Rattle.server_connections.specs.Handled.{IsHandled, Last, Since, taken_by}
+use Rattle.tcp_service.specs.declared.conn_end.ConnEnd.{ConnEnd}
+use Rattle.tcp_service.specs.declared.conn_end.ConnEnd.TheVariants.{StoreFault}
+use Rattle.tcp_service.specs.Disks.{IsSteady}
+use Rattle.tcp_service.specs.Writing.{IsUnsaid}
+use Rattle.server_connections.specs.Connections.{IsConnection}
+use Rattle.server_connections.specs.Handled.{AnswersDisk, IsHandled, Last, Since, taken_by}
 use Rattle.server_connections.specs.Turns.{Turn, AreTurns, frames_of, replies_of, bytes_of, acknowledged}
 
 -- what was read and written while these frames were answered; this is held behind them
@@ -36,22 +36,6 @@ Goes {S} {D} f state lasts left left2 written written2 held held2 store store2 d
     (λ _. Progress f left0 left2 written0 written2 (lasts store0 disk0) (lasts store2 disk2) (state store0) held2 (state store2))
     (λ end. IsConnection f left0 left2 written0 written2 (lasts store0 disk0) (lasts store2 disk2) (state store0) end (state store2))
 
--- why no bytes came
-abbrev pub Stops : ConnEnd → (held : List ℕ) (left left2 : Option (List ℕ)) → Type 0
-Stops Closed held left left2 = (held ≡ []) × IsAtEnd left2 × (left ≡ left2)
-Stops CutShort held left left2 = (held ≢ []) × IsAtEnd left2 × (left ≡ left2)
-Stops ReadFault held left left2 = left ≡ left2
-Stops WriteFault held left left2 = ⊥
-Stops OutOfMemory held left left2 = ⊥
-Stops BadFrame held left left2 = ⊥
-Stops StoreFault held left left2 = ⊥
-
--- bytes were read behind those held, or none came
-abbrev pub IsCame : (held held2 : List ℕ) (left left2 : Option (List ℕ)) → Result Unit ConnEnd → Type 0
-IsCame held held2 left left2 result = MatchResult result
-    (λ _. (read : List ℕ) × (held2 ≡ held ++ read) × (left ≡ prepend_known read left2))
-    (λ end. (held2 ≡ held) × Stops end held left left2)
-
 -- what stood in front of the bytes held, and what the keeper answered
 abbrev pub IsFronted : KeyedFn → (held held2 : List ℕ) (lasts lasts2 : Since → List FrameText → Type 0) (now now2 : ServerState) → InFront → (page : List ℕ) → Type 0
 IsFronted f held held2 lasts lasts2 now now2 Part page = (frame_outcome held ≡ Ok false) × (held2 ≡ held) × (now2 ≡ now) × Last lasts lasts2 []
@@ -70,17 +54,6 @@ FrontsDisk sound sound2 faults now Part = IsSteady sound sound2 faults now
 FrontsDisk sound sound2 faults now (Bad fault) = IsSteady sound sound2 faults now
 FrontsDisk sound sound2 faults now (Whole answer) = AnswersDisk sound sound2 faults now answer
 
--- the sink took a proper front of these bytes, and failed
-pub record IsUnsaid (end : ConnEnd) (written written2 : Option (List ℕ)) (bytes : List ℕ) : Type 0 where
-  pub end_is : (end ≡ WriteFault) ⊎ (end ≡ OutOfMemory)
-  pub front : TookFront written written2 bytes
-
--- all of these bytes were written, or the sink failed
-abbrev pub IsSaid : (written written2 : Option (List ℕ)) → List ℕ → Result Unit ConnEnd → Type 0
-IsSaid written written2 bytes result = MatchResult result
-    (λ _. written2 ≡ append_known written bytes)
-    (λ end. IsUnsaid end written written2 bytes)
-
 -- a reply that is the last was written, and that is the end, or the sink failed
 abbrev pub IsSaidLast : (written written2 : Option (List ℕ)) → ReplyText → (last end : ConnEnd) → Type 0
 IsSaidLast written written2 reply last end =
@@ -92,15 +65,3 @@ IsReplied f written written2 state answer page result = MatchResult result
     (λ _. (answer ≢ answers.StoreFault) × (written2 ≡ append_known written (bytes_of (store_replies f state answer page))))
     (λ end. IsUnsaid end written written2 (bytes_of (store_replies f state answer page))
     ⊎ ((answer ≡ answers.StoreFault) × (end ≡ StoreFault) × (written2 ≡ append_known written (bytes_of (store_replies f state answer page)))))
-
--- the counts of a step: of a source, and of a sink
-abbrev pub HasSourceCause : (faults now : ℕ) → Result Unit ConnEnd → Type 0
-HasSourceCause faults now result = MatchResult result (λ _. now ≡ faults) (λ end. EndsSource faults now end)
-
-abbrev pub HasSinkCause : (faults now shortages now_short : ℕ) → Result Unit ConnEnd → Type 0
-HasSinkCause faults now shortages now_short result =
-    MatchResult result (λ _. (now ≡ faults) × (now_short ≡ shortages)) (λ end. EndsSink faults now shortages now_short end)
-
--- what makes the loop end: the bytes that are held, and twice those that the source may still give
-abbrev pub bytes_to_come : List ℕ → ℕ → ℕ
-bytes_to_come held handed_out = length held + 2 * (2 ^ 63 - handed_out)

@@ -2,7 +2,6 @@
 use Rattle.std.specs.Prelude.{◌≡◌, ◌≢◌, ◌⊎◌, ℕ, false, List, [], ◌++◌, Option, Ok, IsErr}
 use Rattle.std.specs.Io.KnownBytes.{append_known, prepend_known, IsAtEnd}
 use Rattle.keyed_fn.specs.KeyedFn.{KeyedFn}
-use Rattle.sse_outside.specs.Causes.{Rose}
 use Rattle.sse_outside.specs.Fronts.{TookFront}
 use Rattle.sse_frames.specs.Frames.{FrameText, frame_bytes}
 use Rattle.sse_frames.specs.ReadOutcomes.{frame_outcome}
@@ -11,8 +10,8 @@ use Rattle.sse_frames.specs.Replies.{ReplyText, reply_bytes}
 use Rattle.server_core.specs.State.{ServerState}
 use Rattle.sse_server.specs.Taken.{IsTaken}
 use Rattle.sse_link.specs.BadFrames.{bad_reason}
-use Rattle.server_connections.specs.declared.conn_end.ConnEnd.{ConnEnd}
-use Rattle.server_connections.specs.declared.conn_end.ConnEnd.TheVariants.{Closed, CutShort, ReadFault, WriteFault, OutOfMemory, BadFrame, StoreFault}
+use Rattle.tcp_service.specs.declared.conn_end.ConnEnd.{ConnEnd}
+use Rattle.tcp_service.specs.declared.conn_end.ConnEnd.TheVariants.{Closed, CutShort, ReadFault, WriteFault, OutOfMemory, BadFrame, UnknownOwner, StoreFault}
 use Rattle.server_connections.specs.Handled.{Last, Since}
 use Rattle.server_connections.specs.Turns.{Turn, AreTurns, frames_of, replies_of, acknowledged}
 
@@ -49,6 +48,7 @@ Finishes ReadFault turns state rest left written0 written =
     (frame_outcome rest ≡ Ok false) × (written ≡ append_known written0 (replies_of turns))
 Finishes BadFrame turns state rest left written0 written =
     IsErr (frame_outcome rest) × (written ≡ append_known written0 (replies_of turns ++ reply_bytes (bad_reply rest)))
+Finishes UnknownOwner turns state rest left written0 written = ⊥
 Finishes StoreFault turns state rest left written0 written =
     HasFailed state rest × (written ≡ append_known written0 (replies_of turns ++ reply_bytes replies.StoreFault))
 Finishes WriteFault turns state rest left written0 written = IsCut turns state rest written0 written
@@ -63,23 +63,3 @@ pub record IsConnection (f : KeyedFn) (left0 left written0 written : Option (Lis
   pub read_is : left0 ≡ prepend_known (frames_of turns ++ rest) left
   pub finish : Finishes end turns after rest left written0 written
   pub lasting : Last lasts0 lasts (acknowledged turns)
-
--- the source's count of faults, by how the connection ended
-abbrev pub EndsSource : (faults now : ℕ) → ConnEnd → Type 0
-EndsSource faults now Closed = now ≡ faults
-EndsSource faults now CutShort = now ≡ faults
-EndsSource faults now ReadFault = Rose faults now
-EndsSource faults now WriteFault = now ≡ faults
-EndsSource faults now OutOfMemory = now ≡ faults
-EndsSource faults now BadFrame = now ≡ faults
-EndsSource faults now StoreFault = now ≡ faults
-
--- the sink's counts of faults and of shortages, by how the connection ended
-abbrev pub EndsSink : (faults now shortages now_short : ℕ) → ConnEnd → Type 0
-EndsSink faults now shortages now_short Closed = (now ≡ faults) × (now_short ≡ shortages)
-EndsSink faults now shortages now_short CutShort = (now ≡ faults) × (now_short ≡ shortages)
-EndsSink faults now shortages now_short ReadFault = (now ≡ faults) × (now_short ≡ shortages)
-EndsSink faults now shortages now_short WriteFault = Rose faults now × (now_short ≡ shortages)
-EndsSink faults now shortages now_short OutOfMemory = (now ≡ faults) × Rose shortages now_short
-EndsSink faults now shortages now_short BadFrame = (now ≡ faults) × (now_short ≡ shortages)
-EndsSink faults now shortages now_short StoreFault = (now ≡ faults) × (now_short ≡ shortages)

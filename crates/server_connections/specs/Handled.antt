@@ -1,5 +1,5 @@
 -- A keeper's answer to a frame.
-use Rattle.std.specs.Prelude.{◌≡◌, ◌≢◌, ◌⊎◌, ℕ, List, [], ◌∷◌, ◌++◌, Option, Some, None}
+use Rattle.std.specs.Prelude.{◌≡◌, ◌≢◌, ◌⊎◌, ℕ, List, [], ◌∷◌, ◌++◌, Option, None}
 use Rattle.keyed_fn.specs.KeyedFn.{KeyedFn}
 use Rattle.sse_frames.specs.Frames.{FrameText}
 use Rattle.server_core.specs.State.{ServerState, at_first}
@@ -11,10 +11,9 @@ use Rattle.sse_server.specs.Taken.{IsTaken, AreTaken, taken_all, bodies}
 use Rattle.sse_server.specs.StoreView.{StoreView}
 use Rattle.sse_journal.specs.Files.{Gives}
 use Rattle.sse_journal.specs.JournalView.{broken_by, IsJournalOf}
-use Rattle.sse_journal.specs.declared.journal.Journal.{Journal}
-use Rattle.sse_outside.specs.declared.device_fault.DeviceFault.TheVariants.{Failed}
 use Rattle.sse_server.specs.declared.store_answer.StoreAnswer.{StoreAnswer}
 use Rattle.sse_server.specs.declared.store_answer.StoreAnswer.TheVariants.{Answered, StoreFault}
+use Rattle.tcp_service.specs.Disks.{IsSteady, HasFallen}
 
 -- the server's step, or out of memory or a fault of the disk in place of taking an update frame
 pub record IsHandled (f : KeyedFn) (before : ServerState) (frame : FrameText) (answer : StoreAnswer) (page : List ℕ) (after : ServerState) : Type 0 where
@@ -38,9 +37,10 @@ pub record Since : Type 0 where
 abbrev pub Last : (lasts lasts2 : Since → List FrameText → Type 0) → List FrameText → Type 0
 Last lasts lasts2 more = (since : Since) (frames : List FrameText) → lasts since frames → lasts2 since (frames ++ more)
 
--- a keeper that takes no update frame any more stays so, and leaves its disk untouched
-abbrev pub StaysClosed : {D : Type 0} → (closed closed2 : Type 0) (disk disk2 : D) → Type 0
-StaysClosed closed closed2 disk disk2 = closed → (disk2 ≡ disk) × closed2
+-- the disk, by what was answered to a frame
+abbrev pub AnswersDisk : (sound sound2 : Type 0) (faults now : ℕ) → StoreAnswer → Type 0
+AnswersDisk sound sound2 faults now (Answered answer) = IsSteady sound sound2 faults now
+AnswersDisk sound sound2 faults now StoreFault = HasFallen sound faults now
 
 -- a start from this file gives these frames and at most one more, which a server takes after them
 abbrev pub GivesAtMostOneMore : List FrameText → (bytes : List ℕ) → Type 0
@@ -55,7 +55,3 @@ pub record IsLasting (frames : List FrameText) (store : StoreView) (content : Op
   pub state_is : store.state ≡ taken_all at_first frames
   pub whole : broken_by store.journal ≡ None → IsJournalOf (bodies frames) store.journal content images
   pub left : (bytes : List ℕ) → images bytes → GivesAtMostOneMore frames bytes
-
--- its disk didn't fail at a record
-abbrev pub IsSound : Journal → Type 0
-IsSound journal = broken_by journal ≢ Some Failed

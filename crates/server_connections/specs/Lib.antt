@@ -1,6 +1,4 @@
 pub mod Turns
-pub mod Heads
-pub mod Disks
 pub mod Handled
 pub mod OwnersLasting
 pub mod Connections
@@ -8,7 +6,3 @@ pub mod ConnectionSteps
 pub mod RepliesLeft
 pub mod OwnerConnections
 pub mod Served
-pub mod QueuedConns
-pub mod Scripts
-pub mod MemConns
-pub mod Texts

@@ -8,8 +8,8 @@ use Rattle.sse_outside.specs.Fronts.{TookFront}
 use Rattle.sse_frames.specs.Replies.{OutOfPlace, reply_bytes}
 use Rattle.sse_owners.specs.Owned.{OwnedFrame, owned, state_of}
 use Rattle.sse_owners.specs.OwnersView.{OwnersView, IsOwnersOf}
-use Rattle.server_connections.specs.declared.conn_end.ConnEnd.{ConnEnd}
-use Rattle.server_connections.specs.declared.duplex.Duplex.{Duplex}
+use Rattle.tcp_service.specs.declared.conn_end.ConnEnd.{ConnEnd}
+use Rattle.tcp_service.specs.declared.duplex.Duplex.{Duplex}
 use Rattle.server_connections.specs.Connections.{Finishes}
 use Rattle.server_connections.specs.Turns.{Turn, AreTurns, frames_of, acknowledged}
 

@@ -4,8 +4,8 @@ use Rattle.std.specs.Option.{option_map}
 use Rattle.keyed_fn.specs.KeyedFn.{KeyedFn}
 use Rattle.sse_frames.specs.Frames.{FrameText}
 use Rattle.server_core.specs.State.{ServerState}
-use Rattle.server_connections.specs.declared.conn_end.ConnEnd.{ConnEnd}
-use Rattle.server_connections.specs.declared.duplex.Duplex.{Duplex}
+use Rattle.tcp_service.specs.declared.conn_end.ConnEnd.{ConnEnd}
+use Rattle.tcp_service.specs.declared.duplex.Duplex.{Duplex}
 use Rattle.server_connections.specs.Handled.{Since}
 use Rattle.server_connections.specs.Connections.{IsConnection}
 

@@ -1,14 +1,16 @@
 ghost use Rattle.std.specs.Prelude.{◌≡◌, ◌<◌, ℕ, List, [], OnOk};
 ghost use Rattle.keyed_fn.specs.KeyedFn.{keyed_fn};
-ghost use Rattle.server_connections.specs.Connections.{IsConnection, EndsSource, EndsSink};
-ghost use Rattle.server_connections.specs.Disks.{HasDiskCause, EndsDisk};
-ghost use Rattle.server_connections.specs.Handled.{StaysClosed};
-ghost use Rattle.server_connections.specs.ConnectionSteps.{Goes, HasSourceCause, HasSinkCause, bytes_to_come};
+ghost use Rattle.server_connections.specs.Connections.{IsConnection};
+ghost use Rattle.tcp_service.specs.Faults.{EndsSource, EndsSink, HasSourceCause, HasSinkCause};
+ghost use Rattle.tcp_service.specs.Disks.{HasDiskCause, EndsDisk, StaysClosed};
+ghost use Rattle.server_connections.specs.ConnectionSteps.{Goes};
+ghost use Rattle.tcp_service.specs.Arrivals.{bytes_to_come};
 
-use crate::front_frame::{InFront, more, refuse, reply, take_front};
-use crate::{ConnEnd, Duplex, Incoming, Keeps, Outgoing};
+use crate::front_frame::{InFront, refuse, reply, take_front};
+use crate::{Keeps, Outgoing};
 use keyed_fn::Keyed;
 use sse_outside::{Disk, Sink, Source};
+use tcp_service::{ConnEnd, Duplex, Incoming, more};
 
 /// Answers the frame in front, reads more of it, or refuses what is there.
 fn advance<K: Keyed, D: Disk, S: Keeps<D>, I: Source, O: Sink>(

@@ -1,19 +1,20 @@
-ghost use Rattle.std.specs.Prelude.{◌≡◌, ◌≤◌, ◌<◌, ◌+◌, ℕ, List, length, OnOk, Err};
+ghost use Rattle.std.specs.Prelude.{◌≡◌, ◌≤◌, ◌<◌, ◌+◌, ℕ, List, length, Err};
 ghost use Rattle.keyed_fn.specs.KeyedFn.{keyed_fn};
 ghost use Rattle.sse_frames.specs.Replies as replies;
 ghost use Rattle.sse_link.specs.BadFrames.{bad_reason};
 ghost use Rattle.server_core.specs.Views.{HasBegun, HasRange};
 ghost use Rattle.sse_server.specs.Answers.{IfAnswered};
-ghost use Rattle.server_connections.specs.Connections.{EndsSink};
-ghost use Rattle.server_connections.specs.Handled.{StaysClosed};
-ghost use Rattle.server_connections.specs.ConnectionSteps.{FrontsDisk, IfWhole, IsCame, IsFronted, IsReplied, IsSaidLast, HasSourceCause, HasSinkCause, bytes_to_come};
+ghost use Rattle.tcp_service.specs.Faults.{EndsSink, HasSinkCause};
+ghost use Rattle.tcp_service.specs.Disks.{StaysClosed};
+ghost use Rattle.server_connections.specs.ConnectionSteps.{FrontsDisk, IfWhole, IsFronted, IsReplied, IsSaidLast};
 
 use crate::reply_list::{reply_list_of, say_all, say_reply};
-use crate::{ConnEnd, Incoming, Keeps, Outgoing};
+use crate::{Keeps, Outgoing};
 use keyed_fn::Keyed;
 use sse_frames::{FrameFault, Reply, read_frame};
-use sse_outside::{Disk, Sink, Source};
+use sse_outside::{Disk, Sink};
 use sse_server::StoreAnswer;
+use tcp_service::{ConnEnd, Incoming};
 
 /// What stood in front of the bytes that were read.
 #[derive(Clone, Copy)]
@@ -54,21 +55,6 @@ pub fn take_front<K: Keyed, D: Disk, S: Keeps<D>>(
     InFront::Whole(answer)
 }
 
-/// More bytes behind those that are held, which aren't a whole frame, or the end that stands in their place.
-pub fn more<I: Source>(incoming: &mut Incoming, source: &mut I) -> Result<(), ConnEnd>
-    requires { length incoming.old < 1048580 }
-    ensures came { IsCame incoming.old incoming.new (I.remaining source.old) (I.remaining source.new) result }
-    ensures less { OnOk result (bytes_to_come incoming.new (I.handed_out source.new) < bytes_to_come incoming.old (I.handed_out source.old)) }
-    ensures cause { HasSourceCause (I.faults source.old) (I.faults source.new) result }
-{
-    match incoming.refill(source) {
-        Ok(0) if incoming.pending().is_empty() => Err(ConnEnd::Closed),
-        Ok(0) => Err(ConnEnd::CutShort),
-        Ok(_) => Ok(()),
-        Err(_) => Err(ConnEnd::ReadFault),
-    }
-}
-
 /// The reason that the reply to what is no frame gives: 1 for a length that is out of range, 2 for an unknown kind, 3 for
 /// another field.
 fn reason_of(fault: FrameFault) -> u8
@@ -97,11 +83,11 @@ pub fn refuse<W: Sink>(sink: &mut W, fault: FrameFault, outgoing: &mut Outgoing)
 
 /// Writes the reply to a connection whose owner isn't known, which is the only one, and answers how the connection ends.
 pub fn refuse_owner<W: Sink>(sink: &mut W, outgoing: &mut Outgoing) -> ConnEnd
-    ensures refused { IsSaidLast (W.written sink.old) (W.written sink.new) replies.OutOfPlace ConnEnd.BadFrame result }
+    ensures refused { IsSaidLast (W.written sink.old) (W.written sink.new) replies.OutOfPlace ConnEnd.UnknownOwner result }
     ensures cause { EndsSink (W.faults sink.old) (W.faults sink.new) (W.shortages sink.old) (W.shortages sink.new) result }
 {
     match say_reply(sink, &Reply::OutOfPlace, &mut outgoing.reply) {
-        Ok(()) => ConnEnd::BadFrame,
+        Ok(()) => ConnEnd::UnknownOwner,
         Err(end) => end,
     }
 }

@@ -7,8 +7,8 @@ ghost use Rattle.server_core.specs.State.{ServerState};
 ghost use Rattle.server_core.specs.Views.{HasBegun, HasRange};
 ghost use Rattle.server_core.specs.Walk.{IsWalk, contents_of, rest_of};
 ghost use Rattle.sse_server.specs.Answers.{IfAnswered};
-ghost use Rattle.server_connections.specs.Disks.{AnswersDisk};
-ghost use Rattle.server_connections.specs.Handled.{IsHandled, Last, Since, StaysClosed, taken_by};
+ghost use Rattle.server_connections.specs.Handled.{AnswersDisk, IsHandled, Last, Since, taken_by};
+ghost use Rattle.tcp_service.specs.Disks.{StaysClosed};
 
 use keyed_fn::Keyed;
 use server_core::Walk;
@@ -87,7 +87,8 @@ impl<T: Tables, D: Disk> Keeps<D> for Store<T> {
     ghost use Rattle.sse_server.specs.StoreView.{IsWithin};
     ghost use Rattle.std.specs.Prelude.{IsSome};
     ghost use Rattle.sse_journal.specs.JournalView.{broken_by};
-    ghost use Rattle.server_connections.specs.Handled.{GivesAtMostOneMore, IsLasting, IsSound};
+    ghost use Rattle.server_connections.specs.Handled.{GivesAtMostOneMore, IsLasting};
+    ghost use Rattle.tcp_service.specs.Disks.{IsSound};
 
     ghost state = { λ s. s.state };
 
@@ -123,7 +124,7 @@ impl<T: Tables, D: Disk> Keeps<D> for Owners<T> {
     ghost use Rattle.sse_journal.specs.JournalView.{broken_by};
     ghost use Rattle.sse_server.specs.StoreView.{IsWithin};
     ghost use Rattle.sse_owners.specs.OwnersView.{GivesAtMostOneMore, chosen_state};
-    ghost use Rattle.server_connections.specs.Handled.{IsSound};
+    ghost use Rattle.tcp_service.specs.Disks.{IsSound};
     ghost use Rattle.server_connections.specs.OwnersLasting.{AreOwnersLasting, with_own};
 
     ghost state = { λ s. chosen_state s };

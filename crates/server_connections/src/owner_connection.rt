@@ -6,20 +6,19 @@ ghost use Rattle.sse_journal.specs.JournalView.{broken_by};
 ghost use Rattle.sse_server.specs.StoreView.{IsWithin};
 ghost use Rattle.sse_owners.specs.Owned.{OwnedFrame};
 ghost use Rattle.sse_owners.specs.OwnersView.{IsOwnersOf};
-ghost use Rattle.server_connections.specs.Connections.{EndsSource, EndsSink};
-ghost use Rattle.server_connections.specs.Disks.{EndsDisk};
-ghost use Rattle.server_connections.specs.Handled.{IsSound, StaysClosed};
-ghost use Rattle.server_connections.specs.Heads.{IsCutShort};
+ghost use Rattle.tcp_service.specs.Faults.{EndsSource, EndsSink};
+ghost use Rattle.tcp_service.specs.Disks.{EndsDisk, IsSound, StaysClosed};
+ghost use Rattle.tcp_service.specs.Heads.{IsCutShort};
 ghost use Rattle.server_connections.specs.OwnerConnections.{ServesOwner};
 
+use crate::Outgoing;
 use crate::connection::serve_connection;
 use crate::front_frame::refuse_owner;
-use crate::head::read_full;
-use crate::{ConnEnd, Duplex, Incoming, Outgoing};
 use keyed_fn::Keyed;
 use server_tables::Tables;
 use sse_outside::{Disk, Sink, Source};
 use sse_owners::{Owners, UnknownOwner};
+use tcp_service::{ConnEnd, Duplex, Incoming, read_full};
 
 /// Reads the owner's number with which a connection begins: eight bytes, the most significant first.
 fn read_owner<S: Source>(source: &mut S) -> Result<u64, ConnEnd>

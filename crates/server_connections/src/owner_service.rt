@@ -5,16 +5,16 @@ ghost use Rattle.sse_journal.specs.JournalView.{broken_by};
 ghost use Rattle.sse_server.specs.StoreView.{IsWithin};
 ghost use Rattle.sse_owners.specs.Owned.{OwnedFrame};
 ghost use Rattle.sse_owners.specs.OwnersView.{IsOwnersOf};
-ghost use Rattle.server_connections.specs.Disks.{ServesDisk, HasFallen};
-ghost use Rattle.server_connections.specs.Handled.{IsSound, StaysClosed};
+ghost use Rattle.tcp_service.specs.Disks.{ServesDisk, HasFallen, IsSound, StaysClosed};
 ghost use Rattle.server_connections.specs.OwnerConnections.{HaveOwnersServed, ServesMoreOwners};
 
+use crate::Outgoing;
 use crate::owner_connection::serve_owner;
-use crate::{ConnEnd, Conns, Incoming, Outgoing, ServeFault};
 use keyed_fn::Keyed;
 use server_tables::Tables;
 use sse_outside::{Disk, Failed};
 use sse_owners::Owners;
+use tcp_service::{ConnEnd, Conns, Incoming, ServeFault};
 
 /// Serves the next connection to its end, as that of the owner whose number it begins with, and gives it back; `None` if there are
 /// no more.

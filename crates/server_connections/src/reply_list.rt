@@ -8,16 +8,18 @@ ghost use Rattle.server_core.specs.State.{ServerState};
 ghost use Rattle.server_core.specs.Views.{HasBegun, HasRange};
 ghost use Rattle.server_core.specs.Walk.{HasPage, contents_of, rest_of};
 ghost use Rattle.sse_server.specs.Answers.{IfAnswered, store_replies};
-ghost use Rattle.server_connections.specs.ConnectionSteps.{IsSaid, HasSinkCause};
+ghost use Rattle.tcp_service.specs.Writing.{IsSaid};
+ghost use Rattle.tcp_service.specs.Faults.{HasSinkCause};
 ghost use Rattle.server_connections.specs.RepliesLeft.{replies_in, CanSay};
 ghost use Rattle.server_connections.specs.Turns.{bytes_of};
 
-use crate::{ConnEnd, Keeps, Outgoing};
+use crate::{Keeps, Outgoing};
 use keyed_fn::Keyed;
 use server_core::{Answer, First};
 use sse_frames::{Reply, write_page, write_reply};
-use sse_outside::{DeviceFault, Disk, Sink, print_all};
+use sse_outside::{Disk, Sink};
 use sse_server::StoreAnswer;
+use tcp_service::{ConnEnd, say};
 
 /// The replies to a frame, before they are written. Beside them stands a page, which begins with the identifiers of the
 /// first one of a search.
@@ -50,18 +52,6 @@ pub fn reply_list_of(answer: StoreAnswer) -> ReplyList
         StoreAnswer::Answered(Answer::NoMemory) => ReplyList::Single(Reply::NoMemory),
         StoreAnswer::Answered(Answer::OutOfPlace) => ReplyList::Single(Reply::OutOfPlace),
         StoreAnswer::StoreFault => ReplyList::Single(Reply::StoreFault),
-    }
-}
-
-/// Writes all of the bytes. After an error a strict prefix was written, and the end says why.
-pub fn say<W: Sink>(sink: &mut W, bytes: &[u8]) -> Result<(), ConnEnd>
-    ensures said { IsSaid (W.written sink.old) (W.written sink.new) bytes.now result }
-    ensures cause { HasSinkCause (W.faults sink.old) (W.faults sink.new) (W.shortages sink.old) (W.shortages sink.new) result }
-{
-    match print_all(sink, bytes) {
-        Ok(()) => Ok(()),
-        Err(DeviceFault::Failed) => Err(ConnEnd::WriteFault),
-        Err(DeviceFault::NoMemory) => Err(ConnEnd::OutOfMemory),
     }
 }
 

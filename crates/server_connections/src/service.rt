@@ -1,23 +1,14 @@
 ghost use Rattle.std.specs.Prelude.{◌≡◌, ◌⊎◌, ◌+◌, ◌≤◌, ℕ, true, None, IfOk, IfSome, OnOk, OnErr, IsErrOf};
 ghost use Rattle.keyed_fn.specs.KeyedFn.{keyed_fn};
 ghost use Rattle.sse_outside.specs.Causes.{Rose, HasCause};
-ghost use Rattle.server_connections.specs.Disks.{ServesDisk, HasFallen};
-ghost use Rattle.server_connections.specs.Handled.{StaysClosed};
+ghost use Rattle.tcp_service.specs.Disks.{ServesDisk, HasFallen, StaysClosed};
 ghost use Rattle.server_connections.specs.Served.{HaveServed, ServesMore};
 
 use crate::connection::serve_connection;
-use crate::{ConnEnd, Conns, Incoming, Keeps, Outgoing};
+use crate::{Keeps, Outgoing};
 use keyed_fn::Keyed;
 use sse_outside::{Disk, Failed};
-
-/// Why no further connection is served.
-#[derive(Clone, Copy, Debug, PartialEq, Eq)]
-pub enum ServeFault {
-    /// No connection was given: the count of faults of `Conns` rose.
-    NoConnection,
-    /// The disk kept an update frame from being taken: where it had not failed before, its count of faults rose.
-    StoreFault,
-}
+use tcp_service::{ConnEnd, Conns, Incoming, ServeFault};
 
 /// Serves the next connection to its end, and gives it back; `None` where there are no more.
 fn serve_next<K: Keyed, D: Disk, S: Keeps<D>, C: Conns>(

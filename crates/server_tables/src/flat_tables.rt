@@ -1,4 +1,5 @@
 ghost use Rattle.std.specs.Prelude.{◌≡◌};
+ghost use Rattle.std.specs.FinMap as map;
 ghost use Rattle.server_tables.specs.Contents.{no_contents};
 
 use crate::extent::append;
@@ -57,17 +58,20 @@ impl<C: LabelMap<Value = Extent>, P: LabelMap<Value = [u8; 8]>, R: LabelMap<Valu
     P,
     R,
 > {
-    /// Tables of nothing. Takes no memory.
-    pub fn new(alloc: Global) -> Self
+    /// Tables of nothing over three maps of nothing. Takes no memory.
+    pub(crate) fn over(alloc: Global, labels: C, additions: P, revoked: R) -> Self
+        requires no_labels { C.entries labels ≡ map.empty }
+        requires no_additions { P.entries additions ≡ map.empty }
+        requires none_revoked { R.entries revoked ≡ map.empty }
         ensures { result.contents ≡ no_contents }
     {
         FlatTables {
-            labels: C::new(alloc),
+            labels,
             cells: Vec::new(alloc),
             places: Vec::new(alloc),
             blocks: Vec::new(alloc),
-            additions: P::new(alloc),
-            revoked: R::new(alloc),
+            additions,
+            revoked,
         }
     }
 }

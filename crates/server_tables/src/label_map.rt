@@ -3,7 +3,7 @@ ghost use Rattle.std.specs.FinMap as map;
 ghost use Rattle.server_tables.specs.Labelled.{Labelled};
 
 use crate::{Missing, TableFault};
-use std::alloc::{AllocError, Global};
+use std::alloc::AllocError;
 
 /// A map from labels of 16 bytes, each to a value that is copied.
 pub trait LabelMap: Drop {
@@ -14,10 +14,6 @@ pub trait LabelMap: Drop {
 
     /// For how many more labels there is memory.
     ghost free: { Self → ℕ };
-
-    /// No labels. Takes no memory.
-    fn new(alloc: Global) -> Self
-        ensures { entries result ≡ map.empty };
 
     /// How many labels there are.
     fn len(&self) -> usize

@@ -1,8 +1,9 @@
-//! What a server keeps: encrypted cells by label, encrypted blocks in a list, additions by label, and the revocation
-//! numbers of deleted pairs. A contract sees `Tables` as two maps, a list and a set, so a representation can change
-//! without touching the crates above; one is sorted, one has buckets. The buckets are std's hash table, which hashes
-//! all 16 bytes of a label: with labels of one prefix, buckets of our own were 500 times slower. The crate depends
-//! only on std, and doesn't know how a cell is made or decrypted.
+//! What a server keeps: encrypted cells by label, encrypted blocks in a list, additions by label, and the
+//! revocation numbers of deleted pairs. A contract sees `Tables` as two maps, a list and a set, so a representation
+//! can change without touching the crates above; one is sorted, one has buckets, and one has buckets under drawn
+//! keys. The buckets are std's hash table, which hashes all 16 bytes of a label: with labels of one prefix, buckets
+//! of our own were 500 times slower. The crate depends only on std, and doesn't know how a cell is made or
+//! decrypted.
 //! Proved: `Tables` are two maps, a list and a set; a call for which memory was reserved can't fail; a label that is
 //! already taken is reported before out of memory.
 //! Side: server.
@@ -13,6 +14,7 @@ mod bucket_map;
 mod extent;
 mod flat_tables;
 mod key;
+mod kinds;
 mod label_map;
 mod missing;
 mod sorted_map;
@@ -22,15 +24,9 @@ mod tables;
 pub use bucket_map::BucketMap;
 pub use extent::Extent;
 pub use flat_tables::FlatTables;
+pub use kinds::{BucketTables, SeededTables, SortedTables};
 pub use label_map::LabelMap;
 pub use missing::Missing;
 pub use sorted_map::SortedMap;
 pub use table_fault::TableFault;
 pub use tables::Tables;
-
-/// Tables whose labels stand in sorted vectors: a label that comes after the others moves none of them, and any
-/// other moves those after it.
-pub type SortedTables = FlatTables<SortedMap<Extent>, SortedMap<[u8; 8]>, SortedMap<()>>;
-
-/// Tables whose labels stand in the buckets of hash tables, which double when they are full.
-pub type BucketTables = FlatTables<BucketMap<Extent>, BucketMap<[u8; 8]>, BucketMap<()>>;

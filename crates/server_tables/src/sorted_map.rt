@@ -1,4 +1,5 @@
 ghost use Rattle.std.specs.Prelude.{◌≡◌, MatchResult};
+ghost use Rattle.std.specs.FinMap as map;
 ghost use Rattle.server_tables.specs.Slots.{AreRising, IsAt, GoesTo};
 
 use crate::{LabelMap, Missing, TableFault};
@@ -35,18 +36,23 @@ impl<V> Model for SortedMap<V> {
     ghost invariant = { λ m. AreRising m.slots.items };
 }
 
+impl<V: Copy> SortedMap<V> {
+    /// No labels. Takes no memory.
+    pub(crate) fn new(alloc: Global) -> Self
+        ensures { result.0 ≡ map.empty }
+    {
+        SortedMap {
+            slots: Vec::new(alloc),
+        }
+    }
+}
+
 impl<V: Copy> LabelMap for SortedMap<V> {
     type Value = V;
 
     ghost entries = { λ m. m.0 };
 
     ghost free = { λ m. m.1 };
-
-    fn new(alloc: Global) -> Self {
-        SortedMap {
-            slots: Vec::new(alloc),
-        }
-    }
 
     fn len(&self) -> usize {
         self.slots.len()

@@ -6,10 +6,7 @@ use Rattle.std.specs.List.Sorted.{IsStrictlyIncreasing}
 use Rattle.std.proofs.lemmas.List.{take_more, get_or-map}
 use Rattle.std.proofs.lemmas.Grind.{get_or_default_zero}
 use Rattle.sse_frames.specs.Frames.{FrameText, body_of}
-use Rattle.sse_outside.specs.Images.{NoOther}
-use Rattle.sse_journal.specs.JournalView.{IsJournalOf}
 use Rattle.sse_journal.specs.Reads.{place_of}
-use Rattle.sse_journal.specs.declared.journal.Journal.{Journal}
 use Rattle.server_core.specs.State.{ServerState, at_first}
 use Rattle.server_core.specs.Step.{taken}
 use Rattle.sse_server.specs.Records.{TakesRecord}
@@ -20,15 +17,6 @@ use Rattle.sse_owners.proofs.OwnedLaws.{AreOwnTaken-push, records-push, states_o
 use Rattle.sse_owners.proofs.OwnedOnce.{one_number, one_rest}
 use Rattle.sse_owners.proofs.RisingLaws.{apart, contained}
 use Rattle.sse_owners.proofs.LastingOwners.{own_taken_at}
-
--- a disk that was only read is as it was
-pub journal_on : (payloads : List (List ℕ)) (j : Journal) (content content' : Option (List ℕ)) (images images' : List ℕ → Type 0) → IsJournalOf payloads j content images → content' ≡ content → NoOther images images' → IsJournalOf payloads j content' images'
-journal_on payloads j content content' images images' is kept no_other = record {
-  payloads_are = is.payloads_are;
-  end_is = is.end_is;
-  records_are = is.records_are;
-  settled = record { reads = kept ∙ is.settled.reads; durable = λ c left. is.settled.durable c (no_other c left) };
-}
 
 pub replayed_none : (numbers : List ℕ) (payloads : List (List ℕ)) (states : List ServerState) → states ≡ states_of numbers [] → AreReplayed numbers (take 0 payloads) states
 replayed_none numbers payloads states are = record { frames = []; are_taken = tt; payloads_are = refl; states_are = are }

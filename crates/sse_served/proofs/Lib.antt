@@ -1,3 +1,4 @@
-mod Chains
 mod StopLaws
-mod KeptFiles
+mod ServedOwners
+mod WrongWords
+pub mod FreshServers

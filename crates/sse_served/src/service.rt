@@ -1,24 +1,24 @@
-ghost use Rattle.std.specs.Prelude.{◌≡◌, ◌≢◌, ◌⊎◌, ◌+◌, ◌≤◌, List, true, Err, IsErr, IfSome, OnOk};
+ghost use Rattle.std.specs.Prelude.{◌≡◌, ◌≢◌, ◌⊎◌, ◌+◌, ◌≤◌, true, Err, IsErr, IfSome, OnOk};
 ghost use Rattle.keyed_fn.specs.KeyedFn.{keyed_fn};
 ghost use Rattle.sse_outside.specs.Causes.{Rose};
-ghost use Rattle.sse_frames.specs.Frames.{FrameText};
-ghost use Rattle.sse_journal.specs.Files.{Gives};
-ghost use Rattle.server_core.specs.State.{at_first};
-ghost use Rattle.sse_server.specs.Taken.{AreTaken, bodies};
-ghost use Rattle.sse_served.specs.Services.{HasNotServed, HasServed, IsNoJournal};
+ghost use Rattle.sse_served.specs.Services.{HasServed, IsJournal, IsNoJournal};
+ghost use Rattle.service_places.specs.Untouched.{HasNotServed};
 
-use crate::stop::ServiceStop;
+use crate::stop::stop_of;
 use keyed_fn::Keyed;
-use server_connections::{Conns, Incoming, Outgoing, serve};
-use server_tables::BucketTables;
+use server_connections::{Outgoing, serve};
+use server_tables::SeededTables;
+use service_places::ServiceStop;
 use sse_outside::Disk;
 use sse_server::{Buffers, Store};
 use std::alloc::Global;
+use std::hash::RandomState;
+use tcp_service::{Conns, Incoming};
 
 // Promise P32 (user): After an Ok, a link fault or a fault of the disk, connections were served one after another from the file's frames; else none was.
 //   clauses: served, all, few, none_lent, link, link_served, disk, disk_served, memory, no_journal, no_journal_untouched, no_journal_refused, journal_taken; fields: IsLasting.left;
 //     assumes: observable devices; checks: .ci/served, .ci/tcp; not: The real file and the real address. Locking, owner-only access and syncing the folder are tested or read.
-/// Starts a store on the journal of a disk, and serves connections from it, as many as `most` says or there are.
+/// Starts a store on the journal of a disk, its tables hashed under these keys, and serves connections from it, as many as `most` says or there are.
 ///
 /// Errors: `Disk` if the disk failed, at the start or at a record; `NoJournal` if the file is no journal of a server; `Link` if
 /// no connection was given; `Memory` if there was no memory to begin with.
@@ -28,6 +28,7 @@ use std::alloc::Global;
 pub(crate) fn serve_all<K: Keyed, D: Disk, C: Conns>(
     alloc: Global,
     keyed: &K,
+    keys: RandomState,
     disk: &mut D,
     conns: &mut C,
     most: u32,
@@ -47,18 +48,18 @@ pub(crate) fn serve_all<K: Keyed, D: Disk, C: Conns>(
     ensures no_journal { result ≡ Err ServiceStop.NoJournal → IfSome (D.content disk.old) (λ bytes. IsNoJournal bytes) }
     ensures no_journal_untouched { result ≡ Err ServiceStop.NoJournal → HasNotServed D.content D.images conns.old conns.new disk.old disk.new }
     ensures no_journal_refused { IfSome (D.content disk.old) (λ bytes. IsNoJournal bytes → (IsErr result) × (result ≢ Err ServiceStop.Link)) }
-    ensures journal_taken { IfSome (D.content disk.old) (λ bytes. (frames : List FrameText) → AreTaken at_first frames → Gives (bodies frames) bytes → result ≢ Err ServiceStop.NoJournal) }
+    ensures journal_taken { IfSome (D.content disk.old) (λ bytes. IsJournal bytes → result ≢ Err ServiceStop.NoJournal) }
 {
     let Ok(buffers) = Buffers::new(alloc) else {
         return Err(ServiceStop::Memory);
     };
     let mut incoming = Incoming::new(buffers.frame);
     let mut outgoing = Outgoing::new(buffers.reply, buffers.page);
-    let mut store = match Store::start(alloc, BucketTables::new(alloc), disk) {
+    let mut store = match Store::start(alloc, SeededTables::new(alloc, keys), disk) {
         Ok(store) => store,
         Err(fault) => {
-            conns.not_started(fault);
-            return Err(ServiceStop::from(fault));
+            conns.not_started(&fault);
+            return Err(stop_of(fault));
         }
     };
     match serve(

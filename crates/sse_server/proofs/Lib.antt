@@ -1,6 +1,6 @@
 mod Bodies
 pub mod TakenFrames
-mod AnswerLaws
-mod ReplaySteps
+pub mod AnswerLaws
+pub mod ReplaySteps
 pub mod Once
-mod StartedStore
+pub mod StartedStore

@@ -6,9 +6,10 @@ use Rattle.std.specs.declared.result.Result.{Result}
 use Rattle.sse_outside.specs.Causes.{Rose}
 use Rattle.sse_outside.specs.declared.device_fault.DeviceFault.{DeviceFault}
 use Rattle.sse_outside.specs.declared.device_fault.DeviceFault.TheVariants as devices
-use Rattle.server_connections.specs.declared.conn_end.ConnEnd.{ConnEnd}
-use Rattle.server_connections.specs.declared.conn_end.ConnEnd.TheVariants as ends
-use Rattle.server_connections.specs.Disks.{EndsDisk, HasDiskCause, HasFallen, IsSteady, SoFar}
+use Rattle.tcp_service.specs.declared.conn_end.ConnEnd.{ConnEnd}
+use Rattle.tcp_service.specs.declared.conn_end.ConnEnd.TheVariants as ends
+use Rattle.tcp_service.specs.Disks.{EndsDisk, HasDiskCause, HasFallen, IsSteady}
+use Rattle.tcp_service.proofs.DiskCauses.{cut-end}
 use Rattle.vault_server.specs.VaultAnswers.{fault_answer}
 use Rattle.vault_server.specs.VaultFrames.{VaultReplyText}
 use Rattle.vault_server.specs.VaultState.{VaultState}
@@ -44,21 +45,16 @@ module _ (sound sound2 : Type 0) (faults now : ℕ) where
   steady_of answers.StoreFault other disk = absurd (other refl)
   steady_of answers.BadFrame other disk = disk
 
-  -- at an end at which the sink failed, either may be
-  cut-end : (end : ConnEnd) → (end ≡ ends.WriteFault) ⊎ (end ≡ ends.OutOfMemory) → SoFar sound sound2 faults now → EndsDisk sound sound2 faults now end
-  cut-end end (inl is) far = subst (λ e. EndsDisk sound sound2 faults now e) (sym is) far
-  cut-end end (inr is) far = subst (λ e. EndsDisk sound sound2 faults now e) (sym is) far
-
   pub disk-refused : (written written2 : Option (List ℕ)) (reply : VaultReplyText) (end : ConnEnd) → IsSaidLast written written2 reply ends.BadFrame end → IsSteady sound sound2 faults now → EndsDisk sound sound2 faults now end
   disk-refused written written2 reply end (inl said) steady = subst (λ e. EndsDisk sound sound2 faults now e) (sym said.0) steady
-  disk-refused written written2 reply end (inr unsaid) steady = cut-end end unsaid.end_is (inl steady)
+  disk-refused written written2 reply end (inr unsaid) steady = cut-end sound sound2 faults now end unsaid.end_is (inl steady)
 
   pub disk-replied : (written written2 : Option (List ℕ)) (state : VaultState) (answer : VaultAnswer) (result : Result Unit ConnEnd)
       → IsReplied written written2 state answer result → AnswersDisk sound sound2 faults now answer → HasDiskCause sound sound2 faults now result
   disk-replied written written2 state answer (Ok _) replied disk = steady_of answer replied.0 disk
   disk-replied written written2 state answer (Err end) (inl unsaid) disk = elim (store_fault_or_not answer) [
-    | inl fault ↦ cut-end end unsaid.end_is (inr (subst (λ a. AnswersDisk sound sound2 faults now a) fault disk))
-    | inr other ↦ cut-end end unsaid.end_is (inl (steady_of answer other disk))
+    | inl fault ↦ cut-end sound sound2 faults now end unsaid.end_is (inr (subst (λ a. AnswersDisk sound sound2 faults now a) fault disk))
+    | inr other ↦ cut-end sound sound2 faults now end unsaid.end_is (inl (steady_of answer other disk))
   ]
   disk-replied written written2 state answer (Err end) (inr failed) disk =
       subst (λ e. EndsDisk sound sound2 faults now e) (sym failed.1) (subst (λ a. AnswersDisk sound sound2 faults now a) failed.0 disk)

@@ -1,5 +1,3 @@
-mod Chains
-mod KeptFiles
 mod StopLaws
 mod LastingUpdates
 mod DiskAnswers

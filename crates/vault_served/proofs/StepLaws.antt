@@ -1,17 +1,15 @@
 -- A connection, a step further.
-use Rattle.std.proofs.Common.{◌≡◌, ◌≢◌, ◌⊎◌, inl, inr, ℕ, List, [], ◌∷◌, ◌++◌, None, Some, Ok, Err, refl, sym, ap, subst, ◌∙◌, append_assoc}
+use Rattle.std.proofs.Common.{◌≡◌, ◌≢◌, ◌⊎◌, inl, inr, ℕ, List, [], ◌∷◌, ◌++◌, Ok, Err, refl, sym, ap, subst, ◌∙◌, append_assoc}
 use Rattle.std.specs.Prelude.{flat_map}
 use Rattle.std.specs.declared.option.Option.{Option}
 use Rattle.std.specs.declared.result.Result.{Result}
 use Rattle.std.specs.Io.KnownBytes.{append_known, prepend_known}
-use Rattle.std.proofs.lemmas.Grind.{flat_map-append}
 use Rattle.std.proofs.lemmas.List.{append-nil}
-use Rattle.sse_outside.proofs.Known.{append_known-twice}
 use Rattle.sse_outside.specs.Fronts.{TookFront}
-use Rattle.server_connections.specs.declared.conn_end.ConnEnd.{ConnEnd}
-use Rattle.server_connections.specs.declared.conn_end.ConnEnd.TheVariants as ends
-use Rattle.server_connections.specs.ConnectionSteps.{IsCame, Stops}
-use Rattle.server_connections.proofs.ConnectionStepLaws.{front-behind}
+use Rattle.tcp_service.specs.declared.conn_end.ConnEnd.{ConnEnd}
+use Rattle.tcp_service.specs.declared.conn_end.ConnEnd.TheVariants as ends
+use Rattle.tcp_service.specs.Arrivals.{IsCame, Stops}
+use Rattle.tcp_service.proofs.Pieces.{flat_map-last, front-more, read-more, written-more}
 use Rattle.vault_server.specs.VaultAnswers.{answer_reply, vault_answered}
 use Rattle.vault_server.specs.VaultFrames.{VaultFrameText, VaultReplyText, BadFrame, StoreFault, vault_reply_bytes}
 use Rattle.vault_server.specs.VaultRecords.{CanTake}
@@ -27,18 +25,11 @@ use Rattle.vault_served.specs.Steps.{Goes, IsReplied, IsSaidLast}
 use Rattle.vault_served.specs.Turns.{AreTurns, IsBody, IsTurn, Turn, acknowledged, acknowledged_by, frame_of, frames_of, replies_of}
 use Rattle.vault_served.proofs.DiskAnswers.{store_fault_or_not}
 
--- Lists, with one more at the end.
-
-flat_map-last : {X A : Type 0} (g : X → List A) (xs : List X) (x : X) → flat_map g (xs ++ x ∷ []) ≡ flat_map g xs ++ g x
-flat_map-last g xs x = flat_map-append g xs (x ∷ []) ∙ ap (λ l. flat_map g xs ++ l) (append-nil (g x))
+-- One more frame.
 
 AreTurns-last : (before mid after : VaultState) (turns : List Turn) (turn : Turn) → AreTurns before turns mid → IsTurn mid turn after → AreTurns before (turns ++ turn ∷ []) after
 AreTurns-last before mid after [] turn are is = (after, subst (λ s. IsTurn s turn after) are is, refl)
 AreTurns-last before mid after (first ∷ turns) turn are is = (are.0, are.1, AreTurns-last are.0 mid after turns turn are.2 is)
-
-prepend_known-twice : (xs ys : List ℕ) (known : Option (List ℕ)) → prepend_known xs (prepend_known ys known) ≡ prepend_known (xs ++ ys) known
-prepend_known-twice xs ys None = refl
-prepend_known-twice xs ys (Some l) = ap Some (sym (append_assoc xs ys l))
 
 -- one more frame of what was read
 read-last : (left0 left : Option (List ℕ)) (turns : List Turn) (turn : Turn) (held held2 : List ℕ)
@@ -49,19 +40,6 @@ read-last left0 left turns turn held held2 is held_is =
     (ap (λ l. frames_of turns ++ l) held_is
     ∙ sym (append_assoc (frames_of turns) (frame_of turn.body) held2)
     ∙ ap (λ l. l ++ held2) (sym (flat_map-last (λ t. frame_of t.body) turns turn)))
-
--- more bytes after those that were read
-read-more : (left0 left left2 : Option (List ℕ)) (said held held2 held3 read : List ℕ)
-    → left0 ≡ prepend_known (said ++ held) left → held2 ≡ held → held3 ≡ held2 ++ read → left ≡ prepend_known read left2
-    → left0 ≡ prepend_known (said ++ held3) left2
-read-more left0 left left2 said held held2 held3 read is same more given =
-    is ∙ ap (prepend_known (said ++ held)) given ∙ prepend_known-twice (said ++ held) read left2
-    ∙ ap (λ l. prepend_known l left2) (append_assoc said held read ∙ ap (λ l. said ++ l) (ap (λ l. l ++ read) (sym same) ∙ sym more))
-
--- more bytes after those that were written
-written-after : (written0 written written2 : Option (List ℕ)) (said more : List ℕ)
-    → written ≡ append_known written0 said → written2 ≡ append_known written more → written2 ≡ append_known written0 (said ++ more)
-written-after written0 written written2 said more is grown = grown ∙ ap (λ k. append_known k more) is ∙ append_known-twice written0 said more
 
 -- What lasts.
 
@@ -116,7 +94,7 @@ module _ {D : Type 0} (lasts : VaultServerView → D → List VaultFrameText →
         turns = p.turns ++ turn ∷ [];
         answered = AreTurns-last server0.state server.state server2.state p.turns turn p.answered (IsTurn-answered server.state server2.state body answer sized other answered);
         read_is = read-last left0 left p.turns turn held held2 p.read_is held_is;
-        written_is = written-after written0 written written2 (replies_of p.turns) (vault_reply_bytes turn.reply) p.written_is replied.1
+        written_is = written-more written0 written written2 (replies_of p.turns) (vault_reply_bytes turn.reply) p.written_is replied.1
             ∙ ap (append_known written0) (sym (flat_map-last (λ t. vault_reply_bytes t.reply) p.turns turn));
         lasting = Last-more (lasts server0 disk0) (lasts server disk) (lasts server2 disk2) (acknowledged p.turns) (acknowledged_by body turn.reply) (acknowledged (p.turns ++ turn ∷ [])) acked p.lasting last;
       }
@@ -130,7 +108,7 @@ module _ {D : Type 0} (lasts : VaultServerView → D → List VaultFrameText →
         read_is = read-last left0 left p.turns turn held held2 p.read_is held_is;
         finish = Finishes-cut end (p.turns ++ turn ∷ []) server2.state held2 left written0 written2 unsaid.end_is
             (inl (subst (λ l. TookFront written0 written2 l) (sym (flat_map-last (λ t. vault_reply_bytes t.reply) p.turns turn))
-            (front-behind written0 written written2 (replies_of p.turns) (vault_reply_bytes turn.reply) p.written_is unsaid.front)));
+            (front-more written0 written written2 (replies_of p.turns) (vault_reply_bytes turn.reply) p.written_is unsaid.front)));
         lasting = Last-more (lasts server0 disk0) (lasts server disk) (lasts server2 disk2) (acknowledged p.turns) (acknowledged_by body turn.reply) (acknowledged (p.turns ++ turn ∷ [])) acked p.lasting last;
       }
   Goes-answered body answer (Err end) sized other held_is answered last (inr failed) = absurd (other failed.0)
@@ -147,7 +125,7 @@ module _ {D : Type 0} (lasts : VaultServerView → D → List VaultFrameText →
     answered = subst (λ s. AreTurns server0.state p.turns s) (sym same) p.answered;
     read_is = p.read_is;
     finish = subst (λ e. Finishes e p.turns server2.state held left written0 written2) (sym said.0)
-        (finishes p.turns written0 (written-after written0 written written2 (replies_of p.turns) (vault_reply_bytes reply) p.written_is said.1));
+        (finishes p.turns written0 (written-more written0 written written2 (replies_of p.turns) (vault_reply_bytes reply) p.written_is said.1));
     lasting = no_more (lasts server0 disk0) (lasts server disk) (lasts server2 disk2) (acknowledged p.turns) p.lasting kept;
   }
   Goes-last reply last end same kept is finishes (inr unsaid) = λ left0 written0 server0 disk0 p. record {
@@ -156,7 +134,7 @@ module _ {D : Type 0} (lasts : VaultServerView → D → List VaultFrameText →
     answered = subst (λ s. AreTurns server0.state p.turns s) (sym same) p.answered;
     read_is = p.read_is;
     finish = Finishes-cut end p.turns server2.state held left written0 written2 unsaid.end_is
-        (inr (reply, is, front-behind written0 written written2 (replies_of p.turns) (vault_reply_bytes reply) p.written_is unsaid.front));
+        (inr (reply, is, front-more written0 written written2 (replies_of p.turns) (vault_reply_bytes reply) p.written_is unsaid.front));
     lasting = no_more (lasts server0 disk0) (lasts server disk) (lasts server2 disk2) (acknowledged p.turns) p.lasting kept;
   }
 
@@ -207,6 +185,7 @@ module _ (turns : List Turn) (state : VaultState) (held held2 : List ℕ) (left 
   ends-more ends.WriteFault part same said stops = absurd stops
   ends-more ends.OutOfMemory part same said stops = absurd stops
   ends-more ends.BadFrame part same said stops = absurd stops
+  ends-more ends.UnknownOwner part same said stops = absurd stops
   ends-more ends.StoreFault part same said stops = absurd stops
 
 -- no whole frame is in front, and more was read, or nothing came

@@ -1,32 +1,18 @@
 -- What a fault of a start makes the program stop for, and what it says of the file.
-use Rattle.std.proofs.Common.{◌≡◌, ◌≢◌, ℕ, List, inl, inr, refl, Option, Some, None, Result, Ok, Err}
+use Rattle.std.proofs.Common.{◌≡◌, ◌≢◌, ℕ, List, inl, inr, refl, Option}
 use Rattle.std.specs.Prelude.{IfSome}
-use Rattle.std.specs.Result.{IsErrAnd}
 use Rattle.sse_journal.specs.Walks.{IsNoJournalAt}
 use Rattle.vault_server.specs.VaultRecords.{HasBadRecord}
 use Rattle.vault_server.specs.declared.vault_open_fault.VaultOpenFault.{VaultOpenFault}
 use Rattle.vault_server.specs.declared.vault_open_fault.VaultOpenFault.TheVariants as opens
-use Rattle.server_connections.specs.declared.service.ServeFault.{ServeFault}
-use Rattle.server_connections.specs.declared.service.ServeFault.TheVariants as serves
-use Rattle.vault_served.specs.declared.stop.ServiceStop.{ServiceStop}
-use Rattle.vault_served.specs.declared.stop.ServiceStop.TheVariants.{NoJournal}
+use Rattle.tcp_service.specs.declared.serve_fault.ServeFault.{ServeFault}
+use Rattle.tcp_service.specs.declared.serve_fault.ServeFault.TheVariants as serves
+use Rattle.service_places.specs.declared.stop.ServiceStop.{ServiceStop}
+use Rattle.service_places.specs.declared.stop.ServiceStop.TheVariants.{NoJournal}
 use Rattle.vault_served.specs.Services.{IsNoJournal}
-use Rattle.vault_served.specs.Stops.{stop_of_open, stop_of_serve}
-
--- a call that stops for a cause stops for no other
-pub cause_is : {A : Type 0} (end : Result A ServiceStop) (cause wanted : ServiceStop) → IsErrAnd end (λ stop. stop ≡ cause) → end ≡ Err wanted → cause ≡ wanted
-cause_is (Ok done) cause wanted is e = absurd is
-cause_is (Err stop) cause wanted is e = cc
-
--- what is so of a value, if there is one
-
-pub if_some : {A : Type 0} {P Q : A → Type 0} (o : Option A) → IfSome o P → ((a : A) → P a → Q a) → IfSome o Q
-if_some None p f = tt
-if_some (Some a) p f = f a p
-
-pub if_some_both : {A : Type 0} {P Q R : A → Type 0} (o : Option A) → IfSome o P → IfSome o Q → ((a : A) → P a → Q a → R a) → IfSome o R
-if_some_both None p q f = tt
-if_some_both (Some a) p q f = f a p q
+use Rattle.service_places.specs.Stops.{stop_of_serve}
+use Rattle.service_places.proofs.KnownValues.{if_some}
+use Rattle.vault_served.specs.Stops.{stop_of_open}
 
 -- what follows of a file that stops being a journal, and of one with a bad record, follows of one that is no journal of a vault
 pub of_either : {R : Type 0} (bytes : List ℕ) → ((place : ℕ) → IsNoJournalAt bytes place → R) → ((number : ℕ) → HasBadRecord bytes number → R) → IsNoJournal bytes → R

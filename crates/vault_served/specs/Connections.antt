@@ -2,8 +2,8 @@
 use Rattle.std.specs.Prelude.{◌≡◌, ◌≢◌, ◌⊎◌, ℕ, List, [], ◌++◌, Option}
 use Rattle.std.specs.Io.KnownBytes.{append_known, prepend_known, IsAtEnd}
 use Rattle.sse_outside.specs.Fronts.{TookFront}
-use Rattle.server_connections.specs.declared.conn_end.ConnEnd.{ConnEnd}
-use Rattle.server_connections.specs.declared.conn_end.ConnEnd.TheVariants as ends
+use Rattle.tcp_service.specs.declared.conn_end.ConnEnd.{ConnEnd}
+use Rattle.tcp_service.specs.declared.conn_end.ConnEnd.TheVariants as ends
 use Rattle.vault_server.specs.VaultFrames.{VaultFrameText, VaultReplyText, BadFrame, StoreFault, vault_reply_bytes}
 use Rattle.vault_server.specs.VaultRecords.{CanTake}
 use Rattle.vault_server.specs.VaultState.{VaultState}
@@ -41,6 +41,7 @@ Finishes ends.ReadFault turns state rest left written0 written =
     (front_of rest ≡ Unfinished) × (written ≡ append_known written0 (replies_of turns))
 Finishes ends.BadFrame turns state rest left written0 written =
     (front_of rest ≡ OutOfRange) × (written ≡ append_known written0 (replies_of turns ++ vault_reply_bytes BadFrame))
+Finishes ends.UnknownOwner turns state rest left written0 written = ⊥
 Finishes ends.StoreFault turns state rest left written0 written =
     HasFailed state rest × (written ≡ append_known written0 (replies_of turns ++ vault_reply_bytes StoreFault))
 Finishes ends.WriteFault turns state rest left written0 written = IsCut turns state rest written0 written

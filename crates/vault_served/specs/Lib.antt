@@ -4,8 +4,6 @@ pub mod Lasting
 pub mod Connections
 pub mod Steps
 pub mod Served
-pub mod Asked
 pub mod Stops
 pub mod Services
-pub mod Places
 pub mod Program

@@ -1,8 +1,8 @@
 -- Connections of a vault, one after another.
 use Rattle.std.specs.Prelude.{◌≡◌, ℕ, List, [], ◌∷◌, ◌++◌, Option}
 use Rattle.std.specs.Option.{option_map}
-use Rattle.server_connections.specs.declared.conn_end.ConnEnd.{ConnEnd}
-use Rattle.server_connections.specs.declared.duplex.Duplex.{Duplex}
+use Rattle.tcp_service.specs.declared.conn_end.ConnEnd.{ConnEnd}
+use Rattle.tcp_service.specs.declared.duplex.Duplex.{Duplex}
 use Rattle.vault_server.specs.VaultFrames.{VaultFrameText}
 use Rattle.vault_server.specs.VaultServerView.{VaultServerView}
 use Rattle.vault_served.specs.Connections.{IsConnection}

@@ -1,8 +1,7 @@
 -- The effect of a vault's service over a disk and connections, from the file on.
 use Rattle.std.specs.Prelude.{◌≡◌, ◌⊎◌, ℕ, List, Option, IfSome}
-use Rattle.sse_journal.specs.Files.{GivesAs}
 use Rattle.sse_journal.specs.Walks.{IsNoJournalAt}
-use Rattle.server_connections.specs.declared.duplex.Duplex.{Duplex}
+use Rattle.tcp_service.specs.declared.duplex.Duplex.{Duplex}
 use Rattle.vault_server.specs.VaultRecords.{HasBadRecord}
 use Rattle.vault_server.specs.VaultServerView.{IsVaultFrom, VaultServerView}
 use Rattle.vault_served.specs.Lasting.{Lasts}
@@ -12,14 +11,6 @@ use Rattle.vault_served.specs.Served.{HaveServed}
 -- after those before it
 abbrev pub IsNoJournal : List ℕ → Type 0
 IsNoJournal bytes = ((place : ℕ) × IsNoJournalAt bytes place) ⊎ ((number : ℕ) × HasBadRecord bytes number)
-
--- a crash leaves what it might have left before, or a file that gives the records of the file as it read
-abbrev pub LeavesSame : {D : Type 0} → (content : D → Option (List ℕ)) (images : D → List ℕ → Type 0) (disk disk2 : D) → Type 0
-LeavesSame content images disk disk2 = (bytes : List ℕ) → images disk2 bytes → images disk bytes ⊎ IfSome (content disk) (λ file. GivesAs file bytes)
-
--- nothing was served: the connections are untouched, and the file has the records that it had
-abbrev pub HasNotServed : {C D : Type 0} → (content : D → Option (List ℕ)) (images : D → List ℕ → Type 0) (conns conns2 : C) (disk disk2 : D) → Type 0
-HasNotServed content images conns conns2 disk disk2 = (conns2 ≡ conns) × LeavesSame content images disk disk2
 
 module _ {D I O : Type 0} (content : D → Option (List ℕ)) (images : D → List ℕ → Type 0) (remaining : I → Option (List ℕ)) (written : O → Option (List ℕ)) where
   -- a vault was started that has taken the updates of the file's records, and connections were served from it, one after the other

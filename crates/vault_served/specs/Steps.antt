@@ -1,10 +1,10 @@
 -- The steps of a vault's connection.
 use Rattle.std.specs.Prelude.{◌≡◌, ◌≢◌, ◌⊎◌, ℕ, List, [], ◌++◌, Option, Result, MatchResult}
 use Rattle.std.specs.Io.KnownBytes.{append_known, prepend_known}
-use Rattle.server_connections.specs.ConnectionSteps.{IsUnsaid}
-use Rattle.server_connections.specs.Disks.{HasFallen, IsSteady}
-use Rattle.server_connections.specs.declared.conn_end.ConnEnd.{ConnEnd}
-use Rattle.server_connections.specs.declared.conn_end.ConnEnd.TheVariants as ends
+use Rattle.tcp_service.specs.Writing.{IsUnsaid}
+use Rattle.tcp_service.specs.Disks.{HasFallen, IsSteady}
+use Rattle.tcp_service.specs.declared.conn_end.ConnEnd.{ConnEnd}
+use Rattle.tcp_service.specs.declared.conn_end.ConnEnd.TheVariants as ends
 use Rattle.vault_server.specs.VaultAnswers.{answer_reply, vault_answered}
 use Rattle.vault_server.specs.VaultFrames.{VaultFrameText, VaultReplyText, vault_reply_bytes}
 use Rattle.vault_server.specs.VaultRecords.{CanTake}

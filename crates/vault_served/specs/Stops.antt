@@ -1,61 +1,11 @@
--- Why a vault's service ends early: its status and its last line (docs/FORMATS.md).
-use Rattle.std.specs.Prelude.{ℕ, List, ◌∷◌, [], ◌++◌, codes}
-use Rattle.sse_server.specs.declared.open_fault.OpenFault.{OpenFault}
-use Rattle.sse_server.specs.declared.open_fault.OpenFault.TheVariants as told
-use Rattle.server_connections.specs.declared.service.ServeFault.{ServeFault}
-use Rattle.server_connections.specs.declared.service.ServeFault.TheVariants as serves
+-- Why a service ends if its vault wasn't started (docs/FORMATS.md).
 use Rattle.vault_server.specs.declared.vault_open_fault.VaultOpenFault.{VaultOpenFault}
 use Rattle.vault_server.specs.declared.vault_open_fault.VaultOpenFault.TheVariants as opens
-use Rattle.vault_served.specs.declared.stop.ServiceStop.{ServiceStop}
-use Rattle.vault_served.specs.declared.stop.ServiceStop.TheVariants.{Link, Disk, Memory, NoJournal}
-use Rattle.vault_served.specs.declared.stop.Stop.{Stop}
-use Rattle.vault_served.specs.declared.stop.Stop.TheVariants.{Words, Service}
+use Rattle.service_places.specs.declared.stop.ServiceStop.{ServiceStop}
+use Rattle.service_places.specs.declared.stop.ServiceStop.TheVariants.{Disk, Memory, NoJournal}
 
--- the exit status
-abbrev pub status_of_service : ServiceStop → ℕ
-status_of_service Link = 5
-status_of_service Disk = 6
-status_of_service Memory = 7
-status_of_service NoJournal = 10
-
-abbrev pub stop_status : Stop → ℕ
-stop_status Words = 2
-stop_status (Service stop) = status_of_service stop
-
--- the last line of this text, with its end
-abbrev pub line_with : List ℕ → List ℕ
-line_with text = codes "stopped: " ++ text ++ 10 ∷ []
-
--- the last line, which names the cause
-abbrev pub line_of_service : ServiceStop → List ℕ
-line_of_service Link = line_with (codes "link")
-line_of_service Disk = line_with (codes "disk")
-line_of_service Memory = line_with (codes "memory")
-line_of_service NoJournal = line_with (codes "no journal")
-
-abbrev pub stop_line : Stop → List ℕ
-stop_line Words = line_with (codes "words")
-stop_line (Service stop) = line_of_service stop
-
--- what is printed once connections can come
-abbrev pub serving_line : List ℕ
-serving_line = codes "serving" ++ 10 ∷ []
-
--- why it ends if the vault wasn't started
 abbrev pub stop_of_open : VaultOpenFault → ServiceStop
 stop_of_open opens.DiskFault = Disk
 stop_of_open (opens.NotAJournal place) = NoJournal
 stop_of_open (opens.BadRecord number) = NoJournal
 stop_of_open opens.NoMemory = Memory
-
--- why it ends while it serves
-abbrev pub stop_of_serve : ServeFault → ServiceStop
-stop_of_serve serves.NoConnection = Link
-stop_of_serve serves.StoreFault = Disk
-
--- the same cause, as the places of connections report it
-abbrev pub told_of : VaultOpenFault → OpenFault
-told_of opens.DiskFault = told.DiskFault
-told_of (opens.NotAJournal place) = told.NotAJournal place
-told_of (opens.BadRecord number) = told.BadRecord number
-told_of opens.NoMemory = told.NoMemory

@@ -1,8 +1,7 @@
 ghost use Rattle.std.specs.Prelude.{◌≡◌, ◌<◌, List, IsSome, OnOk};
-ghost use Rattle.server_connections.specs.Connections.{EndsSink, EndsSource};
-ghost use Rattle.server_connections.specs.ConnectionSteps.{HasSinkCause, HasSourceCause, bytes_to_come};
-ghost use Rattle.server_connections.specs.Disks.{EndsDisk, HasDiskCause};
-ghost use Rattle.server_connections.specs.Handled.{IsSound, StaysClosed};
+ghost use Rattle.tcp_service.specs.Faults.{EndsSink, EndsSource, HasSinkCause, HasSourceCause};
+ghost use Rattle.tcp_service.specs.Arrivals.{bytes_to_come};
+ghost use Rattle.tcp_service.specs.Disks.{EndsDisk, HasDiskCause, IsSound, StaysClosed};
 ghost use Rattle.sse_journal.specs.JournalView.{broken_by};
 ghost use Rattle.vault_server.specs.VaultFrames as replies;
 ghost use Rattle.vault_server.specs.VaultServerView.{IsWithin};
@@ -12,8 +11,8 @@ ghost use Rattle.vault_served.specs.Steps.{Goes, IsReplied, IsSaidLast};
 
 use crate::front::{InFront, take_front};
 use crate::reply_room::ReplyRoom;
-use server_connections::{ConnEnd, Duplex, Incoming, more};
 use sse_outside::{Disk, Sink, Source};
+use tcp_service::{ConnEnd, Duplex, Incoming, more};
 use vault_server::{VaultAnswer, VaultReply, VaultServer};
 
 /// Writes the reply to the length of no body, which is the last one, and returns how the connection ends.

@@ -1,5 +1,5 @@
 ghost use Rattle.std.specs.Prelude.{◌≡◌, ◌<◌, IsSome, length};
-ghost use Rattle.server_connections.specs.Handled.{IsSound, StaysClosed};
+ghost use Rattle.tcp_service.specs.Disks.{IsSound, StaysClosed};
 ghost use Rattle.sse_journal.specs.JournalView.{broken_by};
 ghost use Rattle.vault_server.specs.VaultServerView.{IsWithin};
 ghost use Rattle.vault_served.specs.Fronts as fronts;
@@ -7,8 +7,8 @@ ghost use Rattle.vault_served.specs.Fronts.{IfFramed, front_view};
 ghost use Rattle.vault_served.specs.Lasting.{Lasts};
 ghost use Rattle.vault_served.specs.Steps.{FrontsDisk, IfWhole, IsFronted};
 
-use server_connections::Incoming;
 use sse_outside::Disk;
+use tcp_service::Incoming;
 use vault_server::{MAX_BODY, VaultAnswer, VaultServer};
 
 /// The frame in front of bytes.

@@ -1,6 +1,6 @@
 //! The vault's program: serves connections to an address, one after the other, from a vault whose journal is a file. It
-//! depends on `vault_server` for the vault, on `server_connections` for the connections, and on `program_words` for the
-//! words; it knows no key and no text. A connection is frames, each a length and a body, and one reply to each. All words
+//! depends on `vault_server` for the vault, on `tcp_service` for the connections, and on `service_places` for words, file and
+//! address; it knows no key and no text. A connection is frames, each a length and a body, and one reply to each. All words
 //! are read first, then the file is opened, then the address; `serving` is printed once the program listens, and then the
 //! journal is read. `served_main` is the whole program over any places that a file and connections come from.
 //! Proved: over any source, sink and disk, what was read is whole frames, answered in turn, and the bytes left after them
@@ -10,22 +10,19 @@
 //! Side: server.
 #![tactic(auto)]
 
-mod asked;
 mod connection;
 mod front;
-mod places;
 mod program;
 mod reply_room;
 mod service;
 mod serving;
 mod stop;
-mod system_places;
 
 use outside_words::command_line;
 use program::served_main;
+use service_places::SystemPlaces;
 use sse_outside::StdSink;
 use std::process::ExitCode;
-use system_places::SystemPlaces;
 
 /// Serves, as the words of the command line ask for, and ends with the status.
 fn main(rt: HostRuntime) -> ExitCode {

@@ -1,20 +1,17 @@
 ghost use Rattle.std.specs.Prelude.{◌≡◌, ◌≢◌, ◌⊎◌, Err, IfErr, IfOk};
 ghost use Rattle.sse_outside.specs.Causes.{Rose};
-ghost use Rattle.sse_outside.specs.Fronts.{TookOrRose};
-ghost use Rattle.vault_served.specs.Asked as asks;
-ghost use Rattle.vault_served.specs.Asked.{asked_view};
-ghost use Rattle.vault_served.specs.Places.{HasDone, HasNoAddress, HasNoFile, HasRun};
-ghost use Rattle.vault_served.specs.Program.{EndsFor, HasService, Printed};
-ghost use Rattle.vault_served.specs.Stops.{stop_line, stop_status};
+ghost use Rattle.service_places.specs.Asked as asks;
+ghost use Rattle.service_places.specs.Asked.{asked_view};
+ghost use Rattle.service_places.specs.Places.{HasDone, HasNoAddress, HasNoFile, HasRun};
+ghost use Rattle.service_places.specs.Endings.{EndsFor, HasService, Printed};
+ghost use Rattle.vault_served.specs.Program.{HasServedSo};
 
-use crate::asked::{Asked, asked_by};
-use crate::places::Places;
 use crate::service::serve_all;
-use crate::stop::{ServiceStop, Stop};
 use outside_words::CommandLine;
-use server_connections::Conns;
-use sse_outside::{Disk, Sink, print_all};
+use service_places::{Asked, Places, ServiceStop, Stop, asked_by, finish, say_line};
+use sse_outside::{Disk, Sink};
 use std::alloc::Global;
+use tcp_service::Conns;
 
 // Promise P187 (user): `vault_served` takes an address, a path and an optional count; other words open nothing, and end with 2, or with 7 if memory is out.
 //   clauses: wrong, wrong_places, words; checks: .ci/vault; not: Of the line a prefix may be printed if a count of the sink rose.
@@ -40,8 +37,8 @@ pub(crate) fn served_main<P: Places, W: Sink>(
     ensures serves { IfOk (asks.asked_by given.now) (λ asked.
         let p : Printed = record { written = W.written sink.old; written2 = W.written sink.new; faults = W.faults sink.old; faults2 = W.faults sink.new; shortages = W.shortages sink.old; shortages2 = W.shortages sink.new } in
         HasRun (P.events places.old) (P.events places.new) (P.holds places.old) (P.hears places.old) (P.kept places.new) (P.ended places.new) asked.path asked.address
-        (HasService P.Disk.content P.Disk.images P.Disk.faults P.Conns.In.remaining P.Conns.Out.written
-        P.Conns.offered P.Conns.returned P.Conns.given P.Conns.lent P.Conns.faults P.Conns.ended asked.count p result)
+        (HasService (HasServedSo P.Disk.content P.Disk.images P.Disk.faults P.Conns.In.remaining P.Conns.Out.written
+        P.Conns.offered P.Conns.returned P.Conns.given P.Conns.lent P.Conns.faults P.Conns.ended asked.count) p result)
         ⊎ (HasNoFile (P.events places.old) (P.events places.new) (P.holds places.old) (P.hears places.old) (P.kept places.new) (P.ended places.new) asked.path asked.address
         (Rose (P.faults places.old) (P.faults places.new)) (EndsFor (Stop.Service ServiceStop.Disk) p result)
         ⊎ (HasNoAddress (P.events places.old) (P.events places.new) (P.holds places.old) (P.hears places.old) (P.kept places.new) (P.ended places.new) asked.path asked.address
@@ -59,8 +56,8 @@ fn serve_at<P: Places, W: Sink>(alloc: Global, places: &mut P, asked: Asked<'_>,
     ensures serves { let asked : asks.Asked = asked_view asked.entry in
         let p : Printed = record { written = W.written sink.old; written2 = W.written sink.new; faults = W.faults sink.old; faults2 = W.faults sink.new; shortages = W.shortages sink.old; shortages2 = W.shortages sink.new } in
         HasRun (P.events places.old) (P.events places.new) (P.holds places.old) (P.hears places.old) (P.kept places.new) (P.ended places.new) asked.path asked.address
-        (HasService P.Disk.content P.Disk.images P.Disk.faults P.Conns.In.remaining P.Conns.Out.written
-        P.Conns.offered P.Conns.returned P.Conns.given P.Conns.lent P.Conns.faults P.Conns.ended asked.count p result)
+        (HasService (HasServedSo P.Disk.content P.Disk.images P.Disk.faults P.Conns.In.remaining P.Conns.Out.written
+        P.Conns.offered P.Conns.returned P.Conns.given P.Conns.lent P.Conns.faults P.Conns.ended asked.count) p result)
         ⊎ (HasNoFile (P.events places.old) (P.events places.new) (P.holds places.old) (P.hears places.old) (P.kept places.new) (P.ended places.new) asked.path asked.address
         (Rose (P.faults places.old) (P.faults places.new)) (EndsFor (Stop.Service ServiceStop.Disk) p result)
         ⊎ HasNoAddress (P.events places.old) (P.events places.new) (P.holds places.old) (P.hears places.old) (P.kept places.new) (P.ended places.new) asked.path asked.address
@@ -89,8 +86,8 @@ fn serve_over<P: Places, W: Sink>(
     sink: &mut W,
 ) -> u8
     ensures serves { HasDone (P.events places.old) (P.events places.new) (P.kept places.new) (P.ended places.new)
-        (HasService P.Disk.content P.Disk.images P.Disk.faults P.Conns.In.remaining P.Conns.Out.written
-        P.Conns.offered P.Conns.returned P.Conns.given P.Conns.lent P.Conns.faults P.Conns.ended count
+        (HasService (HasServedSo P.Disk.content P.Disk.images P.Disk.faults P.Conns.In.remaining P.Conns.Out.written
+        P.Conns.offered P.Conns.returned P.Conns.given P.Conns.lent P.Conns.faults P.Conns.ended count)
         (record { written = W.written sink.old; written2 = W.written sink.new; faults = W.faults sink.old; faults2 = W.faults sink.new; shortages = W.shortages sink.old; shortages2 = W.shortages sink.new })
         result disk conns) }
     ensures status { result ≢ 2 }
@@ -112,29 +109,14 @@ fn serve_words<D: Disk, C: Conns, W: Sink>(
     conns: &mut C,
     sink: &mut W,
 ) -> u8
-    ensures serves { HasService D.content D.images D.faults C.In.remaining C.Out.written C.offered C.returned C.given C.lent C.faults C.ended count
+    ensures serves { HasService (HasServedSo D.content D.images D.faults C.In.remaining C.Out.written C.offered C.returned C.given C.lent C.faults C.ended count)
         (record { written = W.written sink.old; written2 = W.written sink.new; faults = W.faults sink.old; faults2 = W.faults sink.new; shortages = W.shortages sink.old; shortages2 = W.shortages sink.new })
         result disk.old conns.old disk.new conns.new }
     ensures status { result ≢ 2 }
 {
-    say(sink, b"serving\n");
+    say_line(sink, b"serving\n");
     match serve_all(alloc, disk, conns, count) {
         Ok(()) => 0,
         Err(stop) => finish(sink, Stop::Service(stop)),
     }
-}
-
-/// Prints the last line of a program that ends for this cause; its status.
-fn finish<W: Sink>(sink: &mut W, stop: Stop) -> u8
-    ensures { EndsFor stop (record { written = W.written sink.old; written2 = W.written sink.new; faults = W.faults sink.old; faults2 = W.faults sink.new; shortages = W.shortages sink.old; shortages2 = W.shortages sink.new }) result }
-{
-    say(sink, stop.line());
-    stop.status()
-}
-
-/// Prints a line as far as the sink takes it.
-fn say<W: Sink>(sink: &mut W, line: &[u8])
-    ensures { TookOrRose (W.written sink.old) (W.written sink.new) line.now (W.faults sink.old) (W.faults sink.new) (W.shortages sink.old) (W.shortages sink.new) }
-{
-    let _ = print_all(sink, line);
 }

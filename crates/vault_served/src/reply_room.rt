@@ -1,11 +1,12 @@
 ghost use Rattle.std.specs.Prelude.{◌≤◌, IfOk, vec_capacity};
-ghost use Rattle.server_connections.specs.ConnectionSteps.{HasSinkCause, IsSaid};
+ghost use Rattle.tcp_service.specs.Faults.{HasSinkCause};
+ghost use Rattle.tcp_service.specs.Writing.{IsSaid};
 ghost use Rattle.vault_server.specs.VaultFrames.{IsShortReply, vault_reply_bytes};
 ghost use Rattle.vault_server.specs.VaultViews.{reply_view};
 
-use server_connections::{ConnEnd, say};
 use sse_outside::Sink;
 use std::alloc::{AllocError, Global};
+use tcp_service::{ConnEnd, say};
 use vault_server::{MAX_BODY, VaultReply, write_vault_reply};
 
 /// Where a reply is made before it is written: room for the longest one and the four bytes of its length.

@@ -3,15 +3,17 @@ ghost use Rattle.sse_outside.specs.Causes.{Rose};
 ghost use Rattle.sse_journal.specs.Files.{Gives};
 ghost use Rattle.vault_server.specs.VaultFrames.{VaultFrameText};
 ghost use Rattle.vault_server.specs.VaultState.{AreVaultTaken, empty_vault, vault_records};
-ghost use Rattle.vault_served.specs.Services.{HasNotServed, HasServed, IsNoJournal};
+ghost use Rattle.vault_served.specs.Services.{HasServed, IsNoJournal};
+ghost use Rattle.service_places.specs.Untouched.{HasNotServed};
 
 use crate::reply_room::ReplyRoom;
 use crate::serving::serve;
-use crate::stop::{ServiceStop, open_fault_of};
-use server_connections::{Conns, Incoming};
+use crate::stop::stop_of;
+use service_places::ServiceStop;
 use sse_frames::MAX_FRAME_BODY;
 use sse_outside::Disk;
 use std::alloc::{AllocError, Global};
+use tcp_service::{Conns, Incoming};
 use vault_server::VaultServer;
 
 // Promise P189 (user): After an Ok, a link fault or a disk fault, connections were served one after another from the file's updates; else none was.
@@ -58,8 +60,8 @@ pub(crate) fn serve_all<D: Disk, C: Conns>(
     let mut server = match VaultServer::start(alloc, disk) {
         Ok(server) => server,
         Err(fault) => {
-            conns.not_started(open_fault_of(fault));
-            return Err(ServiceStop::from(fault));
+            conns.not_started(&fault);
+            return Err(stop_of(fault));
         }
     };
     match serve(&mut server, disk, conns, &mut incoming, &mut room, most) {

@@ -1,6 +1,5 @@
 ghost use Rattle.std.specs.Prelude.{◌≡◌, ◌⊎◌, ◌+◌, ◌≤◌, ℕ, true, None, IfOk, IfSome, IsErrOf, IsSome, OnErr, OnOk};
-ghost use Rattle.server_connections.specs.Disks.{HasFallen, ServesDisk};
-ghost use Rattle.server_connections.specs.Handled.{IsSound, StaysClosed};
+ghost use Rattle.tcp_service.specs.Disks.{HasFallen, ServesDisk, IsSound, StaysClosed};
 ghost use Rattle.sse_journal.specs.JournalView.{broken_by};
 ghost use Rattle.sse_outside.specs.Causes.{HasCause, Rose};
 ghost use Rattle.vault_server.specs.VaultServerView.{IsWithin};
@@ -9,8 +8,8 @@ ghost use Rattle.vault_served.specs.Served.{HaveServed, ServesMore};
 
 use crate::connection::serve_connection;
 use crate::reply_room::ReplyRoom;
-use server_connections::{ConnEnd, Conns, Incoming, ServeFault};
 use sse_outside::{Disk, Failed};
+use tcp_service::{ConnEnd, Conns, Incoming, ServeFault};
 use vault_server::VaultServer;
 
 /// Serves the next connection to its end, and gives it back; `None` if there are no more.

@@ -1,126 +1,17 @@
 ghost use Rattle.std.specs.Prelude.{◌≡◌};
-ghost use Rattle.vault_served.specs.Stops.{line_of_service, status_of_service, stop_line, stop_of_open, stop_of_serve, stop_status, told_of};
+ghost use Rattle.vault_served.specs.Stops.{stop_of_open};
 
-use server_connections::ServeFault;
-use sse_server::OpenFault;
+use service_places::ServiceStop;
 use vault_server::VaultOpenFault;
 
-/// Why no further connection is served, before there were as many as were asked for.
-#[derive(Clone, Copy)]
-pub(crate) enum ServiceStop {
-    /// The address can't be bound, or the listener failed.
-    Link,
-    /// The file can't be opened, or the disk failed.
-    Disk,
-    /// There was no memory to begin with.
-    Memory,
-    /// The file is no journal of a vault.
-    NoJournal,
-}
-
-/// Why the program ends before it served as many connections as were asked for.
-#[derive(Clone, Copy)]
-pub(crate) enum Stop {
-    /// The words of the command line aren't right.
-    Words,
-    /// What they ask for ended.
-    Service(ServiceStop),
-}
-
-impl ServiceStop {
-    // Promise P188, also here; clauses: ensures
-    /// The exit status.
-    fn status(self) -> u8
-        ensures { result ≡ status_of_service self }
-    {
-        match self {
-            ServiceStop::Link => 5,
-            ServiceStop::Disk => 6,
-            ServiceStop::Memory => 7,
-            ServiceStop::NoJournal => 10,
-        }
-    }
-
-    // Promise P188, also here; clauses: ensures
-    /// The last line that is printed, with its end.
-    fn line(self) -> &'static [u8]
-        ensures { result.now ≡ line_of_service self }
-    {
-        match self {
-            ServiceStop::Link => b"stopped: link\n",
-            ServiceStop::Disk => b"stopped: disk\n",
-            ServiceStop::Memory => b"stopped: memory\n",
-            ServiceStop::NoJournal => b"stopped: no journal\n",
-        }
-    }
-}
-
-impl Stop {
-    // Promise P188, also here; clauses: ensures
-    /// The exit status.
-    pub(crate) fn status(self) -> u8
-        ensures { result ≡ stop_status self }
-    {
-        match self {
-            Stop::Words => 2,
-            Stop::Service(stop) => stop.status(),
-        }
-    }
-
-    // Promise P188, also here; clauses: ensures
-    /// The last line that is printed, with its end.
-    pub(crate) fn line(self) -> &'static [u8]
-        ensures { result.now ≡ stop_line self }
-    {
-        match self {
-            Stop::Words => b"stopped: words\n",
-            Stop::Service(stop) => stop.line(),
-        }
-    }
-}
-
-impl From<ServiceStop> for Stop {
-    ghost use Rattle.vault_served.specs.declared.stop.Stop.TheVariants as stops;
-
-    ghost from_gives = { λ service stop. stop ≡ stops.Service service };
-
-    fn from(stop: ServiceStop) -> Stop {
-        Stop::Service(stop)
-    }
-}
-
-impl From<VaultOpenFault> for ServiceStop {
-    ghost from_gives = { λ fault stop. stop ≡ stop_of_open fault };
-
-    fn from(fault: VaultOpenFault) -> ServiceStop {
-        match fault {
-            VaultOpenFault::DiskFault => ServiceStop::Disk,
-            VaultOpenFault::NotAJournal(_) => ServiceStop::NoJournal,
-            VaultOpenFault::BadRecord(_) => ServiceStop::NoJournal,
-            VaultOpenFault::NoMemory => ServiceStop::Memory,
-        }
-    }
-}
-
-impl From<ServeFault> for ServiceStop {
-    ghost from_gives = { λ fault stop. stop ≡ stop_of_serve fault };
-
-    fn from(fault: ServeFault) -> ServiceStop {
-        match fault {
-            ServeFault::NoConnection => ServiceStop::Link,
-            ServeFault::StoreFault => ServiceStop::Disk,
-        }
-    }
-}
-
-/// The cause of a start that was refused, for those to whom connections would have come.
-pub(crate) fn open_fault_of(fault: VaultOpenFault) -> OpenFault
-    ensures { result ≡ told_of fault }
+/// Why the service ends if the vault wasn't started.
+pub(crate) fn stop_of(fault: VaultOpenFault) -> ServiceStop
+    ensures { result ≡ stop_of_open fault }
 {
     match fault {
-        VaultOpenFault::DiskFault => OpenFault::DiskFault,
-        VaultOpenFault::NotAJournal(place) => OpenFault::NotAJournal(place),
-        VaultOpenFault::BadRecord(number) => OpenFault::BadRecord(number),
-        VaultOpenFault::NoMemory => OpenFault::NoMemory,
+        VaultOpenFault::DiskFault => ServiceStop::Disk,
+        VaultOpenFault::NotAJournal(_) => ServiceStop::NoJournal,
+        VaultOpenFault::BadRecord(_) => ServiceStop::NoJournal,
+        VaultOpenFault::NoMemory => ServiceStop::Memory,
     }
 }

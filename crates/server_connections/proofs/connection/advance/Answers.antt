@@ -3,7 +3,8 @@ use Rattle.keyed_fn.specs.KeyedFn.{keyed_fn}
 use Rattle.sse_frames.specs.Replies as replies
 use Rattle.sse_link.specs.BadFrames.{bad_reason}
 use Rattle.server_connections.specs.ConnectionSteps.{IsReplied}
-use Rattle.server_connections.proofs.DiskCauses.{disk-more, disk-refused, disk-replied}
+use Rattle.tcp_service.proofs.DiskCauses.{disk-more}
+use Rattle.server_connections.proofs.DiskCauses.{disk-refused, disk-replied}
 use Rattle.server_connections.proofs.ConnectionStepLaws.{Goes-more, Goes-refused, Goes-turn}
 use Rattle.server_connections.proofs.Pages.{lent_page}
 use Rattle.server_connections.proofs.connection.advance.Goals as goal

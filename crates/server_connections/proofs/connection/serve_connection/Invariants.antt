@@ -1,8 +1,8 @@
 use Rattle.std.proofs.Common.{◌≡◌}
 use Rattle.keyed_fn.specs.KeyedFn.{keyed_fn}
-use Rattle.server_connections.specs.Disks.{IsSteady}
-use Rattle.server_connections.specs.Handled.{StaysClosed}
-use Rattle.server_connections.specs.ConnectionSteps.{Progress, bytes_to_come}
+use Rattle.tcp_service.specs.Disks.{IsSteady, StaysClosed}
+use Rattle.server_connections.specs.ConnectionSteps.{Progress}
+use Rattle.tcp_service.specs.Arrivals.{bytes_to_come}
 use Rattle.server_connections.proofs.connection.serve_connection.Given as goal
 
 -- the frames that were answered, what is held behind them, and no fault so far

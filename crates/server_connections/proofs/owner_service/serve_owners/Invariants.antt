@@ -5,8 +5,7 @@ use Rattle.sse_journal.specs.JournalView.{broken_by}
 use Rattle.sse_server.specs.StoreView.{IsWithin}
 use Rattle.sse_owners.specs.Owned.{OwnedFrame}
 use Rattle.sse_owners.specs.OwnersView.{IsOwnersOf}
-use Rattle.server_connections.specs.Disks.{SoFar}
-use Rattle.server_connections.specs.Handled.{IsSound, StaysClosed}
+use Rattle.tcp_service.specs.Disks.{SoFar, IsSound, StaysClosed}
 use Rattle.server_connections.specs.OwnerConnections.{HaveOwnersServed}
 use Rattle.server_connections.proofs.owner_service.serve_owners.Given as goal
 

@@ -1,6 +1,7 @@
 use Rattle.std.proofs.Common.{sym, ◌∙◌}
 use Rattle.keyed_fn.specs.KeyedFn.{keyed_fn}
-use Rattle.server_connections.proofs.Pages.{IsSaid-err, cut-page, last-page, next-page}
+use Rattle.tcp_service.proofs.Pieces.{IsSaid-err}
+use Rattle.server_connections.proofs.Pages.{cut-page, last-page, next-page}
 use Rattle.server_connections.proofs.reply_list.say_pages.Goals as goal
 
 -- the page in front was cut

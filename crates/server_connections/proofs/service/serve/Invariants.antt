@@ -1,7 +1,6 @@
 use Rattle.std.proofs.Common.{◌≡◌, ◌+◌}
 use Rattle.keyed_fn.specs.KeyedFn.{keyed_fn}
-use Rattle.server_connections.specs.Disks.{SoFar}
-use Rattle.server_connections.specs.Handled.{StaysClosed}
+use Rattle.tcp_service.specs.Disks.{SoFar, StaysClosed}
 use Rattle.server_connections.specs.Served.{HaveServed}
 use Rattle.server_connections.proofs.service.serve.Given as goal
 

@@ -3,7 +3,8 @@ use Rattle.std.specs.Prelude.{Option, Some, Err, IfSome, map}
 use Rattle.sse_journal.proofs.Moments.{started, goes_on_to, weakened}
 use Rattle.sse_server.specs.declared.open_fault.OpenFault.TheVariants as opens
 use Rattle.sse_owners.specs.OwnedRecords.{IsBadOwned, TakesNextOwned}
-use Rattle.sse_owners.proofs.OwnedReplay.{bad_here, journal_on, replayed_none, replayed_next}
+use Rattle.sse_server.proofs.ReplaySteps.{journal_on}
+use Rattle.sse_owners.proofs.OwnedReplay.{bad_here, replayed_none, replayed_next}
 use Rattle.sse_owners.proofs.replay.replay.Goals as goal
 
 pub records-init : goal.records-init

@@ -1,6 +1,6 @@
 use Rattle.keyed_fn.specs.KeyedFn.{keyed_fn}
 use Rattle.sse_frames.specs.FrameViews.{frame_view}
-use Rattle.sse_owners.proofs.AnswerLaws.{no_took}
+use Rattle.sse_server.proofs.AnswerLaws.{no_took}
 use Rattle.sse_owners.proofs.taking.answer_of.Goals as goal
 
 pub returns-clause-not_taken : goal.returns-clause-not_taken

@@ -1,5 +1,5 @@
 use Rattle.vault_server.specs.VaultFrames as replies
-use Rattle.server_connections.proofs.DiskCauses.{disk-more}
+use Rattle.tcp_service.proofs.DiskCauses.{disk-more}
 use Rattle.vault_served.specs.Lasting.{Lasts}
 use Rattle.vault_served.proofs.DiskAnswers.{disk-refused, disk-replied}
 use Rattle.vault_served.proofs.StepLaws.{Goes-more, Goes-refused, Goes-turn}

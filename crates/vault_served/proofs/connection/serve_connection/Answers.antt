@@ -1,6 +1,5 @@
 use Rattle.std.proofs.Common.{◌∙◌}
-use Rattle.server_connections.proofs.DiskCauses.{ends-after, steady-steady}
-use Rattle.server_connections.proofs.ClosedDisks.{StaysClosed-then}
+use Rattle.tcp_service.proofs.DiskCauses.{ends-after, steady-steady, StaysClosed-then}
 use Rattle.vault_served.proofs.connection.serve_connection.Goals as goal
 
 -- the disk over the frames before, and then over the last step

@@ -1,8 +1,7 @@
 use Rattle.std.proofs.Common.{◌≡◌}
 use Rattle.std.specs.Prelude.{IsSome}
-use Rattle.server_connections.specs.ConnectionSteps.{bytes_to_come}
-use Rattle.server_connections.specs.Disks.{IsSteady}
-use Rattle.server_connections.specs.Handled.{IsSound, StaysClosed}
+use Rattle.tcp_service.specs.Arrivals.{bytes_to_come}
+use Rattle.tcp_service.specs.Disks.{IsSteady, IsSound, StaysClosed}
 use Rattle.sse_journal.specs.JournalView.{broken_by}
 use Rattle.vault_server.specs.VaultServerView.{IsWithin}
 use Rattle.vault_served.specs.Lasting.{Lasts}

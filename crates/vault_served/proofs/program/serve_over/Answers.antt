@@ -1,6 +1,6 @@
 use Rattle.std.proofs.Common.{[], ◌∷◌}
-use Rattle.vault_served.specs.Places.{Ended, Closed}
-use Rattle.vault_served.proofs.Chains.{chained}
+use Rattle.service_places.specs.Places.{Ended, Closed}
+use Rattle.service_places.proofs.Chains.{chained}
 use Rattle.vault_served.proofs.program.serve_over.Goals as goal
 
 pub returns-clause-serves : goal.returns-clause-serves

@@ -1,8 +1,9 @@
 use Rattle.std.proofs.Common.{◌≡◌, Err, inl, inr, refl, ap, sym, ◌∙◌}
 use Rattle.std.proofs.lemmas.Bool.{true≢false}
-use Rattle.vault_served.specs.declared.stop.ServiceStop.TheVariants.{NoJournal}
-use Rattle.vault_served.proofs.KeptFiles.{kept_file}
-use Rattle.vault_served.proofs.StopLaws.{if_some, if_some_both, never_no_journal, never_served, no_journal_of, of_either}
+use Rattle.service_places.specs.declared.stop.ServiceStop.TheVariants.{NoJournal}
+use Rattle.service_places.proofs.KeptFiles.{kept_file}
+use Rattle.service_places.proofs.KnownValues.{if_some, if_some_both}
+use Rattle.vault_served.proofs.StopLaws.{never_no_journal, never_served, no_journal_of, of_either}
 use Rattle.vault_served.proofs.service.serve_all.Goals as goal
 
 -- the store wasn't started: no connection was asked for, and the file has the records that it had
@@ -18,7 +19,7 @@ returns-in-Err-clause-no_journal_untouched g c = λ e. (refl, kept_file g.D.Disk
 
 pub returns-in-Err-clause-no_journal : goal.returns-in-Err-clause-no_journal
 returns-in-Err-clause-no_journal g c = λ e.
-    no_journal_of (g.D.Disk.content c.args.disk.now) c.in-Err.fault (sym c.from.ensures ∙ (let same : c.from.result ≡ NoJournal = cc in same))
+    no_journal_of (g.D.Disk.content c.args.disk.now) c.in-Err.fault (sym c.stop_of.ensures ∙ (let same : c.stop_of.result ≡ NoJournal = cc in same))
     (λ place is. if_some (g.D.Disk.content c.args.disk.now) (c.in-Err.ensures.refuses.no_journal place (ap Err is)) (λ bytes ends. ends.0))
     (λ number is. c.in-Err.ensures.refuses.bad_record number (ap Err is))
 
@@ -28,7 +29,7 @@ returns-in-Err-clause-journal_taken g c =
     (λ bytes accepted frames are gives e. never_no_journal c.in-Err.fault
     (λ place is. (accepted frames are gives place).0 (ap Err is))
     (λ number is. (accepted frames are gives number).1 (ap Err is))
-    (sym c.from.ensures ∙ (let same : c.from.result ≡ NoJournal = cc in same)))
+    (sym c.stop_of.ensures ∙ (let same : c.stop_of.result ≡ NoJournal = cc in same)))
 
 -- it was started, and connections were served
 
@@ -45,7 +46,7 @@ returns-clause-no_journal_refused g c =
 pub returns-clause-journal_taken : goal.returns-clause-journal_taken
 returns-clause-journal_taken g c =
     if_some (g.D.Disk.content c.args.disk.now) c.in-Ok-start.ensures.refuses.accepted
-    (λ bytes accepted frames are gives e. never_served c.in-Err-serve.fault (sym c.from-in-Err-serve.ensures ∙ (let same : c.from-in-Err-serve.result ≡ NoJournal = cc in same)))
+    (λ bytes accepted frames are gives e. never_served c.in-Err-serve.fault (sym c.from.ensures ∙ (let same : c.from.result ≡ NoJournal = cc in same)))
 
 pub returns-clause-disk_served : goal.returns-clause-disk_served
 returns-clause-disk_served g c = λ e. inr (record {

@@ -1,7 +1,6 @@
 use Rattle.std.proofs.Common.{◌≡◌, ◌+◌}
 use Rattle.std.specs.Prelude.{IsSome}
-use Rattle.server_connections.specs.Disks.{SoFar}
-use Rattle.server_connections.specs.Handled.{IsSound, StaysClosed}
+use Rattle.tcp_service.specs.Disks.{SoFar, IsSound, StaysClosed}
 use Rattle.sse_journal.specs.JournalView.{broken_by}
 use Rattle.vault_server.specs.VaultServerView.{IsWithin}
 use Rattle.vault_served.specs.Lasting.{Lasts}

@@ -7,7 +7,8 @@ use Rattle.sse_server.specs.declared.store_answer.StoreAnswer.TheVariants.{Answe
 use Rattle.sse_owners.specs.Handled.{KeepsJournal}
 use Rattle.sse_owners.specs.Owned.{owned, record_of, records}
 use Rattle.sse_owners.specs.OwnersView.{OwnersView, chosen_owner, chosen_state}
-use Rattle.sse_owners.proofs.AnswerLaws.{journal_still, not_taken, never_took, no_fault}
+use Rattle.sse_server.proofs.AnswerLaws.{not_taken}
+use Rattle.sse_owners.proofs.AnswerLaws.{journal_still, never_took, no_fault}
 use Rattle.sse_owners.proofs.LastingOwners.{gives_of, lasts_still}
 use Rattle.sse_owners.proofs.owners.Owners.handle.Goals as goal
 

@@ -8,7 +8,8 @@ use Rattle.sse_server.specs.declared.open_fault.OpenFault.TheVariants as opens
 use Rattle.sse_owners.specs.OwnedRecords.{AreReplayed, IsBadOwned}
 use Rattle.sse_owners.specs.OwnersView.{IsOwnersFrom}
 use Rattle.sse_owners.proofs.OwnedOnce.{no_bad_record_of, bad_record_once_of}
-use Rattle.sse_owners.proofs.StartedOwners.{so_far, only_first, no_error, place_told, no_record_told, synced_on, owners_from, bad_from}
+use Rattle.sse_server.proofs.StartedStore.{so_far, only_first, no_error, place_told, no_record_told, synced_on}
+use Rattle.sse_owners.proofs.StartedOwners.{owners_from, bad_from}
 use Rattle.sse_owners.proofs.owners.Owners.open.Goals as goal
 
 -- a start of the journal that was refused

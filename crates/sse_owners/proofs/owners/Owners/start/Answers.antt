@@ -1,7 +1,7 @@
 use Rattle.std.proofs.Common.{◌≡◌, refl, ap}
 use Rattle.std.specs.Prelude.{Err}
 use Rattle.sse_server.specs.declared.open_fault.OpenFault.TheVariants as opens
-use Rattle.sse_owners.proofs.StartedOwners.{so_far, no_error}
+use Rattle.sse_server.proofs.StartedStore.{so_far, no_error}
 use Rattle.sse_owners.proofs.owners.Owners.start.Goals as goal
 
 pub returns-in-Ok-clause-no_journal_refused : goal.returns-in-Ok-clause-no_journal_refused

@@ -1,0 +1,9 @@
+pub mod Heads
+pub mod Arrivals
+pub mod Writing
+pub mod Faults
+pub mod Disks
+pub mod QueuedConns
+pub mod Scripts
+pub mod MemConns
+pub mod Texts
