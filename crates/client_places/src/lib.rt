@@ -1,7 +1,7 @@
 //! Where a client's disk and its link come from: the trait `Places`, over which the client's program is written, so that
 //! a contract can say which file was opened, which address was called, in which order, and what was given back. It
-//! depends on `sse_link` and `sse_outside` for the traits of link and disk, and knows no word and no key. `MemPlaces` has
-//! one disk and one link in memory.
+//! depends on `sse_outside` for the trait of disk, and knows no word and no key. Of a link it only asks that it can be let go,
+//! so the programs of the archive and of the vault both stand on it. `MemPlaces` has one disk and one link in memory.
 //! Proved: `MemPlaces` gives its disk and its link to their own names only, and keeps what is given back as it is.
 //! Not covered: that a system's places open the file and call the address that they are asked for.
 //! Side: client.

@@ -1,7 +1,6 @@
 ghost use Rattle.std.specs.Prelude.{◌≡◌, Some, None, option_copied, string_bytes};
 
 use crate::Places;
-use sse_link::Link;
 use sse_outside::{Disk, Failed};
 
 /// One disk at one path and one link at one address, in memory. Each is given once, to a call by that name, and kept when it is
@@ -17,7 +16,7 @@ pub struct MemPlaces<D, L> {
     faults: u64,
 }
 
-impl<D: Disk + Drop, L: Link + Drop> MemPlaces<D, L> {
+impl<D: Disk + Drop, L: Drop> MemPlaces<D, L> {
     ghost use Rattle.client_places.specs.MemPlaces.{disk_at, link_at, disk_closed, link_hung_up};
 
     /// A disk at a path, and a link at an address.
@@ -53,7 +52,7 @@ impl<D: Disk + Drop, L: Link + Drop> MemPlaces<D, L> {
     }
 }
 
-impl<D: Disk + Drop, L: Link + Drop> Places for MemPlaces<D, L> {
+impl<D: Disk + Drop, L: Drop> Places for MemPlaces<D, L> {
     ghost use Rattle.client_places.specs.MemPlaces.{disk_at, link_at, disk_closed, link_hung_up, faults_of};
 
     type Disk = D;

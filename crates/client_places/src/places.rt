@@ -3,7 +3,6 @@ ghost use Rattle.std.specs.declared.option.Option.{Option};
 ghost use Rattle.sse_outside.specs.Causes.{HasCause};
 ghost use Rattle.client_places.specs.Events.{Event, Opened, NotOpened, Connected, NotConnected, HungUp, Closed, with_event};
 
-use sse_link::Link;
 use sse_outside::{Disk, Failed};
 
 /// Where a client's disk and its link come from.
@@ -14,7 +13,7 @@ use sse_outside::{Disk, Failed};
 pub trait Places {
     type Disk: Disk + Drop;
 
-    type Link: Link + Drop;
+    type Link: Drop;
 
     ghost faults: { Self → ℕ };
 

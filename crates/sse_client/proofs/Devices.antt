@@ -1,5 +1,5 @@
 -- What the status of a run tells of its devices, by what stopped it.
-use Rattle.std.proofs.Common.{◌≡◌, ◌≢◌, ◌≤◌, ℕ, Result, Ok, Err, inl, inr, ◌⊎◌, refl, sym, ap, subst, ◌∙◌, arith}
+use Rattle.std.proofs.Common.{◌≡◌, ◌≢◌, ◌≤◌, ℕ, Result, Ok, Err, refl, sym, ap, subst, ◌∙◌, arith}
 use Rattle.std.specs.Prelude.{IfErr, OnOk}
 use Rattle.sse_outside.specs.Causes.{Rose}
 use Rattle.sse_outside.specs.declared.device_fault.DeviceFault.TheVariants as devices
@@ -14,7 +14,7 @@ use Rattle.script_run_texts.specs.declared.stop_cause.StopCause.{StopCause}
 use Rattle.script_run_texts.specs.declared.stop_cause.StopCause.TheVariants as stops
 use Rattle.def_script_meaning.specs.Stops as ends
 use Rattle.def_script_meaning.specs.Stops.{status_of}
-use Rattle.sse_client.specs.Devices.{TellsDevices}
+use Rattle.client_journal.specs.Counts.{TellsDevices}
 use Rattle.sse_client.specs.RecordKept.{StaysWhole, WholeAtStop}
 use Rattle.sse_client.specs.OnDisk.{RecordsCause}
 use Rattle.sse_client.specs.Stands.{stop_view}
@@ -111,49 +111,6 @@ module _ (source source' sink sink' sink'' shortages shortages' link link' disk 
   devices-told (Ok refusals.None) is ended s k later steady l cut d = devices-calm (omega (arith, is)) ended s.steady (steady ∙ k.steady) l d.steady
   devices-told (Ok refusals.Some) is ended s k later steady l cut d = devices-calm (omega (arith, is)) ended s.steady (steady ∙ k.steady) l d.steady
   devices-told (Err stop) is ended s k later steady l cut d = devices-stopped stop (is ∙ seen_status stop) s.cause k.cause later cut d.cause
-
-  -- a run that ended before it was begun, for its disk, read, sent and received nothing
-  pub devices-unopened : (status ≡ 6) ⊎ ((status ≡ 7) ⊎ ((status ≡ 10) ⊎ (status ≡ 11))) → source' ≡ source → link' ≡ link → (status ≡ 6 → Rose disk disk') → (status ≢ 6 → disk' ≡ disk)
-      → TellsDevices source source' sink sink'' link link' disk disk' read status
-  devices-unopened known s l failed steady =
-      let least : 6 ≤ status = elim known [
-        | inl e ↦ omega (arith, e)
-        | inr (inl e) ↦ omega (arith, e)
-        | inr (inr (inl e)) ↦ omega (arith, e)
-        | inr (inr (inr e)) ↦ omega (arith, e)
-      ] in
-      record {
-        at_end = λ most. absurd (omega (arith, most, least));
-        source_failed = λ e. absurd (omega (arith, e, least));
-        source_steady = λ _. s;
-        sink_failed = λ e. absurd (omega (arith, e, least));
-        sink_steady = λ most. absurd (omega (arith, most, least));
-        link_failed = λ e. absurd (omega (arith, e, least));
-        link_steady = λ _. l;
-        disk_failed = failed;
-        disk_steady = steady;
-      }
-
--- other words ask nothing of a device but the last line
-pub devices-idle : (source sink sink' link disk : ℕ) (read : Type 0) (status : ℕ) → status ≡ 2 → TellsDevices source source sink sink' link link disk disk read status
-devices-idle source sink sink' link disk read status is = record {
-  at_end = λ most. absurd (omega (arith, most, is));
-  source_failed = λ e. absurd (omega (arith, e, is));
-  source_steady = λ _. refl;
-  sink_failed = λ e. absurd (omega (arith, e, is));
-  sink_steady = λ most. absurd (omega (arith, most, is));
-  link_failed = λ e. absurd (omega (arith, e, is));
-  link_steady = λ _. refl;
-  disk_failed = λ e. absurd (omega (arith, e, is));
-  disk_steady = λ _. refl;
-}
-
--- the same of a source and a disk whose counts were so before, and of a disk whose count is so behind
-pub devices-on : (source source' sink sink' link link' disk disk' had_source had_disk has_disk status : ℕ) (read : Type 0) → source ≡ had_source → disk ≡ had_disk → disk' ≡ has_disk
-    → TellsDevices source source' sink sink' link link' disk disk' read status → TellsDevices had_source source' sink sink' link link' had_disk has_disk read status
-devices-on source source' sink sink' link link' disk disk' had_source had_disk has_disk status read s d d' tells =
-    subst (λ n. TellsDevices had_source source' sink sink' link link' had_disk n read status) d'
-    (subst (λ n. TellsDevices had_source source' sink sink' link link' n disk' read status) d (subst (λ n. TellsDevices n source' sink sink' link link' disk disk' read status) s tells))
 
 -- records that can't be gone on from leave their disk's count, unless the disk is what failed
 pub records_same : (before now : ℕ) (stop : JournalStop) → RecordsCause before now stop → stop ≢ journals.Disk → now ≡ before

@@ -17,7 +17,8 @@ use Rattle.sse_script.specs.Shown.{Cause}
 use Rattle.sse_client.specs.ResumedRun.{AtKeyLine, GoesOnFrom, GoesOnOver, HasResent, IsHeldUp}
 use Rattle.sse_client.specs.KeyLines.{KeyLine, Keyed, Missing, key_line}
 use Rattle.sse_client.specs.OnDisk.{HasGoneOn}
-use Rattle.sse_client.specs.WholeRuns.{IsRun, SinkShows}
+use Rattle.client_journal.specs.Shows.{SinkShows}
+use Rattle.sse_client.specs.WholeRuns.{IsRun}
 
 -- these events were added, and they begin with a frame where there are any
 pub record AddsFrames (old new : Told) : Type 0 where

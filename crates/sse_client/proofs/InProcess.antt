@@ -36,10 +36,11 @@ use Rattle.sse_client.proofs.WholeRun.{is_run, opens_memory}
 use Rattle.sse_client.specs.InProcess.{HasNoJournal, PrintsAsMeant, RunsInProcess, unused}
 use Rattle.sse_client.specs.LastLine.{EndsLine}
 use Rattle.sse_client.specs.NoRecord.{IsRefusedMore}
-use Rattle.sse_client.specs.OnDisk.{IsNotBegun, kept_on}
+use Rattle.client_journal.specs.DiskRuns.{IsNotBegun, kept_on}
 use Rattle.sse_client.specs.OverStore.{BeginsOnBothSides, BeginsOverStore, HasStoredUpdates, LeavesStore, seen_over}
 use Rattle.sse_client.specs.Stands.{outside_of, seen}
-use Rattle.sse_client.specs.WholeRuns.{IsRun, SinkShows}
+use Rattle.client_journal.specs.Shows.{SinkShows}
+use Rattle.sse_client.specs.WholeRuns.{IsRun}
 
 pub inside : {A : Type 0} (a b : A) → Some a ≡ Some b → a ≡ b
 inside a b e = cc

@@ -31,7 +31,3 @@ Ends-line end last status f0 f2 s0 s2 told kept (inr short) = record { told = to
 pub counts-line : (stop : ends.Stop) (written written' : Option (List ℕ)) (status f0 f2 s0 s2 : ℕ) → EndsLine stop written written' status f0 f2 s0 s2 → (status ≢ 4 → f2 ≡ f0) ⊎ (Rose f0 f2 ⊎ Rose s0 s2)
 counts-line stop written written' status f0 f2 s0 s2 (inl whole) = inl whole.1
 counts-line stop written written' status f0 f2 s0 s2 (inr short) = inr short.1
-
-pub counts-took : (written written' : Option (List ℕ)) (bytes : List ℕ) (status f0 f2 s0 s2 : ℕ) → TookOrRose written written' bytes f0 f2 s0 s2 → (status ≢ 4 → f2 ≡ f0) ⊎ (Rose f0 f2 ⊎ Rose s0 s2)
-counts-took written written' bytes status f0 f2 s0 s2 (inl whole) = inl (λ other. whole.1)
-counts-took written written' bytes status f0 f2 s0 s2 (inr short) = inr short.1

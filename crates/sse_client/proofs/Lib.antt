@@ -28,7 +28,6 @@ pub mod RunRejoins
 pub mod SessionsInARow
 pub mod RunsOnDisk
 pub mod RecordsLast
-pub mod KeptOnDisk
 pub mod RecordedFrames
 pub mod EmptyFile
 pub mod FirstFrames

@@ -1,5 +1,5 @@
 -- A run over a file that gives no record: why its journal isn't opened.
-use Rattle.std.proofs.Common.{◌≡◌, ◌≢◌, ◌≤◌, ◌⊎◌, inl, inr, ℕ, List, Option, None, Some, refl, arith}
+use Rattle.std.proofs.Common.{◌≡◌, ◌≢◌, ◌⊎◌, inl, inr, ℕ, List, Option, None, Some, refl}
 use Rattle.std.specs.Prelude.{IfSome}
 use Rattle.client_journal.specs.Openings.{HasNoRecord}
 use Rattle.def_script_meaning.specs.Exchange.{Told}
@@ -7,8 +7,8 @@ use Rattle.script_run_texts.specs.Stops.{journal_status}
 use Rattle.script_run_texts.specs.declared.journal_stop.JournalStop.{JournalStop}
 use Rattle.script_run_texts.specs.declared.journal_stop.JournalStop.TheVariants as journals
 use Rattle.sse_client.specs.NoRecord.{IsRefusedMore}
-use Rattle.sse_client.specs.OnDisk.{IsNotReopened}
-use Rattle.sse_client.specs.WholeRuns.{SinkShows}
+use Rattle.client_journal.specs.DiskRuns.{IsNotReopened}
+use Rattle.client_journal.specs.Shows.{SinkShows}
 
 -- there is none, or memory was out, where the disk isn't what failed
 pub none_or_memory : (stop : JournalStop) (file : List ℕ) → IsNotReopened stop file → journal_status stop ≢ 6 → (stop ≡ journals.NoJournal) ⊎ (stop ≡ journals.Memory)
@@ -32,12 +32,3 @@ pub refused_ten : {S : Type 0} (source source' : S) (told told' : Told) (content
     → IfSome content (λ file. HasNoRecord file → status ≢ 6 → status ≢ 7 → status ≡ 10)
 refused_ten source source' told told' None content' sink sink' status refused = tt
 refused_ten source source' told told' (Some file) content' sink sink' status refused = λ none. let was = (refused none).unopened in refused_status was.stop file status was.why was.status_is
-
--- a run that begins is stopped there by its disk or by want of memory alone, whose statuses are below that of a file which isn't right
-pub begun_low : (stop : JournalStop) (status : ℕ) → status ≡ journal_status stop → (stop ≢ journals.Disk → stop ≢ journals.Memory → ⊥) → status ≤ 9
-begun_low journals.NoJournal status is other = absurd (other (λ e. absurd (cc)) (λ e. absurd (cc)))
-begun_low journals.HasRecords status is other = absurd (other (λ e. absurd (cc)) (λ e. absurd (cc)))
-begun_low (journals.BadRecord number) status is other = absurd (other (λ e. absurd (cc)) (λ e. absurd (cc)))
-begun_low journals.WrongKey status is other = absurd (other (λ e. absurd (cc)) (λ e. absurd (cc)))
-begun_low journals.Disk status is other = omega (arith, is)
-begun_low journals.Memory status is other = omega (arith, is)

@@ -13,7 +13,8 @@ use Rattle.def_link_events.specs.Served.{IsServed, idle}
 use Rattle.sse_link.specs.LinkStates.{LinkState, link_state_first, served}
 use Rattle.sse_client.specs.Stands.{seen, outside_of}
 use Rattle.sse_client.specs.OverServer.{IsRunOverServer}
-use Rattle.sse_client.specs.WholeRuns.{IsRun, SinkShows}
+use Rattle.client_journal.specs.Shows.{SinkShows}
+use Rattle.sse_client.specs.WholeRuns.{IsRun}
 use Rattle.sse_client.proofs.WholeRun.{IfSome-then}
 
 abbrev remote : LinkState → Option Remote

@@ -41,10 +41,12 @@ use Rattle.sse_client.proofs.FirstFrames.{AddsFrames, gone_on_adds, run_adds}
 use Rattle.sse_client.proofs.LentLink.{remote, same_start, same_file, all_are, added_honest, lent-over}
 use Rattle.sse_client.proofs.RunRejoins.{kept_behind, updates_behind}
 use Rattle.sse_client.specs.CanGoOn.{meaning_after}
-use Rattle.sse_client.specs.OnDisk.{HasGoneOn, IsExact, IsNotBegun, kept_on}
+use Rattle.client_journal.specs.DiskRuns.{IsExact, IsNotBegun, kept_on}
+use Rattle.sse_client.specs.OnDisk.{HasGoneOn}
 use Rattle.sse_client.specs.OverStore.{BeginsOnBothSides, GoesOnOnBothSides, HasStoredUpdates, seen_over}
 use Rattle.sse_client.specs.Stands.{outside_of, seen}
-use Rattle.sse_client.specs.WholeRuns.{IsRun, SinkShows}
+use Rattle.client_journal.specs.Shows.{SinkShows}
+use Rattle.sse_client.specs.WholeRuns.{IsRun}
 
 inside : {A : Type 0} (a b : A) → Some a ≡ Some b → a ≡ b
 inside a b e = cc

@@ -1,6 +1,6 @@
 -- How a session takes a query line: refused, or a search for each of its words, and it shows what it chooses of the answers.
-use Rattle.std.proofs.Common.{◌≡◌, ◌⊎◌, inl, inr, ℕ, ◌≤◌, true, false, List, [], ◌∷◌, ◌++◌, length, map, take, refl, sym, ap, subst, ◌∙◌, append_assoc, arith}
-use Rattle.std.specs.Prelude.{Option, None, Some, filter, option_map}
+use Rattle.std.proofs.Common.{◌≡◌, inl, inr, ℕ, ◌≤◌, true, List, [], ◌∷◌, ◌++◌, length, map, refl, sym, ap, subst, ◌∙◌, append_assoc, arith}
+use Rattle.std.specs.Prelude.{Option, None, Some, option_map}
 use Rattle.std.specs.List.{AllByRecursion}
 use Rattle.std.proofs.lemmas.List.{append-nil, length-map, take_all}
 use Rattle.bool_search.specs.Chosen.{chosen_by}
@@ -10,12 +10,11 @@ use Rattle.client_core.specs.StandsFor.{StandsFor, with_command}
 use Rattle.client_core.specs.declared.client.Client.{Client}
 use Rattle.client_core.specs.declared.ready.Ready.{Ready}
 use Rattle.client_records.specs.Records.{update_record}
-use Rattle.client_registry.specs.Command.{Command, Search}
+use Rattle.client_registry.specs.Command.{Search}
 use Rattle.client_registry.specs.Histories.{is_set_up, longer}
 use Rattle.client_registry.specs.Live.{in_order, matching_in}
 use Rattle.client_registry.specs.Run.{History, Run, at_first}
 use Rattle.keyed_fn.specs.KeyedFn.{KeyedFn}
-use Rattle.sse_frames.specs.Frames.{FrameText}
 use Rattle.sse_model.specs.Histories.{frames_of_next}
 use Rattle.sse_script.specs.Shown as says
 use Rattle.sse_script.specs.declared.refusal.Refusal.{Refusal}

@@ -1,21 +1,14 @@
 -- What is kept lasts: at a stop that isn't for the record of a command, what keeps the records takes more of them, and the file of a
 -- journal is exactly that of its records, also after a crash.
-use Rattle.std.proofs.Common.{◌≡◌, ◌≢◌, ℕ, List, Option, None, Some, Result, Ok, Err, IsErrAnd, refl, sym, ap, ◌∙◌, subst}
-use Rattle.std.specs.Prelude.{All, IfSome}
-use Rattle.client_journal.specs.Openings.{IsOfRecords}
+use Rattle.std.proofs.Common.{◌≡◌, ◌≢◌, Result, Ok, Err, IsErrAnd, refl}
 use Rattle.script_run_texts.specs.Stops.{stop_status}
 use Rattle.script_run_texts.specs.declared.command_stop.CommandStop.{CommandStop}
 use Rattle.script_run_texts.specs.declared.command_stop.CommandStop.TheVariants as commands
 use Rattle.script_run_texts.specs.declared.stop_cause.StopCause.{StopCause}
 use Rattle.script_run_texts.specs.declared.stop_cause.StopCause.TheVariants as stops
-use Rattle.sse_journal.proofs.FileRecords.{records_of_journal}
-use Rattle.sse_journal.specs.FileRecords.{records_in_file}
-use Rattle.sse_journal.specs.Files.{IsPayload, file}
-use Rattle.sse_journal.specs.declared.journal.Journal.{Journal}
 use Rattle.sse_outside.specs.declared.device_fault.DeviceFault.TheVariants as devices
 use Rattle.sse_client.proofs.TranscriptsJoined.{IfErr-from, may_stop-ok}
 use Rattle.sse_client.specs.RecordKept.{StaysWhole, WholeAt, WholeAtStop}
-use Rattle.sse_client.specs.OnDisk.{IsExact}
 
 pub StaysWhole-err : {T E : Type 0} (showing : Type 0 → E → Type 0) (whole : Type 0) (r : Result T E) (stop : E) → IsErrAnd r (λ e. e ≡ stop) → showing whole stop → StaysWhole showing whole r
 StaysWhole-err showing whole r stop is holds = record { after = may_stop-ok r stop is _; stopped = IfErr-from r stop (showing whole) is holds }
@@ -53,15 +46,3 @@ whole_but_kept whole stops.Words is disk memory = is
 whole_but_kept whole (stops.Input stop) is disk memory = is
 whole_but_kept whole stops.Sink is disk memory = is
 whole_but_kept whole stops.Memory is disk memory = is
-
--- a disk that holds the records of a journal has a file that is exactly theirs, and a crash leaves no other
-pub holds_exact : (j : Journal) (content : Option (List ℕ)) (images : List ℕ → Type 0) → IfSome content (λ file. IsOfRecords j content images) → IsExact content images
-holds_exact j None images of = tt
-holds_exact j (Some held) images of =
-    let records : records_in_file held ≡ of.0 = (let is = records_of_journal of.0 j (Some held) images of.1 in cc) in
-    let reads : held ≡ file of.0 = (let is = of.1.settled.reads in cc) in
-    record {
-      payloads_are = subst (All IsPayload) (sym records) of.1.payloads_are;
-      are = reads ∙ ap (λ payloads. file payloads) (sym records);
-      durable = λ image left. of.1.settled.durable image left ∙ sym reads;
-    }

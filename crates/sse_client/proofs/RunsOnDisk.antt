@@ -39,7 +39,8 @@ use Rattle.def_script_meaning.specs.Stops.{status_of}
 use Rattle.sse_client.specs.ResumedRun.{AtKeyLine, GoesOnFrom, GoesOnOver, GoesOnTo, HasEndedAfter, IsUnrestored, Restores}
 use Rattle.sse_client.specs.KeyLines.{FindsKey, Keyed, Missing, key_line}
 use Rattle.sse_client.specs.LastLine.{EndsLine}
-use Rattle.sse_client.specs.OnDisk.{HasGoneOn, IsNotBegun, IsNotReopened, IsUnopened, held_stop, kept_on, records_on}
+use Rattle.client_journal.specs.DiskRuns.{IsNotBegun, IsNotReopened, kept_on, records_on}
+use Rattle.sse_client.specs.OnDisk.{HasGoneOn, IsUnopened, held_stop}
 use Rattle.sse_client.specs.declared.on_disk.HeldUp.TheVariants as held
 
 -- The records of a journal.

@@ -16,7 +16,8 @@ use Rattle.def_script_meaning.specs.Rejoins.{IsRecordedBehind}
 use Rattle.def_script_meaning.specs.SessionsInARow.{Begins, ResumesAfter, Session, with_session}
 use Rattle.sse_client.specs.CanGoOn.{IsRecordedAfter}
 use Rattle.sse_client.specs.OnDisk.{HasGoneOn}
-use Rattle.sse_client.specs.WholeRuns.{IsRun, SinkShows}
+use Rattle.client_journal.specs.Shows.{SinkShows}
+use Rattle.sse_client.specs.WholeRuns.{IsRun}
 use Rattle.sse_outside.specs.Kept.{Kept}
 
 -- a whole run begins a row with the history whose records it left

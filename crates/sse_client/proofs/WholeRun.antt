@@ -31,7 +31,8 @@ use Rattle.script_run_texts.specs.declared.stop_cause.StopCause.{StopCause}
 use Rattle.sse_client.specs.LastLine.{EndsLine}
 use Rattle.sse_client.specs.Stands.{Seen, seen, outside_of, stop_view, EndsFrom, OpensTo}
 use Rattle.sse_client.specs.Turns.{ending}
-use Rattle.sse_client.specs.WholeRuns.{IsRun, SinkShows}
+use Rattle.client_journal.specs.Shows.{SinkShows}
+use Rattle.sse_client.specs.WholeRuns.{IsRun}
 use Rattle.sse_client.specs.declared.lines.Refusals.{Refusals}
 use Rattle.sse_outside.specs.Fronts.{TookOrRose}
 use Rattle.sse_client.proofs.LastLine.{Ends-line, ends_line}

@@ -19,7 +19,8 @@ use Rattle.server_core.specs.State.{at_first}
 use Rattle.sse_client.specs.LastLine.{EndsLine}
 use Rattle.sse_client.specs.OverServer.{IsRunOverServer}
 use Rattle.sse_client.specs.OverStore.{seen_over}
-use Rattle.sse_client.specs.WholeRuns.{SinkShows, outside}
+use Rattle.client_journal.specs.Shows.{SinkShows}
+use Rattle.sse_client.specs.WholeRuns.{outside}
 use Rattle.sse_journal.specs.Files.{file}
 use Rattle.sse_link.specs.LinkStates.{LinkState, link_state_on}
 use Rattle.sse_outside.specs.Kept.{Kept}

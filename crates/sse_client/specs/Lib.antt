@@ -12,7 +12,6 @@ pub mod Stands
 pub mod RecordKept
 pub mod Turns
 pub mod LastLine
-pub mod Devices
 pub mod WholeRuns
 pub mod OverServer
 pub mod KeyLines

@@ -2,8 +2,9 @@
 use Rattle.std.specs.Prelude.{◌≡◌, ◌≤◌, ℕ, List, Option, Some}
 use Rattle.def_script_meaning.specs.Exchange.{Told}
 use Rattle.script_run_texts.specs.Words.{DiskMode, RunOn, More}
-use Rattle.sse_client.specs.OnDisk.{IsNotReopened, IsUnopened}
-use Rattle.sse_client.specs.WholeRuns.{SinkShows}
+use Rattle.client_journal.specs.DiskRuns.{IsNotReopened}
+use Rattle.sse_client.specs.OnDisk.{IsUnopened}
+use Rattle.client_journal.specs.Shows.{SinkShows}
 
 -- a run that is to go on reads nothing: its last line says why its journal isn't opened
 pub record IsRefusedMore {S : Type 0} (source source' : S) (told told' : Told) (content content' : Option (List ℕ)) (sink sink' : SinkShows) (status : ℕ) : Type 0 where

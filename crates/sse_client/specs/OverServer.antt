@@ -6,7 +6,8 @@ use Rattle.def_script_meaning.specs.Meaning.{meaning}
 use Rattle.def_script_meaning.specs.Session.{IsFree}
 use Rattle.keyed_fn.specs.KeyedFn.{KeyedFn}
 use Rattle.server_core.specs.State.{ServerState, at_first}
-use Rattle.sse_client.specs.WholeRuns.{IsRun, SinkShows}
+use Rattle.client_journal.specs.Shows.{SinkShows}
+use Rattle.sse_client.specs.WholeRuns.{IsRun}
 
 -- a whole run by a link that is honest, from a server that has taken nothing: no collision and no reply stopped it, where its history up to
 -- its stop has no collision; and where no device and no want of memory did, it did what its script means

@@ -25,8 +25,9 @@ use Rattle.outside_memory_disk.specs.declared.steady_disk.SteadyDisk.{SteadyDisk
 use Rattle.sse_server.specs.Taken.{bodies}
 use Rattle.client_journal.specs.Openings.{GivesSome}
 use Rattle.sse_client.specs.CanGoOn.{CanResume, meaning_after}
-use Rattle.sse_client.specs.OnDisk.{BeginsOnDisk, ResumesOnDisk, kept_on, seen_with}
-use Rattle.sse_client.specs.WholeRuns.{SinkShows}
+use Rattle.client_journal.specs.DiskRuns.{kept_on}
+use Rattle.sse_client.specs.OnDisk.{BeginsOnDisk, ResumesOnDisk, seen_with}
+use Rattle.client_journal.specs.Shows.{SinkShows}
 
 -- what is seen of it: all that passed, the records of the client's file, and what the sink took
 abbrev pub seen_over : LinkState → (own : List ℕ) → (written : Option (List ℕ)) → Outside

@@ -1,7 +1,6 @@
 -- A call with the words of a command line: the run that they ask for, or the line that says that they ask for none; and the devices after it.
 use Rattle.std.specs.Prelude.{◌≡◌, ◌≢◌, ◌⊎◌, ◌≤◌, ℕ, List, Option, None}
 use Rattle.std.specs.Io.KnownBytes.{IsAtEnd}
-use Rattle.client_recorder.specs.KeepsOn.{KeepsOn}
 use Rattle.def_agreement.specs.TakenFrames.{Expects}
 use Rattle.def_script_meaning.specs.Carries.{Outside}
 use Rattle.def_script_meaning.specs.Exchange.{Told}
@@ -16,31 +15,12 @@ use Rattle.def_script_meaning.specs.Stops.{status_of}
 use Rattle.keyed_fn.specs.KeyedFn.{KeyedFn}
 use Rattle.server_core.specs.State.{ServerState}
 use Rattle.sse_client.specs.Calls.{LinkShows, shows}
-use Rattle.sse_client.specs.Devices.{TellsDevices}
+use Rattle.client_journal.specs.Counts.{TellsDevices}
 use Rattle.sse_client.specs.LastLine.{EndsLine}
 use Rattle.sse_client.specs.Stands.{seen, outside_of}
 use Rattle.sse_outside.specs.Causes.{Rose}
-use Rattle.sse_outside.specs.Fronts.{TookOrRose}
 use Rattle.sse_outside.specs.Kept.{Kept}
-use Rattle.sse_script.specs.Shown.{Stopped, BadWords}
-use Rattle.sse_script.specs.Texts.{text_of}
-
--- what a sink shows of itself: the bytes that it took, and its counts of faults and of shortages
-pub record SinkShows : Type 0 where
-  pub written : Option (List ℕ)
-  pub faults : ℕ
-  pub shortages : ℕ
-
-abbrev pub prints : Option (List ℕ) → (faults shortages : ℕ) → SinkShows
-prints written faults shortages = record { written = written; faults = faults; shortages = shortages }
-
--- what a source shows of itself: the bytes that are left, and its count of faults
-pub record SourceShows : Type 0 where
-  pub remaining : Option (List ℕ)
-  pub faults : ℕ
-
-abbrev pub gives : Option (List ℕ) → (faults : ℕ) → SourceShows
-gives remaining faults = record { remaining = remaining; faults = faults }
+use Rattle.client_journal.specs.Shows.{SinkShows, SourceShows, SaysWords}
 
 -- a link that is made by the call and dropped: nothing is seen of it
 abbrev pub unseen_link : LinkShows
@@ -75,12 +55,6 @@ pub record IsRun (f : KeyedFn) (bytes : List ℕ) (now last : Outside) (sink sin
   -- and if nothing disturbed it either, it did what its script means
   pub headline : IfHonest f now.told last.told (λ before state. IsFree f (meaning bytes).key (meaning bytes).history → IsUndisturbed status → Headline f before (meaning bytes) now last status state)
 
--- words that ask for no run: nothing is read, and the last line says so
-pub record SaysWords {S : Type 0} (source source' : S) (sink sink' : SinkShows) (status : ℕ) : Type 0 where
-  pub unread : source' ≡ source
-  pub status_is : status ≡ 2
-  pub line : TookOrRose sink.written sink'.written (text_of (Stopped BadWords)) sink.faults sink'.faults sink.shortages sink'.shortages
-
 -- and nothing is sent, received or kept
 pub record DoesNothing {S L R : Type 0} (source source' : S) (link link' : L) (records records' : R) (sink sink' : SinkShows) (status : ℕ) : Type 0 where
   pub says : SaysWords source source' sink sink' status
@@ -95,8 +69,3 @@ pub record LeavesDevices (source source' : SourceShows) (sink sink' : SinkShows)
   pub tells : TellsDevices source.faults source'.faults sink.faults sink'.faults link.faults link'.faults disk disk' (IsAtEnd source'.remaining) status
   pub began : link'.began ≡ link.began
   pub line : (status ≢ 4 → sink'.faults ≡ sink.faults) ⊎ (Rose sink.faults sink'.faults ⊎ Rose sink.shortages sink'.shortages)
-
--- the recorder kept on, and takes more records but after a fault of its own or out of memory
-pub record LeavesRecorder {R : Type 0} (kept : R → Kept) (moment : R → ℕ) (left_since : R → ℕ → List ℕ → Type 0) (whole : R → Type 0) (old new : R) (status : ℕ) : Type 0 where
-  pub kept_on : KeepsOn kept moment left_since old new
-  pub lasts : status ≢ 6 → status ≢ 7 → whole new

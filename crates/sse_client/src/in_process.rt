@@ -2,7 +2,8 @@ ghost use Rattle.std.specs.Prelude.{◌≡◌, ◌≢◌, ◌≤◌, None, Some,
 ghost use Rattle.keyed_fn.specs.KeyedFn.{keyed_fn};
 ghost use Rattle.script_run_texts.specs.Words as asks;
 ghost use Rattle.sse_client.specs.InProcess.{HasNoJournal, RunsInProcess, unused};
-ghost use Rattle.sse_client.specs.WholeRuns.{LeavesDevices, SaysWords, gives, prints, unseen_link};
+ghost use Rattle.client_journal.specs.Shows.{SaysWords, gives, prints};
+ghost use Rattle.sse_client.specs.WholeRuns.{LeavesDevices, unseen_link};
 
 use crate::over_store::run_over_store;
 use keyed_fn::Keyed;

@@ -5,7 +5,8 @@ ghost use Rattle.script_run_texts.specs.Words as asks;
 ghost use Rattle.sse_client.specs.Calls.{shows};
 ghost use Rattle.sse_client.specs.NoRecord.{OverNoRecord};
 ghost use Rattle.sse_client.specs.OverStore.{BeginsOverStore, LeavesStore, ResumesOverStore};
-ghost use Rattle.sse_client.specs.WholeRuns.{DoesNothing, LeavesDevices, gives, prints};
+ghost use Rattle.client_journal.specs.Shows.{gives, prints};
+ghost use Rattle.sse_client.specs.WholeRuns.{DoesNothing, LeavesDevices};
 ghost use Rattle.sse_journal.specs.Files.{Gives};
 
 use crate::on_disk::run_on_disk;

@@ -7,7 +7,7 @@ use Rattle.program_words.specs.Modes.{LocalMode, Made, More, RunOn, Script, Twin
 use Rattle.script_history.proofs.Ended.{ends_told}
 use Rattle.script_run_texts.specs.declared.stop_cause.StopCause.TheVariants as stops
 use Rattle.sse_client.proofs.InProcess.{memory-more, memory-run}
-use Rattle.sse_client.specs.WholeRuns.{SinkShows}
+use Rattle.client_journal.specs.Shows.{SinkShows}
 use Rattle.sse_local.proofs.Compared.{none-compared}
 use Rattle.sse_local.specs.Compared.{HasCompared}
 use Rattle.sse_local.specs.Program.{Does, seen_in}

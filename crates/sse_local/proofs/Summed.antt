@@ -16,7 +16,7 @@ use Rattle.def_script_meaning.specs.Meaning.{meaning}
 use Rattle.def_script_meaning.specs.Outcome.{said}
 use Rattle.def_script_meaning.specs.Stops.{Stop, At, SinkFault, status_of, stop_text}
 use Rattle.sse_client.specs.InProcess.{PrintsAsMeant, PrintsMeaning, RunsInProcess}
-use Rattle.sse_client.specs.WholeRuns.{SinkShows}
+use Rattle.client_journal.specs.Shows.{SinkShows}
 use Rattle.sse_outside.specs.Causes.{Rose}
 use Rattle.sse_outside.specs.Fronts.{TookFront, TookOrRose}
 use Rattle.sse_outside.specs.declared.device_fault.DeviceFault.{DeviceFault}

@@ -11,7 +11,7 @@ use Rattle.def_script_meaning.specs.Outcome.{said}
 use Rattle.def_script_meaning.specs.Session.{IsFree}
 use Rattle.def_script_meaning.specs.Stops.{Stop, status_of}
 use Rattle.sse_client.specs.InProcess.{RunsInProcess}
-use Rattle.sse_client.specs.WholeRuns.{SinkShows}
+use Rattle.client_journal.specs.Shows.{SinkShows}
 use Rattle.sse_outside.specs.Causes.{Rose}
 use Rattle.sse_outside.specs.Fronts.{TookOrRose}
 use Rattle.sse_script.specs.Shown.{Stopped, NoMemory}

@@ -5,7 +5,7 @@ use Rattle.keyed_fn.specs.KeyedFn.{KeyedFn}
 use Rattle.program_words.specs.Modes.{LocalMode, Made, More, RunOn, Script, Twin}
 use Rattle.script_history.specs.Endings.{Seen, seen_of}
 use Rattle.sse_client.specs.InProcess.{HasNoJournal, RunsInProcess}
-use Rattle.sse_client.specs.WholeRuns.{SinkShows, SourceShows}
+use Rattle.client_journal.specs.Shows.{SinkShows, SourceShows}
 use Rattle.sse_local.specs.Compared.{HasCompared}
 use Rattle.sse_local.specs.Made.{HasMadeRun, PrintsSummaryAsMeant}
 use Rattle.sse_outside.specs.Causes.{Rose}

@@ -1,7 +1,7 @@
 ghost use Rattle.std.specs.Prelude.{map, string_bytes};
 ghost use Rattle.keyed_fn.specs.KeyedFn.{keyed_fn};
 ghost use Rattle.program_words.specs.Modes as modes;
-ghost use Rattle.sse_client.specs.WholeRuns.{gives, prints};
+ghost use Rattle.client_journal.specs.Shows.{gives, prints};
 ghost use Rattle.sse_local.specs.Asked.{asked_by, right_words};
 ghost use Rattle.sse_local.specs.Program.{Does, IsReadFor, MayEndWith, TellsStreams};
 

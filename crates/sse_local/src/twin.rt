@@ -7,7 +7,7 @@ ghost use Rattle.script_history.specs.Turns.{IsElsewhere, first_end, reading_end
 ghost use Rattle.keyed_fn.specs.KeyedFn.{keyed_fn};
 ghost use Rattle.script_run_texts.specs.Causes.{KeepsSink, KeepsSource, SourceCause};
 ghost use Rattle.def_script_meaning.specs.Stops.{At};
-ghost use Rattle.sse_client.specs.WholeRuns.{gives, prints};
+ghost use Rattle.client_journal.specs.Shows.{gives, prints};
 ghost use Rattle.sse_local.specs.Compared.{AreBehind, AreComparedSo, GoesOnBehind, GoesOnFirst, HasCompared, IsCompared, ReadsBehind};
 ghost use Rattle.sse_local.specs.Program.{TellsStreams};
 ghost use Rattle.sse_script.specs.Shown.{NoMemory};

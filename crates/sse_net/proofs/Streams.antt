@@ -1,12 +1,15 @@
 -- The streams, and the command line, of a program that ended before it read.
-use Rattle.std.proofs.Common.{◌≡◌, ◌⊎◌, inl, inr, refl, ℕ, ◌≤◌, List, arith, ap, subst, ◌∙◌, Option, Result, Ok, Err}
+use Rattle.std.proofs.Common.{◌≡◌, ◌⊎◌, inl, inr, refl, ℕ, ◌≤◌, List, arith, ap, subst, ◌∙◌, Option, Some, Result, Ok, Err, sym}
 use Rattle.std.specs.Prelude.{IfErr, IfOk}
 use Rattle.script_run_texts.specs.Stops.{last_line, stop_status}
 use Rattle.script_run_texts.specs.declared.stop_cause.StopCause.{StopCause}
 use Rattle.script_run_texts.specs.declared.stop_cause.StopCause.TheVariants as stops
 use Rattle.sse_net.specs.Asked.{Asked}
-use Rattle.sse_client.specs.WholeRuns.{prints}
-use Rattle.sse_net.specs.Runs.{EndsUnopened, TellsStreams}
+use Rattle.client_journal.specs.Shows.{prints}
+use Rattle.def_link_events.specs.Events.{Remote}
+use Rattle.def_script_meaning.specs.Exchange.{Told}
+use Rattle.sse_client.specs.Calls.{shows}
+use Rattle.sse_net.specs.Runs.{EndsUnopened, HasNotBegun, HasRunAfterNumber, RunsAs, TellsStreams, no_server}
 use Rattle.sse_outside.specs.Fronts.{TookOrRose}
 
 -- none of these statuses tells a fault of a stream, or that the script was read
@@ -35,6 +38,14 @@ unread_for stop status source sink sink' read (inl is) told = unread_at status s
 unread_for stop status source sink sink' read (inr is) told =
     let seven : status ≡ 7 = told ∙ ap stop_status is in
     unread_at status source sink sink' read (inr (omega (arith, seven), omega (arith, seven)))
+
+-- a program that reaches no server ends with 5, and has read nothing
+pub unreached_at : (status source sink sink' : ℕ) (read : Type 0) → status ≡ stop_status no_server → TellsStreams source source sink sink' read status
+unreached_at status source sink sink' read told = unread_at status source sink sink' read (inr (omega (arith, told), omega (arith, told)))
+
+-- a link of which nothing has changed that it shows
+pub same_shows : (told told' : Told) (faults faults' : ℕ) (began began' : Option Remote) → told' ≡ told → faults' ≡ faults → began' ≡ began → shows told' faults' began' ≡ shows told faults began
+same_shows told told' faults faults' began began' a b c = cc
 
 -- what is so of the cause that was found is so of the cause that the words have, or of out of memory
 
@@ -65,3 +76,11 @@ module _ {P S : Type 0} (asked : Result Asked StopCause) (stop : StopCause) (pla
 pub of_right : (asked : Result Asked StopCause) (a : Asked) (P : Type 0) (R : Asked → Type 0) → asked ≡ Ok a → R a → IfOk asked (λ b. P ⊎ R b)
 of_right (Ok b) a P R is r = let same : a ≡ b = cc in inr (subst R same r)
 of_right (Err s) a P R is r = tt
+
+-- a run as an owner is a run after the owner's number, or none
+pub as_owner : {D L : Type 0} (sent : L → Option (List ℕ)) (transcript : L → Told) (link_faults : L → ℕ) (began : L → Option Remote) (owner : Option ℕ) (n : ℕ) (WithoutServer : Type 0)
+    (Ran : D → L → D → L → Type 0) (disk : D) (link : L) (disk2 : D) (link2 : L) → owner ≡ Some n
+    → HasRunAfterNumber sent transcript link_faults began n Ran disk link disk2 link2 ⊎ HasNotBegun sent transcript link_faults began n WithoutServer disk link disk2 link2
+    → RunsAs sent transcript link_faults began owner WithoutServer Ran disk link disk2 link2
+as_owner sent transcript link_faults began owner n WithoutServer Ran disk link disk2 link2 is ran =
+    subst (λ o. RunsAs sent transcript link_faults began o WithoutServer Ran disk link disk2 link2) (sym is) ran

@@ -1,9 +1,11 @@
 -- What the program does: a run over a disk and a link, or an end before it has both.
-use Rattle.std.specs.Prelude.{◌≡◌, ◌≢◌, ◌≤◌, ℕ, List, Option, Some}
+use Rattle.std.specs.Prelude.{◌≡◌, ◌≢◌, ◌⊎◌, ◌≤◌, ℕ, List, Option, None, Some}
+use Rattle.std.specs.Int.{w64, to_be_bytes}
+use Rattle.std.specs.Io.KnownBytes.{append_known}
 use Rattle.keyed_fn.specs.KeyedFn.{KeyedFn}
 use Rattle.program_words.specs.Modes.{RunOn, More, disk_mode_of}
 use Rattle.sse_outside.specs.Causes.{Rose}
-use Rattle.sse_outside.specs.Fronts.{TookOrRose}
+use Rattle.sse_outside.specs.Fronts.{TookFront, TookOrRose}
 use Rattle.sse_outside.specs.declared.device_fault.DeviceFault.TheVariants as devices
 use Rattle.script_run_texts.specs.Stops.{last_line, stop_status}
 use Rattle.script_run_texts.specs.declared.command_stop.CommandStop.TheVariants as commands
@@ -14,7 +16,8 @@ use Rattle.def_link_events.specs.Events.{Remote}
 use Rattle.def_script_meaning.specs.Exchange.{Told}
 use Rattle.sse_client.specs.Calls.{shows}
 use Rattle.sse_client.specs.OnDisk.{BeginsOnDisk, ResumesOnDisk}
-use Rattle.sse_client.specs.WholeRuns.{LeavesDevices, SinkShows, SourceShows}
+use Rattle.client_journal.specs.Shows.{SinkShows, SourceShows}
+use Rattle.sse_client.specs.WholeRuns.{LeavesDevices}
 
 -- the file can't be opened
 abbrev pub no_file : StopCause
@@ -54,3 +57,27 @@ pub record HasRunOnDisk {D L : Type 0} (content : D → Option (List ℕ)) (imag
   pub resumed : disk_mode_of words ≡ Some More → ResumesOnDisk content images moment left_since disk disk2 f source.remaining (transcript link) (transcript link2) sink sink' status
   pub devices : LeavesDevices source source' sink sink' (shows (transcript link) (link_faults link) (began link)) (shows (transcript link2) (link_faults link2) (began link2))
       (disk_faults disk) (disk_faults disk2) status
+
+module _ {D L : Type 0} (sent : L → Option (List ℕ)) (transcript : L → Told) (link_faults : L → ℕ) (began : L → Option Remote) (owner : ℕ) where
+  -- the owner's number went out over the link, in eight bytes, and nothing else passed; then the run went on from there
+  pub record HasRunAfterNumber (Ran : D → L → D → L → Type 0) (disk : D) (link : L) (disk2 : D) (link2 : L) : Type 0 where
+    pub begun : L
+    pub head : sent begun ≡ append_known (sent link) (to_be_bytes w64 owner)
+    pub unanswered : shows (transcript begun) (link_faults begun) (began begun) ≡ shows (transcript link) (link_faults link) (began link)
+    pub ran : Ran disk begun disk2 link2
+
+  -- the number didn't go out whole: the program ended as without a server, and nothing was kept
+  pub record HasNotBegun (WithoutServer : Type 0) (disk : D) (link : L) (disk2 : D) (link2 : L) : Type 0 where
+    pub front : TookFront (sent link) (sent link2) (to_be_bytes w64 owner)
+    pub nothing_passed : transcript link2 ≡ transcript link
+    pub cause : Rose (link_faults link) (link_faults link2)
+    pub unkept : disk2 ≡ disk
+    pub end : WithoutServer
+
+-- the same run, as an owner if there is one
+abbrev pub RunsAs : {D L : Type 0} (sent : L → Option (List ℕ)) (transcript : L → Told) (link_faults : L → ℕ) (began : L → Option Remote) (owner : Option ℕ)
+    (WithoutServer : Type 0) (Ran : D → L → D → L → Type 0) (disk : D) (link : L) (disk2 : D) (link2 : L) → Type 0
+RunsAs sent transcript link_faults began None WithoutServer Ran disk link disk2 link2 = Ran disk link disk2 link2
+RunsAs sent transcript link_faults began (Some owner) WithoutServer Ran disk link disk2 link2 =
+    HasRunAfterNumber sent transcript link_faults began owner Ran disk link disk2 link2
+    ⊎ HasNotBegun sent transcript link_faults began owner WithoutServer disk link disk2 link2

@@ -11,6 +11,7 @@
 #![tactic(auto)]
 
 mod asked;
+mod owner_link;
 mod program;
 #[cfg(test)]
 mod runs_in_memory;

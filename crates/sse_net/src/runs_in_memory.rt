@@ -1,3 +1,4 @@
+use crate::owner_link::OwnerLink;
 use crate::program::net_main;
 use client_places::{MemPlaces, Places};
 use keyed_fn::Real;
@@ -5,7 +6,7 @@ use outside_memory_disk::MemDisk;
 use outside_words::CommandLine;
 use server_core::Server;
 use server_tables::BucketTables;
-use sse_link::{Link, SteadyLoopback};
+use sse_link::{Link, LinkFault, SteadyLoopback};
 use sse_outside::{SteadySink, SteadySource};
 use std::alloc::{AllocError, Global};
 use std::str;
@@ -51,16 +52,39 @@ disk closed empty
 link at its address
 ";
 
-/// The status of the program over any places, and what it printed.
+/// What is printed and left if the words are wrong: nothing is opened.
+const WRONG_WORDS: &str = "\
+stopped: words
+status 2
+disk at its path
+link at its address
+";
+
+/// A loopback to the server of the owner, whoever that is: the number is for nobody.
+impl OwnerLink for SteadyLoopback<Real, BucketTables> {
+    ghost use Rattle.std.specs.Prelude.{None};
+
+    ghost sent = { λ _. None };
+
+    fn begin_as(&mut self, _owner: u64) -> Result<(), LinkFault> {
+        Ok(())
+    }
+}
+
+/// The status of the program over any places, and what it printed, with these words after address and path.
 fn run<P: Places>(
     alloc: Global,
     places: &mut P,
     address: &str,
     path: &str,
-) -> Result<(u8, String), AllocError> {
+    mode: &[&str],
+) -> Result<(u8, String), AllocError>
+where
+    P::Link: OwnerLink,
+{
     let script = SCRIPT.to_vec(alloc)?;
     let mut words = Vec::new(alloc);
-    for word in ["sse_net", address, path, "run"] {
+    for word in ["sse_net", address, path].iter().chain(mode) {
         words.push(String::from_str(alloc, word)?)?;
     }
     let given = CommandLine::Words(words);
@@ -109,26 +133,27 @@ fn link_left<L: Link + Drop>(places: &mut MemPlaces<MemDisk, L>) -> &'static str
 }
 
 /// What the program prints over these places, its status, and where disk and link are at the end.
-fn outcome_over<L: Link + Drop>(
+fn outcome_over<L: OwnerLink + Drop>(
     alloc: Global,
     places: &mut MemPlaces<MemDisk, L>,
     address: &str,
     path: &str,
+    mode: &[&str],
 ) -> Result<String, AllocError> {
-    let (status, printed) = run(alloc, places, address, path)?;
+    let (status, printed) = run(alloc, places, address, path, mode)?;
     let disk = disk_left(places);
     let link = link_left(places);
     format!(in alloc; "{printed}status {status}\ndisk {disk}\nlink {link}\n")
 }
 
 /// The same over places with an empty disk and a link to a server that has taken nothing.
-fn outcome(alloc: Global, address: &str, path: &str) -> Result<String, AllocError> {
+fn outcome(alloc: Global, address: &str, path: &str, mode: &[&str]) -> Result<String, AllocError> {
     let disk_path = String::from_str(alloc, PATH)?;
     let link_address = String::from_str(alloc, ADDRESS)?;
     let disk = MemDisk::new(alloc, Vec::new(alloc));
     let link = SteadyLoopback::new(alloc, Real, Server::new(BucketTables::new(alloc)));
     let mut places = MemPlaces::new(disk_path, disk, link_address, link);
-    let outcome = outcome_over(alloc, &mut places, address, path);
+    let outcome = outcome_over(alloc, &mut places, address, path, mode);
     drop(places);
     outcome
 }
@@ -137,8 +162,29 @@ fn outcome(alloc: Global, address: &str, path: &str) -> Result<String, AllocErro
 #[test]
 fn disk_and_link_are_called_by_their_names(rt: HostRuntime) -> Result<(), Fail> {
     let alloc = rt.alloc();
-    assert_eq!(rt; outcome(alloc, ADDRESS, PATH)?.as_str(), DONE);
-    assert_eq!(rt; outcome(alloc, ADDRESS, "other.jrn")?.as_str(), NO_FILE);
-    assert_eq!(rt; outcome(alloc, "server:47311", PATH)?.as_str(), NO_SERVER);
+    assert_eq!(rt; outcome(alloc, ADDRESS, PATH, &["run"])?.as_str(), DONE);
+    assert_eq!(rt;
+        outcome(alloc, ADDRESS, "other.jrn", &["run"])?.as_str(),
+        NO_FILE
+    );
+    assert_eq!(rt;
+        outcome(alloc, "server:47311", PATH, &["run"])?.as_str(),
+        NO_SERVER
+    );
+    Ok(())
+}
+
+/// A run as an owner is the same run; a number that is spelt wrong leaves disk and link where they are.
+#[test]
+fn a_run_as_an_owner(rt: HostRuntime) -> Result<(), Fail> {
+    let alloc = rt.alloc();
+    assert_eq!(rt;
+        outcome(alloc, ADDRESS, PATH, &["as", "3", "run"])?.as_str(),
+        DONE
+    );
+    assert_eq!(rt;
+        outcome(alloc, ADDRESS, PATH, &["as", "03", "run"])?.as_str(),
+        WRONG_WORDS
+    );
     Ok(())
 }

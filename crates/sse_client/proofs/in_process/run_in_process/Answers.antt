@@ -1,6 +1,6 @@
 use Rattle.keyed_fn.specs.KeyedFn.{IsKeyedFn, keyed_fn}
 use Rattle.sse_client.proofs.InProcess.{has_no_journal, inside, memory-run, nothing_in, run_of_store}
-use Rattle.sse_client.specs.WholeRuns.{prints}
+use Rattle.client_journal.specs.Shows.{prints}
 use Rattle.sse_client.proofs.in_process.run_in_process.Goals as goal
 
 pub returns-in-Ok-clause-run : goal.returns-in-Ok-clause-run

@@ -8,17 +8,19 @@ use Rattle.sse_outside.specs.Kept.{Kept}
 use Rattle.client_recorder.specs.declared.journal_recorder.JournalRecorder.{JournalRecorder}
 use Rattle.script_run_texts.specs.Stops.{journal_status}
 use Rattle.script_run_texts.specs.declared.journal_stop.JournalStop.TheVariants as journals
-use Rattle.sse_client.proofs.Devices.{devices-on, devices-unopened}
-use Rattle.sse_client.proofs.LastLine.{counts-took}
-use Rattle.sse_client.proofs.KeptOnDisk.{behind_start, gives_own, kept_at_start, kept_on_disk}
-use Rattle.sse_client.proofs.NoRecord.{begun_low}
-use Rattle.sse_client.proofs.RecordsLast.{holds_exact}
+use Rattle.client_journal.proofs.Counts.{devices-on, devices-unopened}
+use Rattle.client_journal.proofs.Counts.{counts-took}
+use Rattle.client_journal.proofs.KeptOnDisk.{behind_start, gives_own, kept_at_start, kept_on_disk}
+use Rattle.client_journal.proofs.NotBegun.{begun_low}
+use Rattle.client_journal.proofs.HoldsExact.{holds_exact}
 use Rattle.sse_client.proofs.ResumedRuns.{for_all}
 use Rattle.sse_client.proofs.RunsOnDisk.{not_begun, unopened}
 use Rattle.sse_client.proofs.WholeRun.{IfSome-then}
-use Rattle.sse_client.specs.OnDisk.{IsExact, IsNotBegun, kept_on, seen_with}
+use Rattle.client_journal.specs.DiskRuns.{IsExact, IsNotBegun, kept_on}
+use Rattle.sse_client.specs.OnDisk.{seen_with}
 use Rattle.sse_client.specs.Stands.{outside_of, seen}
-use Rattle.sse_client.specs.WholeRuns.{IsRun, prints}
+use Rattle.client_journal.specs.Shows.{prints}
+use Rattle.sse_client.specs.WholeRuns.{IsRun}
 use Rattle.sse_client.proofs.on_disk.begin_run.Goals as goal
 
 pub returns-in-Ok-clause-begun : goal.returns-in-Ok-clause-begun
@@ -105,7 +107,7 @@ pub returns-in-Err-clause-devices : goal.returns-in-Err-clause-devices
 returns-in-Err-clause-devices g c =
     let stop = c.in-Err.stop in
     record {
-      tells = devices-unopened (g.S.Source.faults c.args.source.now) (g.S.Source.faults c.args.source.now) (g.W.Sink.faults c.args.sink.now) (g.W.Sink.faults c.args.sink.now) (g.W.Sink.faults c.finish_unopened.new.sink) 0 0 (g.L.Link.faults c.args.link.now) (g.L.Link.faults c.args.link.now)
+      tells = devices-unopened (g.S.Source.faults c.args.source.now) (g.S.Source.faults c.args.source.now) (g.W.Sink.faults c.args.sink.now) (g.W.Sink.faults c.finish_unopened.new.sink) (g.L.Link.faults c.args.link.now) (g.L.Link.faults c.args.link.now)
           (g.D.Disk.faults c.args.disk) (g.D.Disk.faults c.begin.new.disk) c.finish_unopened.result _ c.finish_unopened.ensures.known refl refl
           (λ six. let e = c.finish_unopened.ensures.disk six in c.in-Err.ensures.failed (search e))
           (λ other. c.in-Err.ensures.steady (λ e. other (c.finish_unopened.ensures.status ∙ ap (λ s. journal_status s) (let same : stop ≡ journals.Disk = cc in same))));

@@ -11,13 +11,16 @@ use Rattle.sse_script.specs.TextLines.{lines_left}
 use Rattle.sse_journal.specs.FileRecords.{records_counted}
 use Rattle.sse_outside.specs.Kept.{Kept}
 use Rattle.client_recorder.specs.declared.journal_recorder.JournalRecorder.{JournalRecorder}
-use Rattle.sse_client.proofs.Devices.{devices-on, devices-stopped, devices-unopened, records_same}
-use Rattle.sse_client.proofs.KeptOnDisk.{behind_reading, kept_at_start, kept_on_disk, kept_still}
-use Rattle.sse_client.proofs.LastLine.{counts-took, ends_line}
+use Rattle.client_journal.proofs.Counts.{devices-on, devices-unopened}
+use Rattle.sse_client.proofs.Devices.{devices-stopped, records_same}
+use Rattle.client_journal.proofs.KeptOnDisk.{behind_reading, kept_at_start, kept_on_disk, kept_still}
+use Rattle.client_journal.proofs.Counts.{counts-took}
+use Rattle.sse_client.proofs.LastLine.{ends_line}
 use Rattle.sse_client.proofs.RunsOnDisk.{has_gone_on, has_gone_on-held}
 use Rattle.sse_client.specs.ResumedRun.{GoesOnTo, HasEndedAfter, Restores}
-use Rattle.sse_client.specs.OnDisk.{HasGoneOn, HeldCause, HeldSource, IsExact, RecordsCause, held_stop, kept_on, seen_with}
-use Rattle.sse_client.proofs.RecordsLast.{holds_exact}
+use Rattle.client_journal.specs.DiskRuns.{IsExact, kept_on}
+use Rattle.sse_client.specs.OnDisk.{HasGoneOn, HeldCause, HeldSource, RecordsCause, held_stop, seen_with}
+use Rattle.client_journal.proofs.HoldsExact.{holds_exact}
 use Rattle.sse_client.specs.Stands.{outside_of, seen}
 use Rattle.sse_client.proofs.on_disk.go_on_from.Goals as goal
 
@@ -169,7 +172,7 @@ returns-in-Err-Records-clause-devices g c =
     let same = subst (HeldSource (g.S.Source.faults c.args.source.now) (g.S.Source.faults c.restored.new.source)) c.in-Err-Records.field-0-is c.in-Err-Records.ensures.source.cause in
     let cause : RecordsCause before now stop = subst (HeldCause before now) c.in-Err-Records.field-0-is c.in-Err-Records.ensures.disk.cause in
     record {
-      tells = devices-unopened (g.S.Source.faults c.args.source.now) (g.S.Source.faults c.restored.new.source) (g.W.Sink.faults c.args.sink.now) (g.W.Sink.faults c.args.sink.now) (g.W.Sink.faults c.finish_unopened.new.sink) 0 0 (g.L.Link.faults c.args.link.now) (g.L.Link.faults c.args.link.now)
+      tells = devices-unopened (g.S.Source.faults c.args.source.now) (g.S.Source.faults c.restored.new.source) (g.W.Sink.faults c.args.sink.now) (g.W.Sink.faults c.finish_unopened.new.sink) (g.L.Link.faults c.args.link.now) (g.L.Link.faults c.args.link.now)
           before now c.finish_unopened.result _ c.finish_unopened.ensures.known same refl
           (λ six. subst (RecordsCause before now) (sym c.in-Err-Records.stop-is ∙ c.finish_unopened.ensures.disk six) cause)
           (λ other. records_same before now stop cause (λ e. other (c.finish_unopened.ensures.status ∙ ap (λ s. journal_status s) (c.in-Err-Records.stop-is ∙ e))));

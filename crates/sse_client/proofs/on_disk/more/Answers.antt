@@ -4,13 +4,14 @@ use Rattle.std.specs.Prelude.{IfSome}
 use Rattle.keyed_fn.specs.KeyedFn.{keyed_fn}
 use Rattle.script_run_texts.specs.Stops.{journal_status}
 use Rattle.script_run_texts.specs.declared.journal_stop.JournalStop.TheVariants as journals
-use Rattle.sse_client.proofs.Devices.{devices-on, devices-unopened}
+use Rattle.client_journal.proofs.Counts.{devices-on, devices-unopened}
 use Rattle.sse_client.proofs.ResumedRuns.{for_all}
-use Rattle.sse_client.proofs.LastLine.{counts-took}
-use Rattle.sse_client.proofs.KeptOnDisk.{behind_start, gives_own}
+use Rattle.client_journal.proofs.Counts.{counts-took}
+use Rattle.client_journal.proofs.KeptOnDisk.{behind_start, gives_own}
 use Rattle.sse_client.proofs.RunsOnDisk.{not_reopened, unopened}
 use Rattle.sse_client.proofs.WholeRun.{IfSome-then}
-use Rattle.sse_client.specs.OnDisk.{HasGoneOn, IsNotReopened, seen_with}
+use Rattle.client_journal.specs.DiskRuns.{IsNotReopened}
+use Rattle.sse_client.specs.OnDisk.{HasGoneOn, seen_with}
 use Rattle.sse_client.specs.Stands.{outside_of, seen}
 use Rattle.sse_client.proofs.on_disk.more.Goals as goal
 
@@ -119,7 +120,7 @@ pub returns-in-Err-clause-devices : goal.returns-in-Err-clause-devices
 returns-in-Err-clause-devices g c =
     let stop = c.in-Err.stop in
     record {
-      tells = devices-unopened (g.S.Source.faults c.args.source.now) (g.S.Source.faults c.args.source.now) (g.W.Sink.faults c.args.sink.now) (g.W.Sink.faults c.args.sink.now) (g.W.Sink.faults c.finish_unopened.new.sink) 0 0 (g.L.Link.faults c.args.link.now) (g.L.Link.faults c.args.link.now)
+      tells = devices-unopened (g.S.Source.faults c.args.source.now) (g.S.Source.faults c.args.source.now) (g.W.Sink.faults c.args.sink.now) (g.W.Sink.faults c.finish_unopened.new.sink) (g.L.Link.faults c.args.link.now) (g.L.Link.faults c.args.link.now)
           (g.D.Disk.faults c.args.disk) (g.D.Disk.faults c.reopen.new.disk) c.finish_unopened.result _ c.finish_unopened.ensures.known refl refl
           (λ six. let e = c.finish_unopened.ensures.disk six in c.in-Err.ensures.failed (search e))
           (λ other. c.in-Err.ensures.steady (λ e. other (c.finish_unopened.ensures.status ∙ ap (λ s. journal_status s) (let same : stop ≡ journals.Disk = cc in same))));

@@ -1,8 +1,8 @@
 use Rattle.std.proofs.Common.{◌≡◌, Some, inl, map, refl, sym, ap, ◌∙◌}
 use Rattle.std.specs.Prelude.{string_bytes}
 use Rattle.script_run_texts.specs.Words.{More, RunOn, disk_mode_of, disk_mode_view}
-use Rattle.sse_client.proofs.Devices.{devices-idle}
-use Rattle.sse_client.proofs.LastLine.{counts-took}
+use Rattle.client_journal.proofs.Counts.{devices-idle}
+use Rattle.client_journal.proofs.Counts.{counts-took}
 use Rattle.sse_client.proofs.NoRecord.{refused_ten}
 use Rattle.sse_client.proofs.WholeRun.{IfSome-then}
 use Rattle.sse_client.proofs.on_disk.run_on_disk.Goals as goal

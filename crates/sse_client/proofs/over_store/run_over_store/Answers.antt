@@ -9,7 +9,7 @@ use Rattle.sse_client.proofs.ResumedRuns.{for_all}
 use Rattle.sse_client.proofs.LentLink.{all_honest, same_file, same_start}
 use Rattle.sse_client.proofs.OverStore.{begins, begun_over, goes_on, gone_on_over, over, supposing, unopened_status}
 use Rattle.sse_client.proofs.WholeRun.{IfSome-then}
-use Rattle.sse_client.specs.WholeRuns.{SinkShows, prints}
+use Rattle.client_journal.specs.Shows.{SinkShows, prints}
 use Rattle.sse_link.specs.LinkStates.{LinkState}
 use Rattle.sse_outside.proofs.DiskLaws.{reads_now}
 use Rattle.sse_client.proofs.over_store.run_over_store.Goals as goal

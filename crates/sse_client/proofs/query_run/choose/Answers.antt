@@ -1,8 +1,8 @@
-use Rattle.std.proofs.Common.{◌≡◌, List, ℕ, Vec, Global, length, map, sym, ap, subst, ◌∙◌}
+use Rattle.std.proofs.Common.{List, ℕ, Vec, Global, length, map, sym, ap, subst, ◌∙◌}
 use Rattle.std.specs.Prelude.{All}
 use Rattle.std.specs.List.Sorted.{IsNonDecreasing}
 use Rattle.std.proofs.lemmas.List.Elements.{All-from_recursion}
-use Rattle.bool_search.specs.Asked.{tree_in, words_in}
+use Rattle.bool_search.specs.Asked.{tree_in}
 use Rattle.bool_search.specs.Chosen.{chosen}
 use Rattle.client_registry.specs.WordBytes.{word_bytes}
 use Rattle.keyed_fn.specs.KeyedFn.{keyed_fn}

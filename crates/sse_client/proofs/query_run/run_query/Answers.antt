@@ -1,4 +1,4 @@
-use Rattle.std.proofs.Common.{◌≡◌, length, sym, ap, ◌∙◌, arith}
+use Rattle.std.proofs.Common.{length, sym, ap, ◌∙◌, arith}
 use Rattle.def_script_meaning.proofs.QueryWords.{words_some}
 use Rattle.sse_client.proofs.QueryAnswered.{none_refused}
 use Rattle.sse_client.proofs.query_run.run_query.Goals as goal

@@ -1,6 +1,6 @@
 use Rattle.std.proofs.Common.{arith, refl}
 use Rattle.keyed_fn.specs.KeyedFn.{keyed_fn}
-use Rattle.sse_client.specs.WholeRuns.{prints}
+use Rattle.client_journal.specs.Shows.{prints}
 use Rattle.sse_client.proofs.OverServer.{over_server-honest, over_server-run}
 use Rattle.sse_client.proofs.run.run_over_server.Goals as goal
 

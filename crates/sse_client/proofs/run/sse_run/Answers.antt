@@ -1,7 +1,7 @@
 use Rattle.std.proofs.Common.{refl}
 use Rattle.client_recorder.proofs.GrownRecords.{keeps-same}
-use Rattle.sse_client.proofs.Devices.{devices-idle}
-use Rattle.sse_client.proofs.LastLine.{counts-took}
+use Rattle.client_journal.proofs.Counts.{devices-idle}
+use Rattle.client_journal.proofs.Counts.{counts-took}
 use Rattle.sse_client.proofs.run.sse_run.Goals as goal
 
 pub returns-in-None-clause-other : goal.returns-in-None-clause-other

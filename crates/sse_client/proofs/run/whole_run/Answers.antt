@@ -1,7 +1,7 @@
 use Rattle.keyed_fn.specs.KeyedFn.{IsKeyedFn, keyed_fn}
 use Rattle.sse_client.specs.Stands.{seen, outside_of}
 use Rattle.sse_client.specs.Turns.{ending}
-use Rattle.sse_client.specs.WholeRuns.{prints}
+use Rattle.client_journal.specs.Shows.{prints}
 use Rattle.sse_client.proofs.Devices.{devices-told, sink_kept, still_whole}
 use Rattle.sse_client.proofs.LastLine.{counts-line, ends_line}
 use Rattle.sse_client.proofs.WholeRun.{is_run-opens}

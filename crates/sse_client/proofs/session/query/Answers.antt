@@ -1,4 +1,4 @@
-use Rattle.std.proofs.Common.{◌≡◌, refl, sym, ap, subst}
+use Rattle.std.proofs.Common.{refl, sym, subst}
 use Rattle.keyed_fn.specs.KeyedFn.{keyed_fn}
 use Rattle.script_run_texts.specs.Stops.{command_cause}
 use Rattle.def_script_meaning.specs.Lines as requests

@@ -4,7 +4,7 @@ use Rattle.keyed_fn.specs.KeyedFn.{keyed_fn}
 use Rattle.script_made_lines.specs.Script.{made_text}
 use Rattle.script_run_texts.specs.Words.{RunOn, disk_mode_of}
 use Rattle.sse_client.specs.InProcess.{PrintsAsMeant, RunsInProcess}
-use Rattle.sse_client.specs.WholeRuns.{prints}
+use Rattle.client_journal.specs.Shows.{prints}
 use Rattle.sse_client.proofs.InProcess.{prints_as_meant}
 use Rattle.sse_local.proofs.Asked.{disk_mode_of-run}
 use Rattle.sse_local.proofs.Summed.{known-is, made-status}

@@ -3,7 +3,7 @@ use Rattle.std.specs.Prelude.{option_map, string_bytes}
 use Rattle.keyed_fn.specs.KeyedFn.{IsKeyedFn, keyed_fn}
 use Rattle.program_words.specs.Modes as modes
 use Rattle.program_words.specs.Modes.{local_mode_view}
-use Rattle.sse_client.specs.WholeRuns.{prints}
+use Rattle.client_journal.specs.Shows.{prints}
 use Rattle.sse_local.specs.Asked.{right_words}
 use Rattle.sse_local.proofs.Asked.{made-few}
 use Rattle.sse_local.proofs.Does.{memory-does}

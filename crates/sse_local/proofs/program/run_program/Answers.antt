@@ -1,7 +1,7 @@
 use Rattle.std.proofs.Common.{◌≡◌, drop, map, sym, ap, subst, ◌∙◌}
 use Rattle.std.specs.Prelude.{string_bytes}
 use Rattle.program_words.specs.Modes.{local_mode_of}
-use Rattle.sse_client.specs.WholeRuns.{gives, prints}
+use Rattle.client_journal.specs.Shows.{gives, prints}
 use Rattle.sse_local.specs.Asked.{asked_by, right_words}
 use Rattle.sse_local.specs.Program.{IsReadFor, MayEndWith, TellsStreams}
 use Rattle.sse_local.proofs.Does.{does-same}

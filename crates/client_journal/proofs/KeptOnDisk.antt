@@ -13,8 +13,8 @@ use Rattle.client_journal.specs.Openings.{IsOfRecords}
 use Rattle.sse_outside.specs.Kept.{Kept}
 use Rattle.client_recorder.proofs.GrownRecords.{front-none}
 use Rattle.client_recorder.specs.KeepsOn.{GivesFront, KeepsOn, LeavesKept}
-use Rattle.sse_client.proofs.RecordsLast.{holds_exact}
-use Rattle.sse_client.specs.OnDisk.{IsExact, KeepsOnDisk, KeepsOnStarted, kept_on, records_on}
+use Rattle.client_journal.proofs.HoldsExact.{holds_exact}
+use Rattle.client_journal.specs.DiskRuns.{IsExact, KeepsOnDisk, KeepsOnStarted, kept_on, records_on}
 
 inside : {A : Type 0} (a b : A) → Some a ≡ Some b → a ≡ b
 inside a b e = cc

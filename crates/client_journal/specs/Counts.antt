@@ -2,8 +2,8 @@
 use Rattle.std.specs.Prelude.{◌≡◌, ◌≢◌, ◌≤◌, ℕ}
 use Rattle.sse_outside.specs.Causes.{Rose}
 
--- by the counts of faults of source, sink, link and disk, before the run and behind it: a device's count rose where the status tells its
--- fault, and stayed where it tells none. The sink's may rise behind that, in the last line; where no last line is due it stayed, and the
+-- by the counts of faults of source, sink, link and disk, before the run and after it: a device's count rose if the status says that the
+-- device failed, and is unchanged otherwise. That of the sink may also rise in the last line. If no last line is due, it is unchanged, and the
 -- script was read to its end
 pub record TellsDevices (source source' sink sink' link link' disk disk' : ℕ) (read : Type 0) (status : ℕ) : Type 0 where
   pub at_end : status ≤ 1 → read
