@@ -10,9 +10,9 @@ use Rattle.sse_outside.specs.Kept.{Kept, with_records}
 use Rattle.script_run_texts.specs.declared.stop_cause.StopCause.TheVariants as runs
 use Rattle.vault_link.specs.ReplySizes.{IsVaultFrame}
 use Rattle.vault_server.specs.VaultFrames.{VaultFrameText, FetchFrame, InVault, vault_bytes}
-use Rattle.def_vault.specs.ClientRecords.{command_record}
-use Rattle.def_vault.specs.Shelves.{Shelf, VaultCommand, Put, Drop, Get}
-use Rattle.def_vault.specs.VaultSessions.{sent_by}
+use Rattle.vault_shelf.specs.ClientRecords.{command_record}
+use Rattle.vault_shelf.specs.Shelves.{Shelf, VaultCommand, Put, Drop, Get}
+use Rattle.vault_shelf.specs.VaultSessions.{sent_by}
 use Rattle.vault_script.specs.declared.vault_stop.VaultStop.{VaultStop}
 use Rattle.vault_script.specs.declared.vault_stop.VaultStop.TheVariants as stops
 use Rattle.doc_vault.specs.CommandRuns.{CarriesOut, Exchanges, HasFrame, IsUpdate, StopsCommand, Unfit, Unread, exchange_of, records_of}

@@ -9,11 +9,11 @@ use Rattle.sse_outside.specs.Kept.{Kept}
 use Rattle.vault_server.specs.VaultFrames.{InVault, vault_bytes}
 use Rattle.vault_server.specs.VaultState.{VaultState}
 use Rattle.vault_link.specs.Served.{IsAnswered, VaultRemote}
-use Rattle.def_vault.specs.ShelfFaults.{shelf_fault}
-use Rattle.def_vault.specs.Shelves.{Shelf, VaultCommand, shelf_of}
-use Rattle.def_vault.specs.Standing.{LeftBy}
-use Rattle.def_vault.specs.VaultSessions.{SlotsDiffer, sent_by}
-use Rattle.def_vault.proofs.SessionLaw.{stands_after}
+use Rattle.vault_shelf.specs.ShelfFaults.{shelf_fault}
+use Rattle.vault_shelf.specs.Shelves.{Shelf, VaultCommand, shelf_of}
+use Rattle.vault_shelf.specs.Standing.{LeftBy}
+use Rattle.vault_shelf.specs.VaultSessions.{SlotsDiffer, sent_by}
+use Rattle.vault_shelf.proofs.SessionLaw.{stands_after}
 use Rattle.vault_script.specs.declared.vault_stop.VaultStop.{VaultStop}
 use Rattle.doc_vault.specs.CommandRuns as does
 use Rattle.doc_vault.specs.CommandRuns.{HasFrame, StopsCommand, StopsExchange, StopsKeeping, exchange_of}

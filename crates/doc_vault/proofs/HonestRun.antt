@@ -13,16 +13,16 @@ use Rattle.vault_link.specs.Exchanges.{Exchange, SentBytes, ReceivedBytes, event
 use Rattle.vault_link.specs.Served.{AreServed, IsAnswered, IsStep, Serves, VaultRemote, body_of}
 use Rattle.vault_link.proofs.ReplyLaws.{one_reply}
 use Rattle.vault_link.proofs.ServedLaws.{answered-frame, events_of-append}
-use Rattle.def_vault.specs.ShelfFaults.{AreAccepted, shelf_fault}
-use Rattle.def_vault.specs.Shelves.{Shelf, VaultCommand, Put, Drop, Get, shelf_after, shelf_of}
-use Rattle.def_vault.specs.VaultSessions.{draw_by, exchanged_with, sent_by, session_from, frames_of, vault_stepped}
-use Rattle.def_vault.proofs.Fronts.{accepted-append, frames_of-append, session_from-append, vault_stepped-append}
-use Rattle.def_vault.specs.declared.shelf_fault.ShelfFault.{ShelfFault}
+use Rattle.vault_shelf.specs.ShelfFaults.{AreAccepted, shelf_fault}
+use Rattle.vault_shelf.specs.Shelves.{Shelf, VaultCommand, Put, Drop, Get, shelf_after, shelf_of}
+use Rattle.vault_shelf.specs.VaultSessions.{draw_by, exchanged_with, sent_by, session_from, frames_of, vault_stepped}
+use Rattle.vault_shelf.proofs.Fronts.{accepted-append, frames_of-append, session_from-append, vault_stepped-append}
+use Rattle.vault_shelf.specs.declared.shelf_fault.ShelfFault.{ShelfFault}
 use Rattle.vault_script.specs.VaultLines.{VaultLineText, EmptyLine, KeyLine, PutLine, DropLine, GetLine, vault_line_of}
 use Rattle.vault_script.specs.VaultShown.{VaultShownText}
 use Rattle.doc_vault.specs.CommandRuns.{IsExchanged}
-use Rattle.def_vault.specs.Standing.{LeftBy}
-use Rattle.def_vault.proofs.SessionLaw.{session_is_simulated_from, stands_after}
+use Rattle.vault_shelf.specs.Standing.{LeftBy}
+use Rattle.vault_shelf.proofs.SessionLaw.{session_is_simulated_from, stands_after}
 use Rattle.doc_vault.specs.HonestRuns.{PassesHonestly}
 use Rattle.doc_vault.specs.Sights.{HasPassed, LinkSight, ServesAll}
 use Rattle.doc_vault.specs.Outcomes.{Shows, ComesTo, IsRead, command_outcome}
@@ -42,7 +42,8 @@ module _ (f : KeyedFn) (keys : VaultSecrets) where
     pub state : after ≡ vault_stepped vault (frames_of f keys s cs)
     pub accepted : AreAccepted s cs
 
-  passes-both : (vault mid after : VaultState) (s : Shelf) (cs ds : List VaultCommand) (p q : List Exchange) → PassesAs vault mid s cs p → PassesAs mid after (shelf_of s cs) ds q → PassesAs vault after s (cs ++ ds) (p ++ q)
+  -- commands and others after them
+  pub passes-both : (vault mid after : VaultState) (s : Shelf) (cs ds : List VaultCommand) (p q : List Exchange) → PassesAs vault mid s cs p → PassesAs mid after (shelf_of s cs) ds q → PassesAs vault after s (cs ++ ds) (p ++ q)
   passes-both vault mid after s cs ds p q a b = record {
     events =
         events_of-append p q
@@ -103,7 +104,8 @@ module _ (f : KeyedFn) (keys : VaultSecrets) where
           accepted = (fine, tt);
         }
 
-    passes-one : (vault after : VaultState) (passed : List Exchange) (shown : VaultShownText) → IsExchanged f keys s c passed shown → AreServed vault passed after → PassesAs vault after s (c ∷ []) passed
+    -- the command's exchange, which shows a line
+    pub passes-one : (vault after : VaultState) (passed : List Exchange) (shown : VaultShownText) → IsExchanged f keys s c passed shown → AreServed vault passed after → PassesAs vault after s (c ∷ []) passed
     passes-one vault after passed shown exchanged served =
         let x : List VaultFrameText → Exchange = λ frames. record { frame = flat_map vault_bytes frames; reply = Some exchanged.reply } in
         let are : passed ≡ x (frame ∷ []) ∷ [] = exchanged.are ∙ ap (λ frames. x frames ∷ []) sent in

@@ -9,12 +9,12 @@ use Rattle.vault_server.specs.VaultFrames.{vault_bytes}
 use Rattle.vault_server.specs.VaultState.{VaultState}
 use Rattle.vault_link.specs.Exchanges.{Exchange}
 use Rattle.vault_link.specs.Served.{AreServed, VaultRemote}
-use Rattle.def_vault.specs.ShelfFaults.{shelf_fault}
-use Rattle.def_vault.specs.Shelves.{Deposit, Shelf, VaultCommand, Put, Drop, Get, shelf_of}
-use Rattle.def_vault.specs.Standing.{LeftBy}
-use Rattle.def_vault.specs.VaultSessions.{SlotsDiffer, sent_by}
-use Rattle.def_vault.specs.declared.shelf_fault.ShelfFault.{ShelfFault}
-use Rattle.def_vault.proofs.SessionLaw.{stands_after}
+use Rattle.vault_shelf.specs.ShelfFaults.{shelf_fault}
+use Rattle.vault_shelf.specs.Shelves.{Deposit, Shelf, VaultCommand, Put, Drop, Get, shelf_of}
+use Rattle.vault_shelf.specs.Standing.{LeftBy}
+use Rattle.vault_shelf.specs.VaultSessions.{SlotsDiffer, sent_by}
+use Rattle.vault_shelf.specs.declared.shelf_fault.ShelfFault.{ShelfFault}
+use Rattle.vault_shelf.proofs.SessionLaw.{stands_after}
 use Rattle.vault_script.specs.VaultLines.{VaultLineText, EmptyLine, KeyLine, PutLine, DropLine, GetLine, vault_line_of}
 use Rattle.vault_script.specs.VaultShown.{VaultShownText}
 use Rattle.doc_vault.specs.CommandRuns.{HasFrame, IsExchanged}

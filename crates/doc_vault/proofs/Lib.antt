@@ -1,12 +1,17 @@
+mod Acked
+mod Asked
+pub mod CountLaws
+mod FaultLaws
 mod Greeted
 mod KeyLineRead
 mod Begun
-mod Exchanged
-mod LinesTaken
+pub mod Exchanged
+pub mod LinesTaken
 mod Replies
-mod Scripted
-mod TurnsTaken
-mod RightReplies
+pub mod Scripted
+pub mod RecordersLeft
+pub mod TurnsTaken
+pub mod RightReplies
 pub mod HonestRun
 pub mod HonestTexts
 pub mod FairRun

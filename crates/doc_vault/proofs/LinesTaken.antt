@@ -13,9 +13,9 @@ use Rattle.sse_outside.proofs.Known.{append_known-twice}
 use Rattle.sse_script.specs.TextLines.{TakesLine}
 use Rattle.vault_link.specs.Exchanges.{Exchange}
 use Rattle.vault_link.specs.Served.{VaultRemote}
-use Rattle.def_vault.specs.ClientRecords.{command_record}
-use Rattle.def_vault.specs.Shelves.{Shelf, VaultCommand, Put, Drop, Get, shelf_of, without_gets}
-use Rattle.def_vault.proofs.Fronts.{shelf_of-append}
+use Rattle.vault_shelf.specs.ClientRecords.{command_record}
+use Rattle.vault_shelf.specs.Shelves.{Shelf, VaultCommand, Put, Drop, Get, shelf_of, without_gets}
+use Rattle.vault_shelf.proofs.Fronts.{shelf_of-append}
 use Rattle.vault_script.specs.VaultLines.{VaultLineText, EmptyLine, KeyLine, PutLine, DropLine, GetLine, vault_line_of}
 use Rattle.vault_script.specs.VaultLineViews.{vault_line_view}
 use Rattle.vault_script.specs.VaultTexts.{vault_text}
@@ -91,7 +91,7 @@ told-both : {A : Type 0} (known : Option (List A)) (xs ys : List A) → option_m
 told-both None xs ys = refl
 told-both (Some all) xs ys = ap Some (append_assoc all xs ys)
 
-moves-both : (p q : List Exchange) (r t : List (List ℕ)) (a b : List ℕ) (old mid new : Sight) → Moves p r a old mid → Moves q t b mid new → Moves (p ++ q) (r ++ t) (a ++ b) old new
+pub moves-both : (p q : List Exchange) (r t : List (List ℕ)) (a b : List ℕ) (old mid new : Sight) → Moves p r a old mid → Moves q t b mid new → Moves (p ++ q) (r ++ t) (a ++ b) old new
 moves-both p q r t a b old mid new first second = record {
   link = record {
     told = second.link.told ∙ ap (λ known. option_map (λ all. all ++ q) known) first.link.told ∙ told-both old.link.told p q;

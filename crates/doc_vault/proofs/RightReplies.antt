@@ -13,14 +13,14 @@ use Rattle.vault_link.specs.ReplySizes.{IsVaultReply}
 use Rattle.vault_link.specs.Served.{IsAnswered, IsStep, body_of}
 use Rattle.vault_link.proofs.ReplyLaws.{no_other}
 use Rattle.vault_link.proofs.ServedLaws.{answered-frame}
-use Rattle.def_vault.specs.ShelfFaults.{shelf_fault}
-use Rattle.def_vault.specs.Shelves.{Shelf, VaultCommand, Put, Drop, Get}
-use Rattle.def_vault.specs.Standing.{LeftBy}
-use Rattle.def_vault.specs.VaultSessions.{SlotsDiffer, draw_by, sent_by}
-use Rattle.def_vault.proofs.Accepted.{accepted_put, accepted_drop}
-use Rattle.def_vault.proofs.Rows.{same_number}
-use Rattle.def_vault.proofs.SessionLaw.{put_taken, drop_taken}
-use Rattle.def_vault.proofs.Texts.{get_gives_text}
+use Rattle.vault_shelf.specs.ShelfFaults.{shelf_fault}
+use Rattle.vault_shelf.specs.Shelves.{Shelf, VaultCommand, Put, Drop, Get}
+use Rattle.vault_shelf.specs.Standing.{LeftBy}
+use Rattle.vault_shelf.specs.VaultSessions.{SlotsDiffer, draw_by, sent_by}
+use Rattle.vault_shelf.proofs.Accepted.{accepted_put, accepted_drop}
+use Rattle.vault_shelf.proofs.Rows.{same_number}
+use Rattle.vault_shelf.proofs.SessionLaw.{put_taken, drop_taken}
+use Rattle.vault_shelf.proofs.Texts.{get_gives_text}
 use Rattle.vault_script.specs.VaultShown.{VaultShownText, Stored, Dropped}
 use Rattle.doc_vault.specs.CommandRuns.{HasFrame}
 use Rattle.doc_vault.specs.HonestTexts.{accepted_line, text_line}

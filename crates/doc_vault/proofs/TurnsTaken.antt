@@ -8,9 +8,9 @@ use Rattle.keyed_fn.specs.KeyedFn.{KeyedFn}
 use Rattle.keyed_fn.specs.VaultFormulas.{VaultSecrets}
 use Rattle.sse_outside.specs.Kept.{Kept, with_records}
 use Rattle.vault_link.specs.Exchanges.{Exchange}
-use Rattle.def_vault.specs.ShelfFaults.{shelf_fault}
-use Rattle.def_vault.specs.Shelves.{Shelf, VaultCommand, Put, Drop, Get, shelf_after}
-use Rattle.def_vault.specs.declared.shelf_fault.ShelfFault.{ShelfFault}
+use Rattle.vault_shelf.specs.ShelfFaults.{shelf_fault}
+use Rattle.vault_shelf.specs.Shelves.{Shelf, VaultCommand, Put, Drop, Get, shelf_after}
+use Rattle.vault_shelf.specs.declared.shelf_fault.ShelfFault.{ShelfFault}
 use Rattle.vault_script.specs.VaultShown.{VaultShownText, NoBody, Refused}
 use Rattle.vault_script.specs.declared.vault_stop.VaultStop.{VaultStop}
 use Rattle.vault_shelf.specs.ShelfView.{Keeps, ShelfView}

@@ -9,9 +9,9 @@ use Rattle.script_run_texts.specs.declared.command_stop.CommandStop.TheVariants 
 use Rattle.script_run_texts.specs.declared.stop_cause.StopCause.TheVariants as runs
 use Rattle.vault_server.specs.VaultFrames.{InVault, vault_bytes}
 use Rattle.vault_link.specs.Exchanges.{Exchange}
-use Rattle.def_vault.specs.ClientRecords.{command_record}
-use Rattle.def_vault.specs.Shelves.{Shelf, VaultCommand, Put, Drop, Get, without_gets}
-use Rattle.def_vault.specs.VaultSessions.{sent_by}
+use Rattle.vault_shelf.specs.ClientRecords.{command_record}
+use Rattle.vault_shelf.specs.Shelves.{Shelf, VaultCommand, Put, Drop, Get, without_gets}
+use Rattle.vault_shelf.specs.VaultSessions.{sent_by}
 use Rattle.vault_script.specs.VaultShown.{VaultShownText}
 use Rattle.vault_script.specs.declared.vault_stop.VaultStop.{VaultStop}
 use Rattle.vault_script.specs.declared.vault_stop.VaultStop.TheVariants as stops

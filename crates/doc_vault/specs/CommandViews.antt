@@ -1,8 +1,8 @@
 -- The command of a line, the printed line of a command, and that of a refusal.
 use Rattle.std.specs.Prelude.{ℕ, List, Option, None, Some}
-use Rattle.def_vault.specs.Shelves.{VaultCommand, Put, Drop, Get}
-use Rattle.def_vault.specs.declared.shelf_fault.ShelfFault.{ShelfFault}
-use Rattle.def_vault.specs.declared.shelf_fault.ShelfFault.TheVariants as faults
+use Rattle.vault_shelf.specs.Shelves.{VaultCommand, Put, Drop, Get}
+use Rattle.vault_shelf.specs.declared.shelf_fault.ShelfFault.{ShelfFault}
+use Rattle.vault_shelf.specs.declared.shelf_fault.ShelfFault.TheVariants as faults
 use Rattle.vault_script.specs.VaultLines.{VaultLineText, EmptyLine, KeyLine, PutLine, DropLine, GetLine}
 use Rattle.vault_script.specs.VaultShown.{VaultShownText, Stored, Dropped, Fetched}
 use Rattle.vault_script.specs.declared.vault_refusal.VaultRefusal.{VaultRefusal}

@@ -6,11 +6,11 @@ use Rattle.vault_server.specs.VaultLeaks.{simulated_from}
 use Rattle.vault_server.specs.VaultState.{VaultState}
 use Rattle.vault_link.specs.Exchanges.{Exchange, events_of, events_of_passed}
 use Rattle.vault_link.specs.Served.{VaultRemote}
-use Rattle.def_vault.specs.ShelfFaults.{AreAccepted}
-use Rattle.def_vault.specs.Shelves.{Shelf, VaultCommand, shelf_of}
-use Rattle.def_vault.specs.Standing.{LeftBy}
-use Rattle.def_vault.specs.VaultLeaking.{vault_leaks}
-use Rattle.def_vault.specs.VaultSessions.{SlotsDiffer, draws_from, frames_of, session_from, vault_stepped}
+use Rattle.vault_shelf.specs.ShelfFaults.{AreAccepted}
+use Rattle.vault_shelf.specs.Shelves.{Shelf, VaultCommand, shelf_of}
+use Rattle.vault_shelf.specs.Standing.{LeftBy}
+use Rattle.vault_shelf.specs.VaultLeaking.{vault_leaks}
+use Rattle.vault_shelf.specs.VaultSessions.{SlotsDiffer, draws_from, frames_of, session_from, vault_stepped}
 
 module _ (f : KeyedFn) (keys : VaultSecrets) where
   -- these exchanges pass as the session of these commands does, with a vault that keeps to its step. If it stood where the client's earlier commands

@@ -1,9 +1,9 @@
 -- What a run's lines print if the vault stands as the client left it: a get prints the text of the identifier's last put.
 use Rattle.std.specs.Prelude.{◌≡◌, ℕ, List, [], ◌∷◌, Option, None, Some}
 use Rattle.std.specs.Option.{option_and_then}
-use Rattle.def_vault.specs.ShelfFaults.{shelf_fault}
-use Rattle.def_vault.specs.Shelves.{Shelf, VaultCommand, Put, Drop, Get, shelf_of, text_there}
-use Rattle.def_vault.specs.declared.shelf_fault.ShelfFault.{ShelfFault}
+use Rattle.vault_shelf.specs.ShelfFaults.{shelf_fault}
+use Rattle.vault_shelf.specs.Shelves.{Shelf, VaultCommand, Put, Drop, Get, shelf_of, text_there}
+use Rattle.vault_shelf.specs.declared.shelf_fault.ShelfFault.{ShelfFault}
 use Rattle.vault_script.specs.VaultLines.{vault_line_of}
 use Rattle.vault_script.specs.VaultShown.{VaultShownText, Stored, Dropped, Fetched, NoBody, Refused}
 use Rattle.doc_vault.specs.CommandViews.{command_said, refusal_of}

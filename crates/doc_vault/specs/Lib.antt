@@ -1,6 +1,8 @@
+pub mod Acknowledged
 pub mod Beginnings
 pub mod CommandRuns
 pub mod CommandViews
+pub mod Counts
 pub mod FairStops
 pub mod Greetings
 pub mod HonestRuns
@@ -9,6 +11,7 @@ pub mod LineRuns
 pub mod NextLines
 pub mod Openings
 pub mod Outcomes
+pub mod RecordersLeft
 pub mod ScriptRuns
 pub mod Scripts
 pub mod Sights

@@ -7,8 +7,8 @@ use Rattle.sse_outside.specs.Fronts.{TookFront}
 use Rattle.sse_outside.specs.Kept.{with_records}
 use Rattle.sse_outside.specs.declared.device_fault.DeviceFault.{DeviceFault}
 use Rattle.script_run_texts.specs.Stops.{stop_of_sink}
-use Rattle.def_vault.specs.ShelfFaults.{shelf_fault}
-use Rattle.def_vault.specs.Shelves.{Shelf, VaultCommand, shelf_of}
+use Rattle.vault_shelf.specs.ShelfFaults.{shelf_fault}
+use Rattle.vault_shelf.specs.Shelves.{Shelf, VaultCommand, shelf_of}
 use Rattle.vault_script.specs.VaultShown.{VaultShownText, Refused}
 use Rattle.vault_script.specs.declared.vault_stop.VaultStop.{VaultStop}
 use Rattle.vault_script.specs.declared.vault_stop.VaultStop.TheVariants as stops

@@ -4,8 +4,8 @@ use Rattle.keyed_fn.specs.KeyedFn.{KeyedFn}
 use Rattle.keyed_fn.specs.VaultFormulas.{VaultSecrets}
 use Rattle.vault_server.specs.VaultFrames.{VaultReplyText, Took, BodyReply, Clash, NoMemory, StoreFault}
 use Rattle.vault_link.specs.ReplySizes.{IsVaultReply}
-use Rattle.def_vault.specs.Shelves.{Shelf, VaultCommand, Put, Drop, Get}
-use Rattle.def_vault.specs.VaultTexts.{Fetched, Opened, Oversized, Forged, fetched_text}
+use Rattle.vault_shelf.specs.Shelves.{Shelf, VaultCommand, Put, Drop, Get}
+use Rattle.vault_shelf.specs.VaultTexts.{Fetched, Opened, Oversized, Forged, fetched_text}
 use Rattle.script_run_texts.specs.declared.command_stop.CommandStop.TheVariants as commands
 use Rattle.script_run_texts.specs.declared.peer_stop.PeerStop.TheVariants as peers
 use Rattle.script_run_texts.specs.declared.stop_cause.StopCause.TheVariants as runs

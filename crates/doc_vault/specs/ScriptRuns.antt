@@ -7,9 +7,9 @@ use Rattle.script_run_texts.specs.declared.input_stop.InputStop.{InputStop}
 use Rattle.script_run_texts.specs.declared.input_stop.InputStop.TheVariants as inputs
 use Rattle.script_run_texts.specs.declared.stop_cause.StopCause.TheVariants as runs
 use Rattle.sse_script.specs.TextLines.{TakesLine}
-use Rattle.def_vault.specs.Shelves.{Shelf, VaultCommand, shelf_of}
-use Rattle.def_vault.specs.Standing.{LeftBy}
-use Rattle.def_vault.specs.VaultSessions.{SlotsDiffer}
+use Rattle.vault_shelf.specs.Shelves.{Shelf, VaultCommand, shelf_of}
+use Rattle.vault_shelf.specs.Standing.{LeftBy}
+use Rattle.vault_shelf.specs.VaultSessions.{SlotsDiffer}
 use Rattle.vault_script.specs.VaultLines.{VaultLineText, EmptyLine, KeyLine, PutLine, DropLine, GetLine, vault_line_of}
 use Rattle.vault_script.specs.declared.vault_stop.VaultStop.{VaultStop}
 use Rattle.vault_script.specs.declared.vault_stop.VaultStop.TheVariants as stops

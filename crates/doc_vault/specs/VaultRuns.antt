@@ -4,10 +4,10 @@ use Rattle.std.specs.List.{flat_map}
 use Rattle.keyed_fn.specs.KeyedFn.{KeyedFn}
 use Rattle.keyed_fn.specs.VaultFormulas.{VaultSecrets}
 use Rattle.vault_link.specs.Exchanges.{Exchange}
-use Rattle.def_vault.specs.ClientRecords.{command_record}
-use Rattle.def_vault.specs.ShelfFaults.{shelf_fault}
-use Rattle.def_vault.specs.Shelves.{Shelf, VaultCommand, Put, Drop, Get, shelf_of, without_gets}
-use Rattle.def_vault.specs.declared.shelf_fault.ShelfFault.{ShelfFault}
+use Rattle.vault_shelf.specs.ClientRecords.{command_record}
+use Rattle.vault_shelf.specs.ShelfFaults.{shelf_fault}
+use Rattle.vault_shelf.specs.Shelves.{Shelf, VaultCommand, Put, Drop, Get, shelf_of, without_gets}
+use Rattle.vault_shelf.specs.declared.shelf_fault.ShelfFault.{ShelfFault}
 use Rattle.vault_script.specs.VaultLines.{VaultLineText, EmptyLine, KeyLine, PutLine, DropLine, GetLine, vault_line_of}
 use Rattle.vault_script.specs.VaultShown.{VaultShownText, NoBody, Refused}
 use Rattle.vault_script.specs.VaultTexts.{vault_text}

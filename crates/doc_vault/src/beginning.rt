@@ -1,7 +1,11 @@
-ghost use Rattle.std.specs.Prelude.{◌≡◌, ◌≤◌, ◌+◌, ◌^◌, [], ◌∷◌, OnOk, length};
-ghost use Rattle.def_vault.specs.ClientRecords.{mark_record};
+ghost use Rattle.std.specs.Prelude.{◌≡◌, ◌≤◌, ◌+◌, ◌^◌, [], ◌∷◌, IfErr, IfSome, OnOk, length};
+ghost use Rattle.std.specs.Io.KnownBytes.{IsAtEnd};
+ghost use Rattle.vault_shelf.specs.ClientRecords.{mark_record};
 ghost use Rattle.doc_vault.specs.Beginnings.{Begins, RunsUnder};
 ghost use Rattle.doc_vault.specs.CommandRuns.{KeepsRecords};
+ghost use Rattle.doc_vault.specs.Counts.{Counts, KeepsCounts, with_link, with_recorder};
+ghost use Rattle.doc_vault.specs.FairStops.{StopsFairly};
+ghost use Rattle.doc_vault.specs.RecordersLeft.{LeavesRecorder};
 ghost use Rattle.doc_vault.specs.Sights.{sight_of};
 ghost use Rattle.keyed_fn.specs.KeyedFn.{keyed_fn};
 ghost use Rattle.sse_script.specs.TextLines.{bytes_to_come, lines_left};
@@ -24,6 +28,8 @@ fn keep_mark<R: Recorder>(alloc: Global, recorder: &mut R, mark: &[u8; 16]) -> R
     requires { R.whole recorder.old }
     ensures kept { KeepsRecords (mark_record mark.now ∷ []) (R.kept recorder.old) (R.kept recorder.new) result }
     ensures whole_after { OnOk result (R.whole recorder.new) }
+    ensures counts { (others : Counts) → KeepsCounts (with_recorder (R.faults recorder.old) others) (with_recorder (R.faults recorder.new) others) result }
+    ensures recorder { LeavesRecorder R.kept R.moment R.left_since R.whole recorder.old recorder.new }
 {
     let mut payload = Vec::new(alloc);
     write_mark_record(mark, &mut payload)?;
@@ -45,11 +51,19 @@ fn begin<K: Keyed, L: VaultLink, R: Recorder>(
     requires room { 65604 ≤ length reply.old }
     ensures begins { Begins (keyed_fn K.prf K.pad) master.now (sight_of (L.transcript link.old) (L.remote link.old)) (sight_of (L.transcript link.new) (L.remote link.new)) (R.kept recorder.old) (R.kept recorder.new) result }
     ensures whole_after { OnOk result (R.whole recorder.new) }
+    ensures stays { L.remote link.new ≡ L.remote link.old }
+    ensures honest { IfSome (L.remote link.old) (λ before. IfErr result (λ stop. before.state.next ≡ 0 → StopsFairly stop)) }
+    ensures counts { (others : Counts) → KeepsCounts (with_link (L.faults link.old) (with_recorder (R.faults recorder.old) others)) (with_link (L.faults link.new) (with_recorder (R.faults recorder.new) others)) result }
+    ensures recorder { LeavesRecorder R.kept R.moment R.left_since R.whole recorder.old recorder.new }
 {
     greet(link, reply)?;
     keep_mark(alloc, recorder, &master.mark())
 }
 
+// Promise P230, also here; clauses: run; fields: FinishesUnder.texts, StopsInLines.texts
+// Promise P231, also here; clauses: run; fields: StopsUnder.fair
+// Promise P234, also here; clauses: counts
+// Promise P235, also here; clauses: recorder
 // Promise P227 (caller): A vault's first run under a key begins at a server that expects the first update, keeps the key's mark, then takes its lines.
 //   clauses: run, whole_after; fields: FinishesUnder.begins, FinishesUnder.unprinted, FinishesUnder.lines; assumes: observable devices, earlier calls
 /// Makes a first run of a script after its key line: begins it, and carries out its lines; the answer is whether a command was
@@ -73,6 +87,11 @@ pub fn first_run<K: Keyed, L: VaultLink, R: Recorder, S: Source, W: Sink>(
         (record { link = sight_of (L.transcript link.old) (L.remote link.old); kept = R.kept recorder.old; written = W.written sink.old })
         (record { link = sight_of (L.transcript link.new) (L.remote link.new); kept = R.kept recorder.new; written = W.written sink.new }) result }
     ensures whole_after { OnOk result (R.whole recorder.new) }
+    ensures counts { KeepsCounts
+        (record { source = S.faults source.old; sink = W.faults sink.old; shortages = W.shortages sink.old; link = L.faults link.old; recorder = R.faults recorder.old })
+        (record { source = S.faults source.new; sink = W.faults sink.new; shortages = W.shortages sink.new; link = L.faults link.new; recorder = R.faults recorder.new }) result }
+    ensures recorder { LeavesRecorder R.kept R.moment R.left_since R.whole recorder.old recorder.new }
+    ensures at_end { OnOk result (IsAtEnd (S.remaining source.new)) }
 {
     let master = key.prepare(keyed);
     begin(alloc, &master, link, recorder, reply)?;

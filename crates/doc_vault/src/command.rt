@@ -1,6 +1,8 @@
 ghost use Rattle.std.specs.Prelude.{◌≡◌, ◌≤◌, OnOk, length};
-ghost use Rattle.def_vault.specs.Shelves as meant;
+ghost use Rattle.vault_shelf.specs.Shelves as meant;
 ghost use Rattle.doc_vault.specs.CommandRuns.{CarriesOut, HasFrame, IsShortCommand, IsUpdate, KeepsRecords, records_of};
+ghost use Rattle.doc_vault.specs.Counts.{Counts, KeepsCounts, with_link, with_recorder};
+ghost use Rattle.doc_vault.specs.RecordersLeft.{LeavesRecorder};
 ghost use Rattle.doc_vault.specs.Sights.{sight_of};
 ghost use Rattle.keyed_fn.specs.KeyedFn.{keyed_fn};
 ghost use Rattle.vault_shelf.specs.CommandView.{command_view};
@@ -27,6 +29,8 @@ fn keep_update<R: Recorder>(
     requires update { IsUpdate (command_view command.now) }
     ensures kept { KeepsRecords (records_of (command_view command.now)) (R.kept recorder.old) (R.kept recorder.new) result }
     ensures whole_after { OnOk result (R.whole recorder.new) }
+    ensures counts { (others : Counts) → KeepsCounts (with_recorder (R.faults recorder.old) others) (with_recorder (R.faults recorder.new) others) result }
+    ensures recorder { LeavesRecorder R.kept R.moment R.left_since R.whole recorder.old recorder.new }
 {
     let mut payload = Vec::new(alloc);
     write_vault_record(command, &mut payload)?;
@@ -46,6 +50,8 @@ fn keep_record<R: Recorder>(
     requires short { IsShortCommand (command_view command.now) }
     ensures kept { KeepsRecords (records_of (command_view command.now)) (R.kept recorder.old) (R.kept recorder.new) result }
     ensures whole_after { OnOk result (R.whole recorder.new) }
+    ensures counts { (others : Counts) → KeepsCounts (with_recorder (R.faults recorder.old) others) (with_recorder (R.faults recorder.new) others) result }
+    ensures recorder { LeavesRecorder R.kept R.moment R.left_since R.whole recorder.old recorder.new }
 {
     match command {
         VaultCommand::Put { .. } => keep_update(alloc, recorder, command),
@@ -74,6 +80,8 @@ pub(crate) fn carry_out<K: Keyed, L: VaultLink, R: Recorder>(
         (sight_of (L.transcript link.old) (L.remote link.old)) (sight_of (L.transcript link.new) (L.remote link.new)) (R.kept recorder.old) (R.kept recorder.new) (text_in text.new) result }
     ensures keeps { (s : meant.Shelf) → Keeps shelf.old s → OnOk result (Keeps shelf.new (meant.shelf_after s (command_view command.now))) }
     ensures whole_after { OnOk result (R.whole recorder.new) }
+    ensures counts { (others : Counts) → KeepsCounts (with_link (L.faults link.old) (with_recorder (R.faults recorder.old) others)) (with_link (L.faults link.new) (with_recorder (R.faults recorder.new) others)) result }
+    ensures recorder { LeavesRecorder R.kept R.moment R.left_since R.whole recorder.old recorder.new }
 {
     shelf.prepare(command)?;
     frame.clear();

@@ -1,8 +1,10 @@
 ghost use Rattle.std.specs.Prelude.{◌≡◌, ◌≢◌, Some};
-ghost use Rattle.def_vault.specs.VaultTexts.{fetched_text};
+ghost use Rattle.vault_shelf.specs.VaultTexts.{fetched_text};
+ghost use Rattle.doc_vault.specs.Counts.{TellsFault};
 ghost use Rattle.doc_vault.specs.Outcomes.{ComesTo, bad_reply, fetch_outcome, fetched_outcome, judged, own_memory_stop, unexpected, update_outcome};
 ghost use Rattle.keyed_fn.specs.KeyedFn.{keyed_fn};
 ghost use Rattle.vault_script.specs.VaultShown.{VaultShownText, Fetched};
+ghost use Rattle.vault_server.specs.VaultFrames.{StoreFault, vault_reply_bytes};
 ghost use Rattle.vault_server.specs.VaultViews.{reply_view};
 ghost use Rattle.vault_shelf.specs.OpenedView.{text_in};
 
@@ -39,7 +41,8 @@ pub(crate) fn bad(bytes: &[u8]) -> VaultStop
 
 /// Judges the reply to an update of this number: only its own acknowledgement lets the run continue.
 pub(crate) fn judge_update(bytes: &[u8], n: u32) -> Result<(), VaultStop>
-    ensures { (shown : VaultShownText) → ComesTo (update_outcome n shown) bytes.now (judged shown result) }
+    ensures comes { (shown : VaultShownText) → ComesTo (update_outcome n shown) bytes.now (judged shown result) }
+    ensures fault { TellsFault (bytes.now ≡ vault_reply_bytes StoreFault) result }
 {
     match read_whole_reply(bytes) {
         Some(reply) => acknowledged(bytes, &reply, n),
@@ -49,7 +52,8 @@ pub(crate) fn judge_update(bytes: &[u8], n: u32) -> Result<(), VaultStop>
 
 /// Whether a reply acknowledges the update of this number.
 fn acknowledged(bytes: &[u8], reply: &VaultReply<'_>, n: u32) -> Result<(), VaultStop>
-    ensures { (shown : VaultShownText) → update_outcome n shown bytes.now (Some (reply_view reply.now)) ≡ judged shown result }
+    ensures outcome { (shown : VaultShownText) → update_outcome n shown bytes.now (Some (reply_view reply.now)) ≡ judged shown result }
+    ensures fault { TellsFault (reply_view reply.now ≡ StoreFault) result }
 {
     match *reply {
         VaultReply::Took(m) => {
@@ -71,7 +75,8 @@ pub(crate) fn judge_fetch<K: Keyed>(
     id: u64,
     bytes: &[u8],
 ) -> Result<(), VaultStop>
-    ensures { result ≢ Err own_memory_stop → ComesTo (fetch_outcome (keyed_fn K.prf K.pad) tools.now.keys v id) bytes.now (judged (Fetched id (text_in text.new)) result) }
+    ensures comes { result ≢ Err own_memory_stop → ComesTo (fetch_outcome (keyed_fn K.prf K.pad) tools.now.keys v id) bytes.now (judged (Fetched id (text_in text.new)) result) }
+    ensures fault { TellsFault (bytes.now ≡ vault_reply_bytes StoreFault) result }
 {
     match read_whole_reply(bytes) {
         Some(reply) => open_reply(tools, text, v, id, bytes, &reply),
@@ -88,7 +93,8 @@ fn open_reply<K: Keyed>(
     bytes: &[u8],
     reply: &VaultReply<'_>,
 ) -> Result<(), VaultStop>
-    ensures { result ≢ Err own_memory_stop → fetch_outcome (keyed_fn K.prf K.pad) tools.now.keys v id bytes.now (Some (reply_view reply.now)) ≡ judged (Fetched id (text_in text.new)) result }
+    ensures comes { result ≢ Err own_memory_stop → fetch_outcome (keyed_fn K.prf K.pad) tools.now.keys v id bytes.now (Some (reply_view reply.now)) ≡ judged (Fetched id (text_in text.new)) result }
+    ensures fault { TellsFault (reply_view reply.now ≡ StoreFault) result }
 {
     match *reply {
         VaultReply::Body { tag, sealed } => open_text(tools, text, v, id, bytes, tag, sealed),
@@ -106,7 +112,8 @@ fn open_text<K: Keyed>(
     tag: &[u8; 32],
     sealed: &[u8],
 ) -> Result<(), VaultStop>
-    ensures { result ≢ Err own_memory_stop → fetched_outcome id bytes.now (fetched_text (keyed_fn K.prf K.pad) tools.now.keys v id tag.now sealed.now) ≡ judged (Fetched id (text_in text.new)) result }
+    ensures comes { result ≢ Err own_memory_stop → fetched_outcome id bytes.now (fetched_text (keyed_fn K.prf K.pad) tools.now.keys v id tag.now sealed.now) ≡ judged (Fetched id (text_in text.new)) result }
+    ensures fault { TellsFault ⊥ result }
 {
     match text.open(tools.keyed, &tools.keys, v, id, tag, sealed)? {
         Opened::Text => Ok(()),

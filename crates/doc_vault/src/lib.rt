@@ -7,8 +7,9 @@
 //! only if its tag is right, or the run stops for the first cause. Over a link that tells an honest server, all that passes
 //! is what the simulator makes of the commands' leaks and draws (`PassesHonestly`). If the vault stands as this client
 //! left it, each get prints the text of the identifier's last put, or that there is none (`PrintTheirTexts`),
-//! and no reply stops the run (`StopsFairly`).
-//! Not here: the last line of a run and its status, the counts of faults, and runs that resume.
+//! and no reply stops the run (`StopsFairly`). If a run stops for a device, that device's fault count rose, and no
+//! other's (`KeepsCounts` of specs/Counts.antt).
+//! Not here: the last line of a run and its status, and runs that resume, which begin with `ask_next` and `send_again`.
 //! Side: client.
 #![tactic(auto)]
 
@@ -27,8 +28,10 @@ mod tools;
 mod turn;
 
 pub use beginning::first_run;
-pub use greeting::greet;
+pub use exchange::send_again;
+pub use greeting::{ask_next, greet};
 pub use lines::run_lines;
+pub use printing::show;
 pub use script::run_script;
 pub use script_start::key_line;
 pub use tools::Tools;

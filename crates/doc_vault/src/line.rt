@@ -1,5 +1,7 @@
 ghost use Rattle.std.specs.Prelude.{◌≡◌, ◌≤◌, ℕ, List, Some, OnOk, length};
-ghost use Rattle.def_vault.specs.Shelves as meant;
+ghost use Rattle.vault_shelf.specs.Shelves as meant;
+ghost use Rattle.doc_vault.specs.Counts.{Counts, KeepsCounts, with_link, with_recorder, with_sink};
+ghost use Rattle.doc_vault.specs.RecordersLeft.{LeavesRecorder};
 ghost use Rattle.doc_vault.specs.ScriptRuns.{TurnsOrStops};
 ghost use Rattle.doc_vault.specs.Sights.{sight_of};
 ghost use Rattle.keyed_fn.specs.KeyedFn.{keyed_fn};
@@ -37,6 +39,10 @@ pub(crate) fn take_line<K: Keyed, L: VaultLink, R: Recorder, W: Sink>(
         (record { link = sight_of (L.transcript link.old) (L.remote link.old); kept = R.kept recorder.old; written = W.written sink.old })
         (record { link = sight_of (L.transcript link.new) (L.remote link.new); kept = R.kept recorder.new; written = W.written sink.new }) shelf.new result }
     ensures whole_after { OnOk result (R.whole recorder.new) }
+    ensures counts { (others : Counts) →
+        KeepsCounts (with_link (L.faults link.old) (with_recorder (R.faults recorder.old) (with_sink (W.faults sink.old) (W.shortages sink.old) others)))
+        (with_link (L.faults link.new) (with_recorder (R.faults recorder.new) (with_sink (W.faults sink.new) (W.shortages sink.new) others))) result }
+    ensures recorder { LeavesRecorder R.kept R.moment R.left_since R.whole recorder.old recorder.new }
 {
     match line {
         VaultLine::Empty => Ok(false),

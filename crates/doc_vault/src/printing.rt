@@ -1,6 +1,7 @@
 ghost use Rattle.std.specs.Prelude.{◌≡◌, ◌∷◌, []};
-ghost use Rattle.def_vault.specs.declared.shelf_fault.ShelfFault.{ShelfFault};
+ghost use Rattle.vault_shelf.specs.declared.shelf_fault.ShelfFault.{ShelfFault};
 ghost use Rattle.doc_vault.specs.CommandViews.{refusal_of, shown_of};
+ghost use Rattle.doc_vault.specs.Counts.{Counts, KeepsCounts, with_sink};
 ghost use Rattle.doc_vault.specs.LineRuns.{Prints};
 ghost use Rattle.vault_script.specs.VaultShown as says;
 ghost use Rattle.vault_script.specs.VaultShown.{vault_shown_view};
@@ -11,9 +12,13 @@ use sse_outside::Sink;
 use vault_script::{VaultRefusal, VaultShown, VaultStop, print_vault_line};
 use vault_shelf::{ShelfFault, TextBuffer, VaultCommand};
 
+// Promise P273, also here; clauses: prints, counts
 /// Prints one line.
-pub(crate) fn show<W: Sink>(sink: &mut W, shown: &VaultShown<'_>) -> Result<(), VaultStop>
-    ensures { Prints (vault_shown_view shown.now ∷ []) (W.written sink.old) (W.written sink.new) result }
+///
+/// It stops if the sink failed, with a strict prefix of the line printed, or out of memory.
+pub fn show<W: Sink>(sink: &mut W, shown: &VaultShown<'_>) -> Result<(), VaultStop>
+    ensures prints { Prints (vault_shown_view shown.now ∷ []) (W.written sink.old) (W.written sink.new) result }
+    ensures counts { (others : Counts) → KeepsCounts (with_sink (W.faults sink.old) (W.shortages sink.old) others) (with_sink (W.faults sink.new) (W.shortages sink.new) others) result }
 {
     match print_vault_line(sink, shown) {
         Ok(()) => Ok(()),
@@ -23,7 +28,8 @@ pub(crate) fn show<W: Sink>(sink: &mut W, shown: &VaultShown<'_>) -> Result<(), 
 
 /// Prints why a command was refused.
 pub(crate) fn show_refusal<W: Sink>(sink: &mut W, fault: ShelfFault) -> Result<(), VaultStop>
-    ensures { Prints (says.Refused (refusal_of fault) ∷ []) (W.written sink.old) (W.written sink.new) result }
+    ensures prints { Prints (says.Refused (refusal_of fault) ∷ []) (W.written sink.old) (W.written sink.new) result }
+    ensures counts { (others : Counts) → KeepsCounts (with_sink (W.faults sink.old) (W.shortages sink.old) others) (with_sink (W.faults sink.new) (W.shortages sink.new) others) result }
 {
     show(sink, &VaultShown::Refused(refusal(fault)))
 }
@@ -47,7 +53,8 @@ pub(crate) fn show_command<W: Sink>(
     command: &VaultCommand<'_>,
     text: &TextBuffer,
 ) -> Result<(), VaultStop>
-    ensures { Prints (shown_of (command_view command.now) (text_in text.now) ∷ []) (W.written sink.old) (W.written sink.new) result }
+    ensures prints { Prints (shown_of (command_view command.now) (text_in text.now) ∷ []) (W.written sink.old) (W.written sink.new) result }
+    ensures counts { (others : Counts) → KeepsCounts (with_sink (W.faults sink.old) (W.shortages sink.old) others) (with_sink (W.faults sink.new) (W.shortages sink.new) others) result }
 {
     match *command {
         VaultCommand::Put { id, .. } => show(sink, &VaultShown::Stored { id }),

@@ -1,3 +1,13 @@
 pub mod RecordGrammar
 pub mod PutFrames
 pub mod RebuildLaws
+pub mod Rows
+pub mod SlotMaps
+pub mod Accepted
+pub mod SessionLaw
+pub mod Simulated
+pub mod NamesOnce
+pub mod Scans
+pub mod Fronts
+pub mod Resumed
+pub mod Texts

@@ -5,8 +5,8 @@ use Rattle.chacha_stream.proofs.Laws.{All-xored, length-xored}
 use Rattle.std.proofs.Math.Dec.{leb}
 use Rattle.std.proofs.lemmas.Bool.Decides.{leb_tells}
 use Rattle.std.proofs.lemmas.List.{get_or_default, get_or_past}
-use Rattle.def_vault.specs.Shelves.{Shelf}
-use Rattle.def_vault.specs.VaultSessions.{draw_by, sealed_by}
+use Rattle.vault_shelf.specs.Shelves.{Shelf}
+use Rattle.vault_shelf.specs.VaultSessions.{draw_by, sealed_by}
 use Rattle.keyed_fn.specs.Xored.{xored}
 use Rattle.keyed_fn.specs.KeyedFn.{IsKeyedFn, KeyedFn}
 use Rattle.keyed_fn.specs.VaultFormulas.{VaultSecrets, vault_pad, vault_slot, vault_tag}

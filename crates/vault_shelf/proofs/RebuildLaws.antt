@@ -6,12 +6,12 @@ use Rattle.std.proofs.lemmas.Bool.{leb-true, ltb-true, true≢false}
 use Rattle.std.proofs.lemmas.List.{append-nil, length-append, length-map, map-append}
 use Rattle.std.proofs.Math.Seq.{take-append_seam}
 use Rattle.std.proofs.lemmas.Slice.Eq.{bytes_eq-Decides}
-use Rattle.def_vault.proofs.Fronts.{accepted-append, accepted_later}
-use Rattle.def_vault.proofs.Rows.{and_left, and_right}
-use Rattle.def_vault.specs.ClientRecords.{AreRecorded, IsBadVaultRecord, IsRecorded, NoneYet, OpensSoFar, SomeOpen, VaultOpens, VaultOpensElsewhere, VaultOpensNowhere, command_record, mark_record, vault_records_of}
-use Rattle.def_vault.specs.ShelfFaults.{AreAccepted, shelf_fault}
-use Rattle.def_vault.specs.Shelves.{VaultCommand, Put, Drop, Get, Shelf, empty_shelf, shelf_after, shelf_of}
-use Rattle.def_vault.specs.declared.shelf_fault.ShelfFault.{ShelfFault}
+use Rattle.vault_shelf.proofs.Fronts.{accepted-append, accepted_later}
+use Rattle.vault_shelf.proofs.Rows.{and_left, and_right}
+use Rattle.vault_shelf.specs.ClientRecords.{AreRecorded, IsBadVaultRecord, IsRecorded, NoneYet, OpensSoFar, SomeOpen, VaultOpens, VaultOpensElsewhere, VaultOpensNowhere, command_record, mark_record, vault_records_of}
+use Rattle.vault_shelf.specs.ShelfFaults.{AreAccepted, shelf_fault}
+use Rattle.vault_shelf.specs.Shelves.{VaultCommand, Put, Drop, Get, Shelf, empty_shelf, shelf_after, shelf_of}
+use Rattle.vault_shelf.specs.declared.shelf_fault.ShelfFault.{ShelfFault}
 use Rattle.vault_shelf.specs.Apart.{KeepsApart, KeepsNone}
 use Rattle.vault_shelf.specs.Readiness.{is_ready, is_ready_for}
 use Rattle.vault_shelf.specs.Rebuilds.{HasNone, IsSettled, IsTaken, Takes}

@@ -9,8 +9,8 @@ use Rattle.std.proofs.lemmas.Bool.Decides.{Decides-eqb, leb_tells}
 use Rattle.std.proofs.lemmas.List.{append-nil, get_or-take, get_or_past, length-append, length-take, length-take-le, take-append-drop}
 use Rattle.std.proofs.lemmas.Nat.{from_be_bytes-to_be_bytes_8, be_bytes_8}
 use Rattle.sse_frames.specs.Frames.{be64}
-use Rattle.def_vault.specs.ClientRecords.{IsRecorded, command_record, mark_record}
-use Rattle.def_vault.specs.Shelves.{VaultCommand, Put, Drop, Get}
+use Rattle.vault_shelf.specs.ClientRecords.{IsRecorded, command_record, mark_record}
+use Rattle.vault_shelf.specs.Shelves.{VaultCommand, Put, Drop, Get}
 use Rattle.vault_shelf.specs.CommandView.{command_view}
 use Rattle.vault_shelf.specs.declared.vault_command.VaultCommand as code
 use Rattle.vault_shelf.specs.RecordReading.{command_in, drop_in, mark_in, put_in}

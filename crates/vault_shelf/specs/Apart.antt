@@ -1,7 +1,7 @@
 -- The last of a row of commands, kept apart from what those before it leave.
 use Rattle.std.specs.Prelude.{◌≡◌, ℕ, List, [], ◌∷◌, ◌++◌}
-use Rattle.def_vault.specs.ClientRecords.{IsRecorded, command_record}
-use Rattle.def_vault.specs.Shelves.{VaultCommand, empty_shelf, shelf_of}
+use Rattle.vault_shelf.specs.ClientRecords.{IsRecorded, command_record}
+use Rattle.vault_shelf.specs.Shelves.{VaultCommand, empty_shelf, shelf_of}
 use Rattle.vault_shelf.specs.ShelfView.{ShelfView, Keeps}
 
 -- the last of the commands is kept apart, as its record, and a shelf keeps what those before it leave

@@ -1,5 +1,5 @@
 -- A contract's view of a command, and of what was read as one.
-use Rattle.def_vault.specs.Shelves as meant
+use Rattle.vault_shelf.specs.Shelves as meant
 use Rattle.vault_shelf.specs.declared.vault_command.VaultCommand.{VaultCommand}
 use Rattle.vault_shelf.specs.declared.vault_command.VaultCommand.TheVariants as commands
 

@@ -5,3 +5,12 @@ pub mod RecordReading
 pub mod Readiness
 pub mod Apart
 pub mod Rebuilds
+pub mod Shelves
+pub mod ShelfFaults
+pub mod VaultSessions
+pub mod Standing
+pub mod VaultLeaking
+pub mod VaultNames
+pub mod VaultTexts
+pub mod ClientRecords
+pub mod Scans

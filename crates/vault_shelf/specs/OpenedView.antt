@@ -1,7 +1,7 @@
 -- A contract's view of what a received text is.
 use Rattle.std.specs.Prelude.{List, ℕ, drop}
-use Rattle.def_vault.specs.VaultTexts.{Fetched}
-use Rattle.def_vault.specs.VaultTexts as meant
+use Rattle.vault_shelf.specs.VaultTexts.{Fetched}
+use Rattle.vault_shelf.specs.VaultTexts as meant
 use Rattle.vault_shelf.specs.declared.text_buffer.Opened.{Opened}
 use Rattle.vault_shelf.specs.declared.text_buffer.Opened.TheVariants as opened
 

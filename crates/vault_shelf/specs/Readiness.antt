@@ -1,7 +1,7 @@
 -- Whether a command can be carried out without memory.
 use Rattle.std.specs.Prelude.{ℕ, Bool, true, ◌&&◌, nat_le, nat_lt, List, length}
 use Rattle.std.specs.Option.{option_map_or}
-use Rattle.def_vault.specs.Shelves.{VaultCommand, Put, Drop, Get}
+use Rattle.vault_shelf.specs.Shelves.{VaultCommand, Put, Drop, Get}
 use Rattle.vault_shelf.specs.RecordReading.{command_in}
 use Rattle.vault_shelf.specs.ShelfView.{ShelfView}
 

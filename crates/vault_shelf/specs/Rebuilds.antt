@@ -1,7 +1,7 @@
 -- The records of a client of the vault that a rebuild took, and its answer to one more.
 use Rattle.std.specs.Prelude.{◌≡◌, ◌⊎◌, ℕ, List, [], ◌∷◌, ◌++◌, length, Bool, true, false, Result, Ok, Err}
-use Rattle.def_vault.specs.ClientRecords.{VaultOpens, VaultOpensElsewhere, VaultOpensNowhere}
-use Rattle.def_vault.specs.Shelves.{VaultCommand, empty_shelf, shelf_of}
+use Rattle.vault_shelf.specs.ClientRecords.{VaultOpens, VaultOpensElsewhere, VaultOpensNowhere}
+use Rattle.vault_shelf.specs.Shelves.{VaultCommand, empty_shelf, shelf_of}
 use Rattle.vault_shelf.specs.Apart.{KeepsApart, KeepsNone}
 use Rattle.vault_shelf.specs.ShelfView.{ShelfView, Keeps}
 use Rattle.vault_shelf.specs.declared.rebuild.ShelfRebuild.{ShelfRebuild}

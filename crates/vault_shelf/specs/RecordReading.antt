@@ -1,7 +1,7 @@
 -- The command that the bytes of a record are.
 use Rattle.std.specs.Prelude.{ℕ, ◌==◌, nat_le, List, [], ◌∷◌, length, take, drop, Option, None, Some, if◌then◌else◌}
 use Rattle.std.specs.Int.{w64, from_be_bytes}
-use Rattle.def_vault.specs.Shelves.{VaultCommand, Put, Drop}
+use Rattle.vault_shelf.specs.Shelves.{VaultCommand, Put, Drop}
 
 -- an identifier, and the text after it
 abbrev pub put_in : List ℕ → Option VaultCommand

@@ -1,7 +1,7 @@
 -- What contracts see of a shelf of the code, and the shelf of a history that it keeps.
 use Rattle.std.specs.Prelude.{◌≡◌, ℕ, ◌<◌, ◌≤◌, nat_eq, List, length, Option}
 use Rattle.std.specs.Map.{lookup}
-use Rattle.def_vault.specs.Shelves.{VaultCommand, Put, Drop, Get, Shelf}
+use Rattle.vault_shelf.specs.Shelves.{VaultCommand, Put, Drop, Get, Shelf}
 
 -- the identifiers of the texts that are there, each with the number of its put; how many puts there were, and how many updates; for
 -- how many more identifiers there is memory; and the two numbers under which they are hashed

@@ -1,5 +1,5 @@
 ghost use Rattle.std.specs.Prelude.{◌≡◌, List, true};
-ghost use Rattle.def_vault.specs.Shelves as meant;
+ghost use Rattle.vault_shelf.specs.Shelves as meant;
 ghost use Rattle.vault_shelf.specs.Apart.{KeepsApart, KeepsNone};
 ghost use Rattle.vault_shelf.specs.Readiness.{is_ready};
 ghost use Rattle.vault_shelf.specs.ShelfView.{Keeps};

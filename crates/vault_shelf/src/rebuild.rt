@@ -22,8 +22,8 @@ pub struct ShelfRebuild {
 impl ShelfRebuild {
     ghost use Rattle.std.specs.Prelude.{◌+◌, ◌∷◌, ◌++◌, [], ℕ, List, Err, false, IfOk, OnOk, Some, length};
     ghost use Rattle.client_registry.specs.HashNumbers.{hash_numbers};
-    ghost use Rattle.def_vault.specs.ClientRecords.{IsBadVaultRecord, IsRecorded, VaultOpens, VaultOpensElsewhere, command_record};
-    ghost use Rattle.def_vault.specs.Shelves as meant;
+    ghost use Rattle.vault_shelf.specs.ClientRecords.{IsBadVaultRecord, IsRecorded, VaultOpens, VaultOpensElsewhere, command_record};
+    ghost use Rattle.vault_shelf.specs.Shelves as meant;
     ghost use Rattle.vault_shelf.specs.Apart.{KeepsApart, KeepsNone};
     ghost use Rattle.vault_shelf.specs.Rebuilds.{IsSettled, Rebuilds, Takes};
     ghost use Rattle.vault_shelf.specs.ShelfView.{CanSend, Keeps};

@@ -1,6 +1,6 @@
 ghost use Rattle.std.specs.Prelude.{◌≡◌, ◌≢◌, ◌++◌, IfSome, IsNone, OnOk, option_map};
-ghost use Rattle.def_vault.specs.ClientRecords.{IsRecorded, command_record, mark_record};
-ghost use Rattle.def_vault.specs.Shelves as meant;
+ghost use Rattle.vault_shelf.specs.ClientRecords.{IsRecorded, command_record, mark_record};
+ghost use Rattle.vault_shelf.specs.Shelves as meant;
 ghost use Rattle.vault_shelf.specs.CommandView.{command_view};
 ghost use Rattle.vault_shelf.specs.RecordReading.{command_in, drop_in, mark_in, put_in};
 

@@ -1,13 +1,12 @@
 ghost use Rattle.std.specs.Prelude.{◌≡◌, ◌<◌, ◌==◌, ℕ, List, None, OnOk, Some, if◌then◌else◌, length};
 ghost use Rattle.client_registry.specs.HashNumbers.{hash_numbers};
-ghost use Rattle.def_vault.specs.Shelves as meant;
-ghost use Rattle.def_vault.specs.ShelfFaults.{shelf_fault};
+ghost use Rattle.vault_shelf.specs.Shelves as meant;
+ghost use Rattle.vault_shelf.specs.ShelfFaults.{shelf_fault};
 ghost use Rattle.vault_shelf.specs.CommandView.{command_view};
 ghost use Rattle.vault_shelf.specs.ShelfView.{CanSend, HasRoom, Keeps, put_in};
 
-use crate::VaultCommand;
+use crate::{ShelfFault, VaultCommand};
 use client_registry::HashKeys;
-use def_vault::ShelfFault;
 use indexmap::IndexMap;
 use std::alloc::{AllocError, Global};
 use std::marker::Model;

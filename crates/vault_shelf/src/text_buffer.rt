@@ -1,6 +1,6 @@
 ghost use Rattle.std.specs.Prelude.{◌≡◌, ◌≢◌, ◌≤◌, ◌++◌, [], IfOk, OnOk, length, take};
-ghost use Rattle.def_vault.specs.VaultSessions.{sealed_by};
-ghost use Rattle.def_vault.specs.VaultTexts.{fetched_text};
+ghost use Rattle.vault_shelf.specs.VaultSessions.{sealed_by};
+ghost use Rattle.vault_shelf.specs.VaultTexts.{fetched_text};
 ghost use Rattle.keyed_fn.specs.KeyedFn.{keyed_fn};
 ghost use Rattle.keyed_fn.specs.VaultFormulas.{tagged_text, vault_pad, vault_tag};
 ghost use Rattle.keyed_fn.specs.Xored.{xored};

@@ -1,7 +1,7 @@
 ghost use Rattle.std.specs.Prelude.{◌≡◌, ◌<◌, ◌++◌, OnOk, length, unwrap_or};
 ghost use Rattle.std.specs.List.{AllByRecursion, flat_map};
-ghost use Rattle.def_vault.specs.Shelves as meant;
-ghost use Rattle.def_vault.specs.VaultSessions.{draw_by, sent_by};
+ghost use Rattle.vault_shelf.specs.Shelves as meant;
+ghost use Rattle.vault_shelf.specs.VaultSessions.{draw_by, sent_by};
 ghost use Rattle.keyed_fn.specs.KeyedFn.{keyed_fn};
 ghost use Rattle.keyed_fn.specs.VaultFormulas.{vault_slot};
 ghost use Rattle.vault_server.specs.VaultFrames.{DropFrame, FetchFrame, InVault, vault_bytes};

@@ -1,7 +1,8 @@
 use Rattle.std.proofs.Common.{List, ℕ, [], ◌∷◌, ◌++◌, refl, ap, ◌∙◌}
 use Rattle.sse_outside.specs.Kept.{with_refused}
-use Rattle.def_vault.specs.ClientRecords.{mark_record}
+use Rattle.vault_shelf.specs.ClientRecords.{mark_record}
 use Rattle.doc_vault.specs.CommandRuns.{NotTaken}
+use Rattle.doc_vault.proofs.RecordersLeft.{leaves-refused, leaves-same, leaves-taken}
 use Rattle.doc_vault.proofs.beginning.keep_mark.Goals as goal
 
 pub returns-in-Err-clause-kept : goal.returns-in-Err-clause-kept
@@ -9,3 +10,12 @@ returns-in-Err-clause-kept g c =
     NotTaken c.in-Err.fault refl
     (c.in-Err.ensures.refused
     ∙ ap (λ (payload : List ℕ). with_refused (payload ∷ []) (g.R.Recorder.kept c.args.recorder.now)) (c.in_ok-write_mark_record.ensures ∙ ap (λ (front : List ℕ). front ++ mark_record c.args.mark.now) c.new-payload.ensures.items))
+
+pub returns-in_err-write_mark_record-clause-recorder : goal.returns-in_err-write_mark_record-clause-recorder
+returns-in_err-write_mark_record-clause-recorder g c = leaves-same g.R.Recorder.kept g.R.Recorder.moment g.R.Recorder.left_since g.R.Recorder.whole c.args.recorder.now c.requires (g.met.R.Recorder.at_rest c.args.recorder.now c.requires)
+
+pub returns-in-Ok-clause-recorder : goal.returns-in-Ok-clause-recorder
+returns-in-Ok-clause-recorder g c = leaves-taken g.R.Recorder.kept g.R.Recorder.moment g.R.Recorder.left_since g.R.Recorder.whole c.args.recorder.now c.keep.new.self c.in-Ok.ensures.keeps_on c.in-Ok.ensures.whole_after
+
+pub returns-in-Err-clause-recorder : goal.returns-in-Err-clause-recorder
+returns-in-Err-clause-recorder g c = leaves-refused g.R.Recorder.kept g.R.Recorder.moment g.R.Recorder.left_since g.R.Recorder.whole c.args.recorder.now c.keep.new.self _ c.in-Err.ensures.keeps_on c.in-Err.ensures.refused

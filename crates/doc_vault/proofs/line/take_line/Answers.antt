@@ -1,9 +1,10 @@
 use Rattle.std.proofs.Common.{ℕ, List, refl, sym, ap, ◌∙◌, Some}
 use Rattle.keyed_fn.specs.KeyedFn.{keyed_fn}
-use Rattle.def_vault.specs.Shelves.{Put}
+use Rattle.vault_shelf.specs.Shelves.{Put}
 use Rattle.vault_script.specs.VaultLineViews.{vault_line_view}
 use Rattle.vault_script.specs.declared.vault_line.VaultLine.{VaultLine}
 use Rattle.doc_vault.proofs.LinesTaken.{turns-command, turns-empty}
+use Rattle.doc_vault.proofs.RecordersLeft.{leaves-same}
 use Rattle.doc_vault.proofs.line.take_line.Goals as goal
 
 pub returns-in-Empty-clause-turn : goal.returns-in-Empty-clause-turn
@@ -24,3 +25,9 @@ pub returns-in-Get-clause-turn : goal.returns-in-Get-clause-turn
 returns-in-Get-clause-turn g c s bytes keeps reads =
     turns-command (keyed_fn g.K.Keyed.prf g.K.Keyed.pad) c.args.tools.now.keys s c.args.number bytes _ _ (reads ∙ ap (λ (line : VaultLine). Some (vault_line_view line)) c.in-Get.is) refl
     _ _ _ c.take_command-in-Get.result (c.take_command-in-Get.ensures.turn s bytes keeps)
+
+pub returns-in-Empty-clause-recorder : goal.returns-in-Empty-clause-recorder
+returns-in-Empty-clause-recorder g c = leaves-same g.R.Recorder.kept g.R.Recorder.moment g.R.Recorder.left_since g.R.Recorder.whole c.args.recorder.now c.requires.whole (g.met.R.Recorder.at_rest c.args.recorder.now c.requires.whole)
+
+pub returns-in-Key-clause-recorder : goal.returns-in-Key-clause-recorder
+returns-in-Key-clause-recorder g c = leaves-same g.R.Recorder.kept g.R.Recorder.moment g.R.Recorder.left_since g.R.Recorder.whole c.args.recorder.now c.requires.whole (g.met.R.Recorder.at_rest c.args.recorder.now c.requires.whole)

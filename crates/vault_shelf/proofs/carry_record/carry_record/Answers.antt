@@ -1,6 +1,6 @@
 use Rattle.std.proofs.Common.{◌≡◌, ◌∷◌, [], sym, ap, ◌∙◌, subst}
-use Rattle.def_vault.proofs.Fronts.{shelf_of-append}
-use Rattle.def_vault.specs.Shelves.{empty_shelf, shelf_after, shelf_of}
+use Rattle.vault_shelf.proofs.Fronts.{shelf_of-append}
+use Rattle.vault_shelf.specs.Shelves.{empty_shelf, shelf_after, shelf_of}
 use Rattle.vault_shelf.specs.CommandView.{command_view}
 use Rattle.vault_shelf.specs.ShelfView.{Keeps}
 use Rattle.vault_shelf.proofs.RecordGrammar.{one_command}

@@ -1,9 +1,0 @@
-pub mod Shelves
-pub mod ShelfFaults
-pub mod VaultSessions
-pub mod Standing
-pub mod VaultLeaking
-pub mod VaultNames
-pub mod VaultTexts
-pub mod ClientRecords
-pub mod Scans

@@ -1,0 +1,11 @@
+pub mod Endings
+pub mod Forgeries
+pub mod Meanings
+pub mod WholeRuns
+pub mod ResumedRuns
+pub mod OnDisk
+pub mod OnlyRead
+pub mod Recoveries
+pub mod CatchingUp
+pub mod Restorings
+pub mod Resumptions
