@@ -21,7 +21,7 @@ if TYPE_CHECKING:
 
 VARIABLE = "SSE_ARCHIVE"
 # the commands that work in an archive's folder
-IN_FOLDER = {"index", "search", "show", "status", "leaks", "check", "renew", "backup", "lock"}
+IN_FOLDER = {"index", "search", "show", "status", "leaks", "check", "renew", "set", "backup", "lock"}
 # what the kept process answers: lines. KEY comes before a key command, whose digits it waits for; or FAILED with a status and why
 TAKEN, BUSY, OTHER, STATUS, KEY = b"taken\n", b"busy\n", b"other\n", b"status ", b"key "
 FAILED = b"failed "

@@ -5,6 +5,7 @@ import os
 import random
 from typing import Callable, List, Tuple
 
+from . import vault
 from .key import mark_of
 from .opened import Opened, nothing_indexed
 from .progress import Progress
@@ -42,6 +43,8 @@ def check(archive: Opened, progress: Progress) -> int:
     has_texts = look("texts", lambda: texts(archive)) if has_journal or archive_opens(archive) else False
     if archive_opens(archive) and has_key and look("server", lambda: server(archive)) and has_texts:
         look("searches", lambda: searches(archive, progress))
+    if archive.folder.settings.vault and has_texts:
+        look("vault", lambda: (0, vault.looked_through(archive, archive.texts())))
     progress.end()
     print("check:    " + ("nothing is wrong" if not found else f"{len(found)} of these parts need something to be done"))
     return found[0] if found else 0

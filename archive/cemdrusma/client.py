@@ -14,7 +14,7 @@ from . import programs
 from .folder import Folder
 from .journal import JOURNAL, MAGIC
 from .report import on_a_line, say
-from .settings import SETTINGS
+from .settings import SETTINGS, Settings
 from .statuses import (BUSY, COLLISION, DISK, LINK, MEMORY, NO_JOURNAL, OLDER_SERVER, OTHER_KEY, OTHER_SERVER, SERVER_ENDED, Trouble)
 
 RUN, MORE = "run", "more"
@@ -23,6 +23,8 @@ NOTICE, LOOK = 1, 0.1
 # after how many seconds without a greeting sse_net itself gives up, some less
 SILENT = 55
 READ_BYTES = 2**16
+# what sse_net prints if the server has no owner of the archive's number: its one reply, `out of place`
+UNKNOWN_OWNER = "stopped: reply 000000018a"
 # a journal without a record
 EMPTY_BYTES = len(MAGIC) + 1
 
@@ -31,11 +33,14 @@ class Session:
     """One run of the program, from its start to its end. It has the archive's lock as well, so that the folder stays locked if this
     process is killed and that one still has lines to carry out."""
 
-    def __init__(self, folder: Folder, mode: str, place: Optional[str] = None, server: Optional[str] = None) -> None:
+    # the program and its journal in the folder; the server's program and what that holds; and the options that name another server
+    program, journal, served, holds, option, renewal = "sse_net", JOURNAL, "sse_served", "lists", "--server", "--server ADDRESS"
+
+    def __init__(self, folder: Folder, mode: str, place: Optional[str] = None, settings: Optional[Settings] = None) -> None:
         self.folder, self.mode = folder, mode
-        self.server = server or folder.settings.server
+        self.server, self.owner = self.server_in(settings or folder.settings), self.owner_in(settings or folder.settings)
         # how another server is named
-        self.naming = "by --server" if server else f"in {folder.shown(SETTINGS)}"
+        self.naming = f"by {self.option}" if settings else f"in {folder.shown(SETTINGS)}"
         # words have to be text, which the folder's name needn't be: so the program works in the folder of the journal
         self.place = place or folder.path
         self.has_begun = False
@@ -43,7 +48,7 @@ class Session:
         self.buffer = b""
         self.started = self.used = time.monotonic()
         self.waited = 0.0
-        self.process = programs.begin("sse_net", self.server, JOURNAL, mode, cwd=self.place, pass_fds=[folder.lock],
+        self.process = programs.begin(self.program, self.server, self.journal, *words_of(self.owner), mode, cwd=self.place, pass_fds=[folder.lock],
                                       stderr=subprocess.DEVNULL)
         try:
             programs.SIGNALS.release()
@@ -51,7 +56,16 @@ class Session:
             self.process.kill()
             raise
 
-    def __enter__(self) -> "Session":
+    def server_in(self, settings: Settings) -> str:
+        return settings.server
+
+    def owner_in(self, settings: Settings) -> Optional[int]:
+        return settings.owner
+
+    def key_place(self) -> str:
+        return self.folder.key_place()
+
+    def __enter__(self):  # type: ignore[no-untyped-def]
         return self
 
     def __exit__(self, kind: object, *_: object) -> None:
@@ -166,7 +180,7 @@ class Session:
         """Whether the server has answered. A run that begins says so by its first record, which is kept only after that."""
         if not self.has_begun and self.mode == RUN:
             try:
-                self.has_begun = os.path.getsize(os.path.join(self.place, JOURNAL)) > EMPTY_BYTES
+                self.has_begun = os.path.getsize(os.path.join(self.place, self.journal)) > EMPTY_BYTES
             except OSError:
                 pass
         return self.has_begun
@@ -223,11 +237,14 @@ def busy(address: str, said: str) -> Trouble:
 
 def trouble_of(session: Session, line: str, status: int) -> Trouble:
     """What to do if the program has stopped with this line and status. Its own line comes last."""
-    folder, address = session.folder, session.server
-    said = f" (sse_net: {line or f'ended with {status}'})"
-    journal = on_a_line(os.path.join(session.place, JOURNAL))
+    address, renew = session.server, f"`archive renew {session.renewal}`"
+    said = f" ({session.program}: {line or f'ended with {status}'})"
+    journal = on_a_line(os.path.join(session.place, session.journal))
     if status == LINK:
         return link_trouble(session, said)
+    if status == OTHER_SERVER and line == UNKNOWN_OWNER and session.owner is not None and not session.is_begun():
+        return Trouble(OTHER_SERVER, f"the server at {address} has no owner {session.owner}: start it with this number among those after its word `owners`, or "
+                       f"correct `owner` in {session.folder.shown(SETTINGS)}{said}")
     if status == OTHER_SERVER and line.startswith("stopped: server is at "):
         return number_trouble(session, line, said)
     told = {
@@ -235,30 +252,35 @@ def trouble_of(session: Session, line: str, status: int) -> Trouble:
               "command again; nothing is lost",
         MEMORY: f"out of memory on this machine or at the server {address}: free some and run the command again",
         COLLISION: "two values that must differ are equal, by chance or because the server isn't honest: run the command again; if it "
-                   "stops once more, `archive renew --server ADDRESS` with a server over a new file",
-        OTHER_SERVER: f"what answers at {address} isn't sse_served, or isn't this archive's: name another address {session.naming}",
-        NO_JOURNAL: f"{journal} isn't what this archive left there: put the folder back from a copy and run `archive renew --server ADDRESS`",
-        OTHER_KEY: f"{folder.key_place()} isn't the key of {journal}: put back the one that this archive was begun with; if there is none, "
-                   "`archive renew --server ADDRESS` makes a new key and sets all up again",
+                   f"stops once more, {renew} with a server over a new file",
+        OTHER_SERVER: f"what answers at {address} isn't {session.served}, or isn't this archive's: name another address {session.naming}",
+        NO_JOURNAL: f"{journal} isn't what this archive left there: put the folder back from a copy and run {renew}",
+        OTHER_KEY: f"{session.key_place()} isn't the key of {journal}: put back the one that this archive was begun with; if there is none, "
+                   f"{renew} makes a new key and sets all up again",
     }
     return Trouble(status or 1, told.get(status, "the client has stopped") + said)
 
 
+def words_of(owner: Optional[int]) -> List[str]:
+    """The words by which a client says whose frames follow, to a server of many owners."""
+    return [] if owner is None else ["as", str(owner)]
+
+
 def number_trouble(session: Session, line: str, said: str) -> Trouble:
     """What to do if the server expects another update than the client."""
-    folder, address = session.folder, session.server
+    address, renew = session.server, f"`archive renew {session.renewal}`"
     got, _, high = (int(number) for number in re.findall(r"\d+", line)[:3])
     if high == 0:
-        return Trouble(OTHER_SERVER, f"the server at {address} has lists already, and this archive has none there: start one over a file of its own "
-                       f"(sse_served ADDRESS FILE) and name it {session.naming}; if {folder.shown(JOURNAL)} was lost, put the "
-                       f"folder back from a copy and run `archive renew --server ADDRESS`{said}")
+        return Trouble(OTHER_SERVER, f"the server at {address} has {session.holds} already, and this archive has none there: start one over a file of its own "
+                       f"({session.served} ADDRESS FILE) and name it {session.naming}; if {session.folder.shown(session.journal)} was lost, put the "
+                       f"folder back from a copy and run {renew}{said}")
     if got < high:
         return Trouble(OLDER_SERVER, f"the server at {address} has {got} of the {high} updates that it took: its file is an older copy, or it is another "
                        "archive's. Start this archive's server over its newest file; if there is none, start one over a new file and run "
-                       f"`archive renew --server ADDRESS`{said}")
+                       f"{renew}{said}")
     return Trouble(OTHER_SERVER, f"the server at {address} has {got} updates and this archive sent {high}: it is another archive's, or this folder is an "
                    f"older copy. Name its own server's address {session.naming}, or start a server over a new file and run "
-                   f"`archive renew --server ADDRESS`{said}")
+                   f"{renew}{said}")
 
 
 def link_trouble(session: Session, said: str, is_silent: bool = False) -> Trouble:
@@ -272,8 +294,8 @@ def link_trouble(session: Session, said: str, is_silent: bool = False) -> Troubl
         with socket.create_connection((host.strip("[]"), int(port)), timeout=5):
             if is_silent or session.waited > SILENT:
                 return busy(address, said)
-            why = f"what answers at {address} ended the connection: see what sse_served prints there, or name another address {session.naming}"
+            why = f"what answers at {address} ended the connection: see what {session.served} prints there, or name another address {session.naming}"
     except (OSError, ValueError) as error:
-        why = (f"nobody listens at {address} ({getattr(error, 'strerror', None) or error}): start the server there, `sse_served {address} "
+        why = (f"nobody listens at {address} ({getattr(error, 'strerror', None) or error}): start the server there, `{session.served} {address} "
                "FILE` with this archive's FILE")
     return Trouble(LINK, f"{why}. Then run the command again; nothing is lost{said}")

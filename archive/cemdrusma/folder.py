@@ -7,6 +7,8 @@
 | journal | the records of sse_net, which decide what is indexed |
 | texts | where texts are, what they held last and under which identifiers: texts_file.py |
 | searches | the words that were searched, each after how many records of the journal |
+| vault.key | the key of the vault, which keeps the texts, if the archive has one |
+| vault | the records of sse_vault, which decide what is at the vault: vault_journal.py |
 | lock | where the kept process listens, if there is one; whoever works in the folder has it locked |
 | attempts | how often something was to be sent: state.py |
 | renewed | while `archive renew` runs: the files that are to take the places of those above |
@@ -18,22 +20,26 @@ from __future__ import annotations
 import contextlib
 import fcntl
 import os
-from typing import Callable, Dict, List, Optional, Tuple
+from typing import Callable, List, Optional, Tuple
 
 from . import key, state
 from .files import sync_folder, write_whole
 from .journal import JOURNAL, Journal
 from .key import KEY
 from .report import on_a_line
-from .settings import SETTINGS, SIZES, Settings
+from .settings import SETTINGS, Settings
 from .state import ATTEMPTS, State
 from .statuses import DISK, KEY_COMMAND, LOCKED, WORDS, Trouble
+from .vault_journal import VAULT, VAULT_KEY, VaultJournal
 
 TEXTS, SEARCHES, LOCK, RENEWED = "texts", "searches", "lock", "renewed"
 # what takes the places of the archive's files once a new server has answered; and the file that says that it has
-TAKES_PLACE = (KEY, JOURNAL, ATTEMPTS, TEXTS, SEARCHES, SETTINGS)
+TAKES_PLACE = (KEY, JOURNAL, VAULT_KEY, VAULT, ATTEMPTS, TEXTS, SEARCHES, SETTINGS)
 READY = "ready"
+# what stays if the renewed archive has none: without a vault now, its texts are still there
+IS_KEPT = (VAULT_KEY, VAULT)
 VARIABLE = "SSE_ARCHIVE"
+VAULT_RENEWAL = "`archive renew --server ADDRESS --vault ADDRESS` makes new keys and puts all texts again"
 
 Search = Tuple[int, str]
 
@@ -53,7 +59,7 @@ def read_settings(folder: str) -> Settings:
                       "or make one by `archive new FOLDER --server ADDRESS`") from None
     except (KeyError, ValueError):
         raise Trouble(WORDS, f"{on_a_line(path)} isn't as it should be: lines `server ADDRESS`, `b 64`, `B 256` and "
-                      "`Q 4096`, with the numbers of `archive new`; `keep` and `wait`, if they are there, with seconds") from None
+                      "`Q 4096`, with the numbers of `archive new`; `vault`, if it is there, with an address, and `keep` and `wait` with seconds") from None
 
 
 class Folder:
@@ -117,7 +123,7 @@ class Folder:
                 made = os.path.join(renewed, name)
                 if os.path.exists(made):
                     os.replace(made, self.of(name))
-                elif name not in names and os.path.exists(self.of(name)):
+                elif name not in names and name not in IS_KEPT and os.path.exists(self.of(name)):
                     os.remove(self.of(name))
             sync_folder(self.path)
             for name in os.listdir(renewed):
@@ -137,6 +143,9 @@ class Folder:
         """The key's digits."""
         command = self.settings.key_command
         return key.key_of_command(command) if command else key.key_in(self.of(KEY))
+
+    def vault_key(self) -> str:
+        return key.key_in(self.of(VAULT_KEY), VAULT_RENEWAL)
 
     def key_place(self) -> str:
         return f"what `{on_a_line(self.settings.key_command)}` prints" if self.settings.key_command else self.shown(KEY)
@@ -174,7 +183,7 @@ class Folder:
         write_whole(self.of(SEARCHES), "".join(f"{count} {word}\n" for count, word in searches).encode())
 
 
-def make(path: str, server: str, sizes: Dict[str, int], key_command: str) -> None:
+def make(path: str, settings: Settings) -> None:
     """A new archive. Its folder is made beside its place, and is whole once it is there."""
     import shutil  # pylint: disable=import-outside-toplevel
     import tempfile  # pylint: disable=import-outside-toplevel
@@ -187,13 +196,13 @@ def make(path: str, server: str, sizes: Dict[str, int], key_command: str) -> Non
         raise Trouble(WORDS, f"{shown} is no empty folder: name one that isn't there yet")
     if os.path.lexists(path) and os.path.samefile(path, os.curdir):
         raise Trouble(WORDS, f"{shown} is the current folder, which a new one would take the place of: run `archive new` from the folder above it")
-    digits = new_key(key_command, lambda *_: True)
+    digits = new_key(settings.key_command, lambda *_: True)
     above = os.path.dirname(path)
     made = None
     try:
         os.makedirs(above, exist_ok=True)
         made = tempfile.mkdtemp(prefix=os.path.basename(path) + ".", dir=above)
-        fill(made, digits, Settings(server, {name: sizes[name] for name in SIZES}, key_command))
+        fill(made, digits, settings)
         os.rename(made, path)
         sync_folder(above)
     except OSError as error:
@@ -201,8 +210,14 @@ def make(path: str, server: str, sizes: Dict[str, int], key_command: str) -> Non
     finally:
         if made:
             shutil.rmtree(made, ignore_errors=True)
-    place = f"printed by `{on_a_line(key_command)}`" if key_command else f"in {on_a_line(os.path.join(asked, KEY))}"
+    place = f"printed by `{on_a_line(settings.key_command)}`" if settings.key_command else f"in {on_a_line(os.path.join(asked, KEY))}"
     print(f"the key is {place}: keep a copy of it elsewhere, since nothing at the server can be found without it")
+    if settings.vault:
+        tell_vault_key(os.path.join(asked, VAULT_KEY))
+
+
+def tell_vault_key(path: str) -> None:
+    print(f"the vault's key is in {on_a_line(path)}: keep a copy of it elsewhere, since the texts come back from it alone")
 
 
 def new_key(key_command: str, is_taken: Callable[[bytes, State], bool]) -> str:
@@ -225,4 +240,13 @@ def fill(folder: str, digits: str, settings: Settings) -> None:
         state.remember(Journal(folder), mark)
     if not settings.key_command:
         write_whole(os.path.join(folder, KEY), (digits + "\n").encode())
+    if settings.vault:
+        fill_vault(folder)
     write_whole(os.path.join(folder, SETTINGS), settings.text().encode())
+
+
+def fill_vault(folder: str) -> None:
+    """Writes a new vault's key into a folder in which its journal isn't there, after what this machine is to remember of it."""
+    digits = os.urandom(32).hex()
+    state.remember(VaultJournal(folder), key.mark_of(digits))
+    write_whole(os.path.join(folder, VAULT_KEY), (digits + "\n").encode())

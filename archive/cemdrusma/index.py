@@ -6,15 +6,16 @@ import collections
 import os
 import random
 import secrets
-from typing import Counter, DefaultDict, Dict, Iterable, Iterator, List, Optional, Sequence, Set, Tuple
+from typing import Counter, DefaultDict, Dict, Iterable, Iterator, List, Optional, Sequence, Set, Tuple, Union
 
-from . import limits, sources, state
+from . import limits, sources, state, vault
 from .client import RUN, Session
 from .journal import Journal
 from .opened import Opened, nothing_indexed
 from .progress import Progress
 from .report import on_a_line, say
 from .statuses import REFUSED, WORDS, Trouble
+from .storing import Counts
 from .texts_file import Source, Text, Texts, names_lost
 
 # identifiers are drawn below the larger of these: short ones, and many more than there are
@@ -26,6 +27,8 @@ def index(archive: Opened, asked: Sequence[str], with_gone: bool, progress: Prog
     """Prints what was done, and returns the status. Key, journal and server are opened even if there is nothing to be sent, so that a
     broken archive isn't taken for one without news."""
     archive.allow_updates()
+    if archive.folder.settings.vault:
+        vault.mark_to_update(archive)
     journal, texts = archive.journal(), archive.texts()
     if not texts.is_there and journal.live and not asked:
         raise names_lost(archive.folder, len(journal.live))
@@ -42,14 +45,29 @@ def index(archive: Opened, asked: Sequence[str], with_gone: bool, progress: Prog
     plan.counts[NEW] -= planned - len(texts.every())
     texts.settle()
     texts.keep()
+    stored = stored_then(archive, plan, progress)
     progress.end()
     plan.reading.tell()
     for line, count in refused.items():
         say(f"{line} ({count} times)" if count > 1 else line)
     print("indexed: " + ", ".join(f"{plan.counts[what]:,} {what}" for what in (NEW, CHANGED, MOVED, GONE, BEFORE)))
+    if isinstance(stored, Trouble):
+        raise stored
+    if stored:
+        print(f"stored: {stored.put:,} put, {stored.dropped:,} dropped, {stored.stayed:,} as before")
     if plan.reading.places:
         say("what couldn't be read stays as it was indexed before")
     return REFUSED if plan.reading.places or refused else 0
+
+
+def stored_then(archive: Opened, plan: "Plan", progress: Progress) -> Union[None, Counts, Trouble]:
+    """What was stored, if the archive has a vault; or why it couldn't be, which is said after what was indexed."""
+    if not archive.folder.settings.vault:
+        return None
+    try:
+        return vault.store(archive, plan.reading, progress)
+    except Trouble as error:
+        return error
 
 
 class Plan:

@@ -74,20 +74,14 @@ def words_at(content: Content, place: int, count: int) -> Iterator[str]:
         place = end
 
 
-class Journal:
-    """What the journal says."""
+class Records:
+    """The records of a journal in an archive's folder, each of which is taken once."""
 
-    def __init__(self, folder: str) -> None:
+    def __init__(self, folder: str, name: str) -> None:
         self.folder = folder
-        self.path = os.path.join(folder, JOURNAL)
+        self.path = os.path.join(folder, name)
         self.bytes = 0
         self.ends: List[int] = []  # the place after each record
-        self.live: Dict[int, Tuple[int, int]] = {}  # identifier: how many words, and where the first one begins
-        self.used: Set[int] = set()  # identifiers of documents that are there or were deleted
-        # each document that was ever sent, in the order of the file: where its words begin and end, and its identifier
-        self.starts: List[int] = []
-        self.stops: List[int] = []
-        self.identifiers: List[int] = []
         self.content: Content = b""
         self.go_on()
 
@@ -131,6 +125,23 @@ class Journal:
             return b""
         except OSError as error:
             raise Trouble(DISK, f"{on_a_line(self.path)} can't be read: {error.strerror}. Mend that and run the command again; nothing is lost") from error
+
+    def take(self, begin: int, end: int) -> None:
+        """Takes the record whose payload is between these places, or raises NoJournal and stays as it was."""
+        raise NotImplementedError
+
+
+class Journal(Records):
+    """What the journal of the index says."""
+
+    def __init__(self, folder: str) -> None:
+        self.live: Dict[int, Tuple[int, int]] = {}  # identifier: how many words, and where the first one begins
+        self.used: Set[int] = set()  # identifiers of documents that are there or were deleted
+        # each document that was ever sent, in the order of the file: where its words begin and end, and its identifier
+        self.starts: List[int] = []
+        self.stops: List[int] = []
+        self.identifiers: List[int] = []
+        super().__init__(folder, JOURNAL)
 
     def take(self, begin: int, end: int) -> None:
         if not self.ends and self.content[begin] not in SETUPS:

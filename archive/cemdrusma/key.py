@@ -23,8 +23,8 @@ def mark_of(digits: str) -> bytes:
     return hmac.digest(bytes.fromhex(digits), bytes([MARK_PART]), "sha256")[:MARK_BYTES]
 
 
-def key_in(path: str) -> str:
-    """The digits in a file."""
+def key_in(path: str, renewal: str = "`archive renew --server ADDRESS` makes a new key and sets all up again") -> str:
+    """The digits in a file; and what to do if there is no copy of it."""
     try:
         with open(path, encoding="ascii") as file:
             if os.fstat(file.fileno()).st_mode & 0o077:
@@ -32,12 +32,12 @@ def key_in(path: str) -> str:
             digits = file.read().strip()
     except FileNotFoundError:
         raise Trouble(NO_KEY, f"{on_a_line(path)} isn't there, and nothing can be searched or sent without it: put the key back from a "
-                      "copy; if there is none, `archive renew --server ADDRESS` makes a new key and sets all up again") from None
+                      f"copy; if there is none, {renewal}") from None
     except ValueError:
         digits = ""
     if not DIGITS.fullmatch(digits):
         raise Trouble(NO_KEY, f"{on_a_line(path)} holds no key of 64 hexadecimal digits: put it back from a copy; if there is none, "
-                      "`archive renew --server ADDRESS` makes a new key and sets all up again")
+                      f"{renewal}")
     return digits
 
 

@@ -13,9 +13,13 @@ from .key import KEY, mark_of
 from .settings import SETTINGS
 from .statuses import NO_JOURNAL, OTHER_SERVER, SERVER_ENDED, LINK, WORDS, Trouble
 from .texts_file import Texts
+from .vault_journal import VAULT, VAULT_KEY, VaultJournal
 
 # the server ends a connection over which nothing came for 60 seconds: it is ended here before, in seconds
 IDLE = 50
+# the files whose change, by whatever, has a kept process read all of them again; and the variables
+WATCHED = (JOURNAL, KEY, SETTINGS, TEXTS, VAULT, VAULT_KEY)
+VARIABLES = ("SSE_NET", "SSE_LEAKS", "SSE_VAULT", "HOME", state.VARIABLE)
 
 Signature = Optional[Tuple[int, ...]]
 
@@ -44,8 +48,8 @@ class Opened:
     def refresh(self) -> None:
         """What a command of a kept process begins with: what isn't as it was left is forgotten."""
         self.folder.settings = self.folder.read_settings()
-        environment = tuple(os.environ.get(name) for name in ("SSE_NET", "SSE_LEAKS", "HOME", state.VARIABLE))
-        watched = {name: signature(self.folder.of(name)) for name in (JOURNAL, KEY, SETTINGS, TEXTS)}
+        environment = tuple(os.environ.get(name) for name in VARIABLES)
+        watched = {name: signature(self.folder.of(name)) for name in WATCHED}
         if environment != self.environment or any(watched[name] != left for name, left in self.known.get("left", {}).items()):
             self.forget()
         self.environment = environment
@@ -53,7 +57,7 @@ class Opened:
     def leave(self) -> None:
         """What a command ends with."""
         self.digits = self.no_key = None
-        self.known["left"] = {name: signature(self.folder.of(name)) for name in (JOURNAL, KEY, SETTINGS, TEXTS)}
+        self.known["left"] = {name: signature(self.folder.of(name)) for name in WATCHED}
 
     def forget(self) -> None:
         self.known = {}
@@ -80,6 +84,11 @@ class Opened:
         if JOURNAL not in self.known:
             self.known[JOURNAL] = Journal(self.folder.path)
         return self.known[JOURNAL]
+
+    def vault_journal(self) -> VaultJournal:
+        if VAULT not in self.known:
+            self.known[VAULT] = VaultJournal(self.folder.path)
+        return self.known[VAULT]
 
     def texts(self) -> Texts:
         """The texts as the journal has them."""

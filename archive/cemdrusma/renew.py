@@ -8,12 +8,12 @@ import os
 import random
 import secrets
 import shutil
-from typing import Dict, Iterable, List, Sequence, Set, Tuple
+from typing import Dict, Iterable, List, Optional, Sequence, Set, Tuple
 
-from . import key, state
+from . import key, sources, state
 from .client import MORE, RUN, Session
 from .files import sync_folder, write_whole
-from .folder import READY, RENEWED, SEARCHES, TAKES_PLACE, TEXTS, Folder, fill, new_key
+from .folder import READY, RENEWED, SEARCHES, TAKES_PLACE, TEXTS, Folder, fill, fill_vault, new_key, tell_vault_key
 from .index import LEAST_RANGE, RANGE_FOR_EACH, first_setup, lines_of
 from .journal import Journal
 from .key import KEY
@@ -21,14 +21,17 @@ from .opened import Opened, no_journal, nothing_indexed
 from .progress import Progress
 from .report import counted, nearer, on_a_line
 from .settings import Settings
-from .statuses import DISK, LOCKED, OLDER_SERVER, OTHER_SERVER, WORDS, Trouble
+from .statuses import DISK, LOCKED, NO_JOURNAL, NO_STATE, OLDER_JOURNAL, OLDER_SERVER, OTHER_KEY, OTHER_SERVER, REFUSED, WORDS, Trouble
+from .storing import Counts, Storing, Wanted, part_again
+from .vault import plan
+from .vault_journal import VAULT, VAULT_KEY, VaultJournal
 
 # which identifier each document gets, of which journal, and at which server
 PLAN = "plan"
 
 
-def renew(archive: Opened, server: str, key_command: str, progress: Progress) -> int:
-    """Sets all up again, and prints what was done. Returns the status."""
+def renew(archive: Opened, server: str, owner: Optional[int], key_command: str, new_vault: str, progress: Progress) -> int:
+    """Sets all up again, as the same owner if no other is given, and prints what was done. Returns the status."""
     folder, journal = archive.folder, archive.journal()
     if not journal.records:
         if archive.texts().records:
@@ -37,9 +40,15 @@ def renew(archive: Opened, server: str, key_command: str, progress: Progress) ->
     if folder.settings.key_command and not key_command:
         raise Trouble(WORDS, f"this archive's key is printed by `{on_a_line(folder.settings.key_command)}`: have another key printed, and name that command by "
                       "--key-command")
+    if folder.settings.vault and not new_vault:
+        raise Trouble(WORDS, f"this archive's texts are at the vault {folder.settings.vault}, whose key is renewed too: start a vault over a new file, and name its address "
+                      "by --vault")
     archive.texts()
     archive.end_session()
-    renewed = Renewed(archive, server, key_command, progress)
+    known = folder.settings
+    settings = Settings(server, known.sizes, key_command, owner=known.owner if owner is None else owner, vault=new_vault)
+    settings.seconds, settings.lines = known.seconds, known.lines
+    renewed = Renewed(archive, settings, progress)
     renewed.carry_out()
     count = len(renewed.journal.live)
     archive.forget()
@@ -47,17 +56,24 @@ def renew(archive: Opened, server: str, key_command: str, progress: Progress) ->
     progress.end()
     place = f"what `{on_a_line(key_command)}` prints" if key_command else on_a_line(nearer(folder.of(KEY)))
     print(f"renewed: {counted(count, 'document')} at {server}. The new key is {place}: keep a copy of it elsewhere")
-    print("The old key, the old server and its file aren't needed any more; `archive index` sends what has changed since")
-    return 0
+    if renewed.stored:
+        print(f"stored: {counted(renewed.stored.put + renewed.stored.stayed, 'text')} at {new_vault}")
+        tell_vault_key(nearer(folder.of(VAULT_KEY)))
+    print("The old keys, servers and their files aren't needed any more; `archive index` sends what has changed since" if renewed.stored else
+          "The old key, the old server and its file aren't needed any more; `archive index` sends what has changed since")
+    renewed.reading.tell()
+    return REFUSED if renewed.reading.places else 0
 
 
 class Renewed:
     """The archive that is to take the place of the one that is there."""
 
-    def __init__(self, archive: Opened, server: str, key_command: str, progress: Progress) -> None:
+    def __init__(self, archive: Opened, settings: Settings, progress: Progress) -> None:
         self.folder: Folder = archive.folder
         self.old, self.texts = archive.journal(), archive.texts()
-        self.server, self.key_command, self.progress = server, key_command, progress
+        self.settings, self.key_command, self.vault, self.progress = settings, settings.key_command, settings.vault, progress
+        self.stored: Optional[Counts] = None
+        self.reading = sources.Reading()
         self.place = self.folder.of(RENEWED)
         self.identifiers: Dict[int, int] = {}
         self.digits = ""
@@ -81,8 +97,10 @@ class Renewed:
                 state.remember_sent(self.journal, self.mark)
             raise
         self.progress.show("the new server is asked")
-        with Session(self.folder, MORE, self.place, self.server) as session:
+        with Session(self.folder, MORE, self.place, self.settings) as session:
             session.greet(self.digits)
+        if self.vault:
+            self.store()
         self.keep_texts()
         write_whole(self.of(SEARCHES), b"")
         names = [name for name in TAKES_PLACE if os.path.exists(self.of(name))]
@@ -97,10 +115,10 @@ class Renewed:
                 plan = json.load(file)
             self.identifiers = {int(old): new for old, new in plan["identifiers"].items()}
             self.begun = plan.get("key", "")
-            same = plan["server"], plan["key_command"], plan["mark"]
+            same = plan["server"], plan.get("owner"), plan["key_command"], plan["mark"], plan.get("vault", "")
         except (FileNotFoundError, ValueError, KeyError):
             return False
-        return same == (self.server, self.key_command, self.old.mark().hex()) and self.journal.records > 0
+        return same == (self.settings.server, self.settings.owner, self.key_command, self.old.mark().hex(), self.vault) and self.journal.records > 0
 
     def goes_on(self) -> bool:
         """Sends what is missing. Whether that went well: not if the server has begun again."""
@@ -114,7 +132,7 @@ class Renewed:
 
     def has_gone_on(self, mark: bytes) -> bool:
         try:
-            with Session(self.folder, MORE, self.place, self.server) as session:
+            with Session(self.folder, MORE, self.place, self.settings) as session:
                 session.greet(self.digits)
                 self.mark = mark
                 state.begin_attempt(self.journal, mark)
@@ -150,15 +168,12 @@ class Renewed:
             sync_folder(self.folder.path)
         except OSError as error:
             raise Trouble(DISK, f"{on_a_line(self.place)} can't be made: {error.strerror}. Mend that and run the command again") from error
-        known = self.folder.settings
-        settings = Settings(self.server, known.sizes, self.key_command)
-        settings.seconds, settings.lines = known.seconds, known.lines
-        fill(self.place, self.digits, settings)
+        fill(self.place, self.digits, self.settings)
         self.journal = Journal(self.place)
         self.identifiers = {}
         self.add_to_plan()
         documents = [(self.identifiers[identifier], self.old.words(identifier)) for identifier in shuffled(self.wanted)]
-        sizes = [settings.sizes[name] for name in "bBQ"]
+        sizes = [self.settings.sizes[name] for name in "bBQ"]
         count = first_setup([words for _, words in documents], sizes)
         mark = key.mark_of(self.digits)
         with state.held(mark):
@@ -167,7 +182,7 @@ class Renewed:
                 raise Trouble(LOCKED, "another folder has been set up under this key meanwhile: have another key printed, and run the command again")
             self.mark = mark
             state.begin_attempt(self.journal, mark)
-            self.send(documents, count, settings)
+            self.send(documents, count)
 
     def let_go_of_unsent(self) -> None:
         """If nothing was sent under this key, that is remembered before what shows it is removed: a stop between leaves the key as good as it was."""
@@ -183,10 +198,10 @@ class Renewed:
         begun, attempts = self.unsent
         return known.records > 0 or known.attempts > (attempts if mark.hex() == begun else 0)
 
-    def send(self, documents: List[Tuple[int, Sequence[str]]], count: int, settings: Settings) -> None:
+    def send(self, documents: List[Tuple[int, Sequence[str]]], count: int) -> None:
         """A setup of so many documents, and the others as additions."""
-        sizes = [settings.sizes[name] for name in "bBQ"]
-        with Session(self.folder, RUN, self.place, self.server) as session:
+        sizes = [self.settings.sizes[name] for name in "bBQ"]
+        with Session(self.folder, RUN, self.place, self.settings) as session:
             session.greet(self.digits)
             self.progress.show("{:,} documents are set up together", count)
             self.take(session.set_up([*lines_of("doc", documents[:count]), "setup {} {} {}".format(*sizes)]))
@@ -203,9 +218,58 @@ class Renewed:
                 if number not in used:
                     used.add(number)
                     self.identifiers[identifier] = number
-        plan = {"server": self.server, "key_command": self.key_command, "mark": self.old.mark().hex(), "key": key.mark_of(self.digits).hex(),
-                "identifiers": self.identifiers}
+        plan = {"server": self.settings.server, "owner": self.settings.owner, "key_command": self.key_command, "mark": self.old.mark().hex(), "key": key.mark_of(self.digits).hex(),
+                "vault": self.vault, "identifiers": self.identifiers}
         write_whole(self.of(PLAN), json.dumps(plan).encode())
+
+    # The texts.
+
+    def store(self) -> None:
+        """Puts all texts at the new vault. If one that was begun before can't be gone on with, it begins under another key."""
+        is_begun = VaultJournal(self.place).records > 0
+        try:
+            self.store_once()
+        except Trouble as error:
+            if not is_begun or error.status not in (OLDER_SERVER, OTHER_SERVER, OLDER_JOURNAL, NO_STATE, OTHER_KEY, NO_JOURNAL):
+                raise
+            self.store_anew()
+
+    def store_anew(self) -> None:
+        # the journal goes first: with a new key it would be taken for a damaged one
+        os.remove(self.of(VAULT))
+        sync_folder(self.place)
+        fill_vault(self.place)
+        self.store_once()
+
+    def store_once(self) -> None:
+        journal, digits = VaultJournal(self.place), key.key_in(self.of(VAULT_KEY))
+        mark = key.mark_of(digits)
+        with state.held(mark):
+            found = state.standing(journal, mark)
+            if found is not state.Standing.AGREES:
+                raise state.trouble(journal, mark, found)
+            storing = Storing(self.folder, journal, self.settings, self.reading, self.progress)
+            self.plan_texts(storing)
+            self.stored = storing.carry_out(digits, mark)
+
+    def plan_texts(self, storing: Storing) -> None:
+        """The texts as the journal of the old vault has them, whatever became of their files; without one, as their files are."""
+        old = self.old_vault()
+        entries = old.newest_list()[0] if old else {}
+        if not old or not entries:
+            plan(storing, self.texts, self.reading, self.progress)
+            return
+        for entry in entries.values():
+            if storing.before.get(entry.name, entry)._replace(texts=()) == entry._replace(texts=()) and entry.name in storing.before:
+                storing.stay([storing.before[entry.name]])
+            else:
+                storing.wanted.append(Wanted(entry, [part_again(old, text) for text in entry.texts], None))
+
+    def old_vault(self) -> Optional[VaultJournal]:
+        try:
+            return VaultJournal(self.folder.path)
+        except Trouble:
+            return None
 
     # What both do.
 

@@ -4,22 +4,27 @@ from __future__ import annotations
 import os
 from typing import List, Tuple
 
+from . import vault
 from .opened import Opened
 from .printing import print_name, printable
 from .reading import Shelf, held_by
 from .report import nearer, on_a_line, say
-from .statuses import REFUSED, Trouble
+from .statuses import REFUSED, WORDS, Trouble
 from .texts_file import Source, Text, Texts, names_lost
 
 
-def show(archive: Opened, name: str) -> int:
-    """Prints a text as it is now. Returns the status."""
+def show(archive: Opened, name: str, is_stored: bool = False) -> int:
+    """Prints a text as it is now, or as it is at the vault. Returns the status."""
     texts = archive.texts()
     if not texts.is_there and archive.journal().live:
         raise names_lost(archive.folder, len(archive.journal().live))
     found = named(texts, name)
     if not found:
         raise Trouble(REFUSED, f"nothing is indexed as {on_a_line(name)}: give a number that `archive search` prints, or a path")
+    if is_stored and not archive.folder.settings.vault:
+        raise Trouble(WORDS, "this archive has no vault: `archive set vault ADDRESS` names one, and `archive index` puts the texts there")
+    if is_stored and len({source.path for source, _ in found}) == 1:
+        return vault.show_stored(archive, found)
     if len(found) > 1:
         print(f"{on_a_line(name)}: {len(found):,} texts, each shown by its number")
         for _, text in found:

@@ -1,7 +1,7 @@
 """`archive status` and `archive leaks`: what is indexed, and what the server has learned."""
 from __future__ import annotations
 
-from . import programs
+from . import programs, vault
 from .folder import SEARCHES
 from .opened import Opened
 from .progress import Progress
@@ -42,7 +42,20 @@ def status(archive: Opened, is_offline: bool, progress: Progress) -> int:
             raise trouble(journal, journal.mark(), found)
         if not texts.is_there and journal.live:
             raise names_lost(folder, len(journal.live))
+    if folder.settings.vault:
+        tell_vault(archive, is_offline)
     return 0
+
+
+def tell_vault(archive: Opened, is_offline: bool) -> None:
+    print(f"vault:    {archive.folder.settings.vault}", end="", flush=True)
+    try:
+        said = vault.described(archive, archive.texts())
+        line = "" if is_offline else f" ({vault.greeted(archive)})"
+    except Trouble:
+        print(flush=True)
+        raise
+    print(f", {said}{line}")
 
 
 def leaks(archive: Opened, progress: Progress) -> int:

@@ -23,6 +23,8 @@ SERVER_ENDED = 18  # the server ended within an exchange: its disk is full, or i
 NO_TEXTS = 19  # the names of the texts were lost
 NO_STATE = 20  # this machine knows nothing of the archive
 OTHER_ANSWER = 21  # the server answered a search with other documents than those that this archive sent
+NOT_STORED = 22  # texts that are indexed aren't at the vault yet
+FORGED = 23  # the vault handed out a text that isn't the one that was put there
 
 
 class Trouble(Unreadable):

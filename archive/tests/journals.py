@@ -6,6 +6,7 @@ from typing import Dict, List, Sequence
 
 from cemdrusma.journal import MAGIC, Journal
 from cemdrusma.key import mark_of
+from cemdrusma.vault_journal import VaultJournal
 
 DIGITS = "00" * 32
 
@@ -36,3 +37,18 @@ def journal_in(folder: str, records: List[bytes]) -> Journal:
     with open(os.path.join(folder, "journal"), "wb") as file:
         file.write(content_of(records))
     return Journal(folder)
+
+
+def vault_in(folder: str, records: List[bytes], digits: str = DIGITS) -> VaultJournal:
+    """A vault's journal with the mark of its key and these records."""
+    with open(os.path.join(folder, "vault"), "wb") as file:
+        file.write(content_of([b"\x23" + mark_of(digits), *records]))
+    return VaultJournal(folder)
+
+
+def put(identifier: int, piece: bytes) -> bytes:
+    return b"\x21" + identifier.to_bytes(8, "big") + piece
+
+
+def dropped(identifier: int) -> bytes:
+    return b"\x22" + identifier.to_bytes(8, "big")

@@ -32,8 +32,15 @@ class SettingsTest(unittest.TestCase):
         settings.is_state_kept = True
         self.assertEqual(settings.text(), self.whole + "state kept\n")
 
+    def test_the_vault(self) -> None:
+        settings = Settings.of(self.whole + "vault localhost:2\n")
+        self.assertEqual((settings.vault, Settings.of(self.whole).vault), ("localhost:2", ""))
+        self.assertEqual(settings.text(), self.whole + "vault localhost:2\n")
+        settings.vault = ""
+        self.assertNotIn("vault", settings.text())
+
     def test_what_cannot_be_read(self) -> None:
-        for text in ("", "server x\n", self.whole.replace("64", "65"), self.whole.replace("4096", "3"), self.whole.replace(":1", ""), self.whole + "keep x\n", self.whole + "keep 3601\n",
+        for text in ("", "server x\n", self.whole + "vault x\n", self.whole.replace("64", "65"), self.whole.replace("4096", "3"), self.whole.replace(":1", ""), self.whole + "keep x\n", self.whole + "keep 3601\n",
                      self.whole + "wait -1\n"):
             with self.assertRaises((KeyError, ValueError), msg=text):
                 Settings.of(text)
@@ -49,9 +56,9 @@ class FolderTest(unittest.TestCase):
         self.addCleanup(patch.stop)
         self.path = os.path.join(self.place, "archive")
 
-    def make(self, command: str = "") -> Folder:
+    def make(self, command: str = "", vault: str = "") -> Folder:
         with redirect_stdout(io.StringIO()):
-            folder.make(self.path, "localhost:1", SIZES, command)
+            folder.make(self.path, Settings("localhost:1", dict(SIZES), command, vault=vault))
         made = Folder(self.path)
         self.addCleanup(made.close)
         return made
@@ -62,8 +69,19 @@ class FolderTest(unittest.TestCase):
         known = state.read(key.mark_of(made.key()))
         self.assertEqual(known and known.records, 0)
         with self.assertRaises(Trouble) as raised:
-            folder.make(self.path, "localhost:1", SIZES, "")
+            folder.make(self.path, Settings("localhost:1", dict(SIZES)))
         self.assertEqual(raised.exception.status, WORDS)
+
+    def test_a_new_one_with_a_vault(self) -> None:
+        made = self.make(vault="localhost:2")
+        self.assertEqual(sorted(os.listdir(self.path)), ["key", "lock", "settings", "vault.key"])
+        self.assertEqual((os.stat(made.of("vault.key")).st_mode & 0o777, made.vault_key() == made.key()), (0o600, False))
+        known = state.read(key.mark_of(made.vault_key()))
+        self.assertEqual((known and known.records, made.read_settings().vault), (0, "localhost:2"))
+        os.remove(made.of("vault.key"))
+        with self.assertRaises(Trouble) as raised:
+            made.vault_key()
+        self.assertEqual(raised.exception.status, NO_KEY)
 
     def test_one_at_a_time(self) -> None:
         self.make()
