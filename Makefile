@@ -1,4 +1,4 @@
-# make        proves the crates, then builds the programs into bin/: sse_local, sse_leaks, sse_served, sse_net and vault_served
+# make        proves the crates, then builds the programs into bin/: sse_local, sse_leaks, sse_served, sse_net, vault_served and sse_vault
 # make try    runs a script, SCRIPT=examples/first.sse, in a minute, without any proof; keeps nothing
 # make demo   builds only bin/sse_local, runs examples/first.sse, and searches a folder of letters
 # make check  the whole gate: every proof, test, must-fail edit and end-to-end check
@@ -11,7 +11,7 @@
 # make clean  removes what was proved and built in this checkout
 # make help   prints these lines
 
-PROGRAMS = sse_local sse_leaks sse_served sse_net vault_served
+PROGRAMS = sse_local sse_leaks sse_served sse_net vault_served sse_vault
 # the programs that run as a service, each with its unit
 SERVICES = sse_served vault_served
 # the words that a program is first run with, once it is built
@@ -21,6 +21,7 @@ words_sse_bench = prepared 1
 status_sse_served = 2
 status_vault_served = 2
 status_sse_net = 2
+status_sse_vault = 2
 LAST = bin/.seconds
 # what make try runs
 SCRIPT = examples/first.sse

@@ -136,6 +136,16 @@ def server_journal(frames):
     return journal_model.file_of(server_records(frames))
 
 
+def owner_head(owner):
+    """What a connection to a server of many owners begins with."""
+    return leak_model.be(8, owner)
+
+
+def owners_journal(turns):
+    """The journal of a server of many owners that took these, each turn an owner and frames with their replies."""
+    return journal_model.file_of([owner_head(owner) + record for owner, frames in turns for record in server_records(frames)])
+
+
 def client_path(path):
     return path + ".client"
 
@@ -182,23 +192,23 @@ class Server:
         same("the status", self.process.returncode, status)
 
 
-def next_number(server):
+def next_number(server, head=b""):
     """How many update frames the server has taken, as it tells another peer."""
     with server.connect() as peer:
-        peer.sendall(leak_model.framed(1))
+        peer.sendall(head + leak_model.framed(1))
         reply = receive(peer, 9)
     same("the kind of the reply to a greeting", reply[:5], b"\0\0\0\5\x81")
     return int.from_bytes(reply[5:], "big")
 
 
-def client(address, path, mode, script):
-    """What the client's program prints, and its status."""
-    ran = subprocess.run([NET, address, path, mode], input=script, stdout=subprocess.PIPE, timeout=SECONDS, check=False)
+def client(address, path, mode, script, *owner):
+    """What the client's program prints, and its status. At a server of many owners `owner` are the words that name one."""
+    ran = subprocess.run([NET, address, path, *owner, mode], input=script, stdout=subprocess.PIPE, timeout=SECONDS, check=False)
     return ran.stdout, ran.returncode
 
 
-def run(address, path, mode, script, lines, status):
-    printed, ended = client(address, path, mode, script)
+def run(address, path, mode, script, lines, status, *owner):
+    printed, ended = client(address, path, mode, script, *owner)
     same(f"the output of {mode}", printed, lines)
     same(f"the status of {mode}", ended, status)
 

@@ -98,7 +98,7 @@ def clauses_of(lines, start):
     while at + 1 < len(lines):
         at += 1
         line = lines[at]
-        if line.strip() and len(line) - len(line.lstrip()) <= indent and not line.lstrip().startswith(")"):
+        if line.strip() and len(line) - len(line.lstrip()) <= indent and not line.lstrip().startswith(")") and line.strip() != "where":
             break
         block.append(line)
     text = "\n".join(block)
