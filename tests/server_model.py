@@ -151,7 +151,7 @@ class Server:
     def is_in_place(self, frame):
         kind = frame["kind"]
         if kind == 2:
-            return self.stage == 0
+            return self.stage != 1
         if kind in (6, 7, 8):
             return self.stage == 2
         if self.stage != 1:
@@ -178,6 +178,7 @@ class Server:
         kind = frame["kind"]
         self.next += 1
         if kind == 2:
+            self.lists, self.array, self.added, self.revoked = {}, [], {}, set()
             self.stage, self.words, self.blocks, self.b, self.B = 1, frame["words"], frame["blocks"], frame["b"], frame["B"]
         elif kind == 3:
             self.lists.update(frame["entries"])

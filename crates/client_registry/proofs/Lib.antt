@@ -13,6 +13,7 @@ pub mod TableLaws
 pub mod AcceptanceLaws
 pub mod FromEnd
 pub mod DistinctLaws
+pub mod MarkLaws
 pub mod RegistryLaws
 pub mod EntryLaws
 pub mod SetupLaws
@@ -27,5 +28,10 @@ pub mod PaddedLaws
 pub mod SizeRefusal
 pub mod SizedLaws
 pub mod HistoryLaws
+pub mod Restarted
+pub mod LiveOnce
+pub mod LiveListed
+pub mod RestartedEntries
+pub mod RestartedSound
 pub mod WordLaws
 pub mod Rows

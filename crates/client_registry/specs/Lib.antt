@@ -1,6 +1,7 @@
 pub mod HashNumbers
 pub mod WordRule
 pub mod WordBytes
+pub mod WordMark
 pub mod IdNumber
 pub mod Collected
 pub mod Document
@@ -20,7 +21,9 @@ pub mod Run
 pub mod Live
 pub mod Facts
 pub mod Registered
+pub mod Restarted
 pub mod RegistryView
 pub mod Sized
+pub mod Epochs
 pub mod Histories
 pub mod Texts

@@ -5,7 +5,7 @@ use Rattle.client_registry.specs.Command.{Command, Add, Delete, Search}
 use Rattle.client_registry.specs.Document.{Document}
 use Rattle.client_registry.specs.Documents.{has_word, ids_with}
 use Rattle.client_registry.specs.Over.{over}
-use Rattle.client_registry.specs.Run.{History}
+use Rattle.client_registry.specs.Run.{History, last_run}
 use Rattle.client_registry.specs.Setup.{Setup, setup_list}
 
 -- the live documents after one more command
@@ -68,11 +68,11 @@ in_order (n ∷ ns) = insert_in_order n (in_order ns)
 abbrev pub matching_ids : Setup → List Command → List ℕ → List ℕ
 matching_ids s commands word = in_order (ids_with (live s.documents commands) word)
 
--- the same of a history
+-- the same of a history: each epoch begins with the documents that were live before it, so its last one tells
 abbrev pub live_of : History → List Document
 live_of None = []
-live_of (Some run) = live run.setup.documents run.later
+live_of (Some es) = live (last_run es).setup.documents (last_run es).later
 
 abbrev pub matching_in : History → List ℕ → List ℕ
 matching_in None word = []
-matching_in (Some run) word = matching_ids run.setup run.later word
+matching_in (Some es) word = matching_ids (last_run es).setup (last_run es).later word

@@ -1,5 +1,5 @@
 -- A setup with commands after it, and where it begins in a longer history.
-use Rattle.std.specs.Prelude.{ℕ, List, [], Option, None, Some}
+use Rattle.std.specs.Prelude.{ℕ, List, Option}
 use Rattle.client_registry.specs.Command.{Command}
 use Rattle.client_registry.specs.Setup.{Setup}
 
@@ -18,11 +18,17 @@ pub record Offsets : Type 0 where
 abbrev pub at_first : Offsets
 at_first = record { epoch = 0; command = 0; frame = 0 }
 
--- a history: a run, or nothing before the setup
-abbrev pub History : Type 0
-History = Option Run
+-- the epochs of a history, the last one outside: a run from these offsets on, which are 0 in a whole history; then for each
+-- renewal of the key that key, and the run that begins with it
+pub data Epochs : Type 0 where
+  From : (begins : Offsets) (run : Run) → Epochs
+  Renewed : (before : Epochs) (key : List ℕ) (run : Run) → Epochs
 
--- the commands of a history after its setup
-abbrev pub commands_of : History → List Command
-commands_of None = []
-commands_of (Some run) = run.later
+-- the run of the last epoch
+abbrev pub last_run : Epochs → Run
+last_run (From o run) = run
+last_run (Renewed before key run) = run
+
+-- a history: its epochs, or nothing before the setup
+abbrev pub History : Type 0
+History = Option Epochs

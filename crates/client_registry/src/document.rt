@@ -4,6 +4,7 @@ use crate::doc_id::DocId;
 use crate::faults::DocFault;
 use crate::limits::MAX_WORDS;
 use crate::word::Word;
+use crate::word_mark::marks_differ;
 use std::alloc::{AllocError, Global};
 use std::collections::BTreeSet;
 use std::marker::Model;
@@ -84,8 +85,19 @@ impl Doc {
 ghost use Rattle.client_registry.specs.DocumentRule.{first_repeat as least_repeat};
 ghost use Rattle.client_registry.specs.WordBytes.{word_bytes as bytes_of};
 
-/// The least position whose word stands earlier, by the set of the words before it.
+/// The least position whose word stands earlier: none where their marks differ.
 fn first_repeat(alloc: Global, words: &[Word]) -> Result<Option<u32>, AllocError>
+    requires { length words.now ≤ MAX_WORDS }
+    ensures { IfOk result (λ position. position ≡ least_repeat (map bytes_of words.now)) }
+{
+    if marks_differ(alloc, words)? {
+        return Ok(None);
+    }
+    first_in_set(alloc, words)
+}
+
+/// The same by the set of the words before it.
+fn first_in_set(alloc: Global, words: &[Word]) -> Result<Option<u32>, AllocError>
     requires { length words.now ≤ MAX_WORDS }
     ensures { IfOk result (λ position. position ≡ least_repeat (map bytes_of words.now)) }
 {

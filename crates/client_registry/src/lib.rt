@@ -22,6 +22,7 @@ mod size;
 mod sizes;
 mod updates;
 mod word;
+mod word_mark;
 mod word_numbers;
 mod word_table;
 

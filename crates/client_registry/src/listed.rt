@@ -1,7 +1,13 @@
-ghost use Rattle.std.specs.Prelude.{◌≡◌, ◌+◌, ◌<◌, ◌≤◌, ◌^◌, ◌++◌, [], None, Some, not, filter, length, drop, nat_eq, unwrap_or, vec_capacity, vec_len};
+ghost use Rattle.std.specs.Prelude.{◌≡◌, ◌+◌, ◌<◌, ◌≤◌, ◌^◌, ◌++◌, [], None, Some, not, filter, length, drop, map, take, nat_eq, unwrap_or, vec_capacity, vec_len};
+ghost use Rattle.indexmap.specs.IndexMap.{hasher_of};
+ghost use Rattle.client_registry.specs.RegistryView.{kept_entry};
+ghost use Rattle.client_registry.specs.Restarted.{kept_restarted};
 ghost use Rattle.std.specs.List.{list_any};
 ghost use Rattle.std.specs.List.Sorted.{IsNonDecreasing, IsPermutation};
 
+use crate::doc_id::DocId;
+use crate::hash_keys::HashKeys;
+use indexmap::IndexMap;
 use std::mem;
 
 /// What is kept of an identifier: the numbers of all words that were ever listed with it. Where a document of this
@@ -34,6 +40,14 @@ impl Listed {
         self.live = None;
     }
 
+    /// The numbers of the live document's words are kept alone. It takes no memory.
+    pub(crate) fn keep_live(&mut self)
+        ensures live { self.new.live ≡ self.old.live }
+        ensures numbers { self.new.numbers.items ≡ take (unwrap_or self.old.live 0) self.old.numbers.items }
+    {
+        self.numbers.truncate(self.live.unwrap_or(0) as usize);
+    }
+
     /// A document of the numbers in `next` is live: they come first, then those others that were kept before. Both
     /// vectors are left empty.
     pub(crate) fn revive(&mut self, next: &mut Vec<u32>, again: &mut Vec<u32>)
@@ -55,6 +69,16 @@ impl Listed {
         self.live = Some(live);
         next.clear();
         again.clear();
+    }
+}
+
+/// Of each identifier the numbers of its live document's words are kept alone. It takes no memory.
+pub(crate) fn forget_dead(documents: &mut IndexMap<DocId, Listed, HashKeys>)
+    ensures kept { map kept_entry documents.new.entries ≡ map kept_restarted (map kept_entry documents.old.entries) }
+    ensures hasher { hasher_of documents.new ≡ hasher_of documents.old }
+{
+    for place in 0..documents.len() {
+        documents[place].keep_live();
     }
 }
 

@@ -1,4 +1,5 @@
-ghost use Rattle.std.specs.Prelude.{◌≡◌, ◌<◌, [], ℕ, All, IfSome, IsNone, bytes_eq, false, is_some, length, not, position, option_map, slice_get, slice_index_or, Some, true};
+ghost use Rattle.std.specs.Prelude.{◌≡◌, ◌<◌, ◌^◌, [], ℕ, All, IfSome, IsNone, bytes_eq, false, is_some, length, map, nat_eq, not, position, option_map, slice_get, slice_index_or, Some, true};
+ghost use Rattle.std.specs.List.{IsDistinct};
 
 use crate::collected::Docs;
 use crate::doc_id::DocId;
@@ -113,6 +114,23 @@ impl Registry {
         ensures { result ≡ (facts self.now).counter (word_bytes word.now) }
     {
         self.words.get(word).copied().unwrap_or(0)
+    }
+
+    /// How many identifiers have an entry: those of all live documents are among them, and each has one.
+    pub fn ids(&self) -> usize
+        ensures ids { result ≡ length self.now.kept }
+        ensures small { result < 2 ^ 63 }
+        ensures different { IsDistinct nat_eq (map (λ k. k.id) self.now.kept) }
+    {
+        self.documents.len()
+    }
+
+    /// The identifier of the entry at this place, from 0.
+    pub fn id_at(&self, place: usize) -> DocId
+        requires { place < length self.now.kept }
+        ensures { slice_get (map (λ k. k.id) self.now.kept) place ≡ Some (id_number result) }
+    {
+        *self.documents.get_index(place).unwrap().0
     }
 
     /// How many words have a number.

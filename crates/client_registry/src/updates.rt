@@ -5,6 +5,7 @@ ghost use Rattle.client_registry.specs.Facts.{facts_after, has_counters};
 ghost use Rattle.client_registry.specs.IdNumber.{id_number};
 ghost use Rattle.client_registry.specs.Numbered.{words_by_number};
 ghost use Rattle.client_registry.specs.Registered.{facts, kept_of, known_words, HasRoom, KeepsNumbers, Kept, Represents};
+ghost use Rattle.client_registry.specs.Restarted.{restarted};
 ghost use Rattle.client_registry.specs.Setup.{Setup};
 ghost use Rattle.client_registry.specs.WordBytes.{word_bytes};
 
@@ -12,10 +13,10 @@ use crate::doc_id::DocId;
 use crate::document::Doc;
 use crate::faults::{AddFault, UnknownDocument};
 use crate::limits::MAX_WORDS;
-use crate::listed::{Listed, append};
+use crate::listed::{Listed, append, forget_dead};
 use crate::registry::Registry;
 use crate::word::Word;
-use crate::word_table::{count_new, number_all};
+use crate::word_table::{clear_counts, count_new, number_all};
 use arrayvec::ArrayVec;
 use std::alloc::AllocError;
 
@@ -129,6 +130,15 @@ impl Registry {
         let place = self.documents.get_index_of(&id).unwrap();
         self.documents[place].retire();
         Ok(())
+    }
+
+    /// Begins anew with what is live: the live pairs are the listed ones, and no addition was made yet. Each word keeps its
+    /// number. It takes no memory.
+    pub fn restart(&mut self)
+        ensures { self.new ≡ restarted self.old }
+    {
+        clear_counts(&mut self.words);
+        forget_dead(&mut self.documents);
     }
 
     /// Takes the memory of an addition of this document, and appends the number of each of its words.

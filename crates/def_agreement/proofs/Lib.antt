@@ -20,3 +20,4 @@ pub mod Agreement
 mod Rows
 pub mod NoCollision
 pub mod Histories
+pub mod StepsTaken

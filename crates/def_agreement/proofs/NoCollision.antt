@@ -12,9 +12,10 @@ use Rattle.client_registry.proofs.ShownLaws.{live_apart}
 use Rattle.client_registry.proofs.SizedLaws.{IsHistory-front}
 use Rattle.client_registry.specs.Command.{Command, Add, Delete, Search}
 use Rattle.client_registry.specs.FirstClash.{first_clash}
-use Rattle.client_registry.specs.Histories.{begun_by, longer, IsKept}
+use Rattle.client_registry.specs.Histories.{begun_by, longer, renewed, IsKept}
+use Rattle.client_registry.specs.Epochs.{next_begins, setup_renewed}
 use Rattle.client_registry.specs.Live.{live, is_listed, counter}
-use Rattle.client_registry.specs.Run.{Run, History, Offsets, at_first}
+use Rattle.client_registry.specs.Run.{Run, History, Offsets, Epochs, From, Renewed, last_run, at_first}
 use Rattle.client_registry.specs.Setup.{Setup}
 use Rattle.client_registry.specs.Sized.{IsHistory, is_accepted, IsSizedCommand}
 use Rattle.keyed_fn.specs.KeyedFn.{KeyedFn}
@@ -26,9 +27,9 @@ use Rattle.sse_model.proofs.Members.{Contains-map, Contains-of_filter}
 use Rattle.sse_model.proofs.Prefixes.{run_of}
 use Rattle.sse_model.proofs.SealedEntries.{AllDiffer-words}
 use Rattle.sse_model.proofs.SentNumbers.{are_accepted-push, drawn_before, added_is_drawn, relisted_is_drawn, deleted_is_drawn}
-use Rattle.sse_model.specs.Compared.{Labels, Places, Numbers, positions_of, equal_among, collision_of_numbers, collision_of}
+use Rattle.sse_model.specs.Compared.{Labels, Places, Numbers, positions_of, equal_among, collision_of_setup, collision_of_numbers, collision_of}
 use Rattle.sse_model.specs.Drawn.{drawn, probed, is_compared, AreDistinct, IsCollisionFree}
-use Rattle.sse_model.specs.Histories.{table_of, collision_of_first, collision_of_next, HasNoCollision}
+use Rattle.sse_model.specs.Histories.{table_at, collision_of_first, collision_of_renewal, collision_of_next, HasNoCollision}
 use Rattle.sse_model.specs.Names.{Name, Kind, name, PlusLabel, Revocation, class_of, Table, table}
 use Rattle.sse_model.specs.Positions.{fresh_words}
 use Rattle.sse_model.specs.Wire.{words_live}
@@ -53,16 +54,24 @@ first_clash-none xs differ = by (first_clash xs) refl
         let places = first_clash-places xs i j e in
         absurd (omega (arith, places.order, places_apart xs i j differ (omega (arith, places.order, places.within)) places.within places.same))
 
+-- a run without collisions has none in its setup
+setup-none : (t : Table) (o : Offsets) (s : Setup) → IsCollisionFree t o (record { setup = s; later = [] }) → collision_of_setup t o.epoch s ≡ None
+setup-none t o s free =
+    let run : Run = record { setup = s; later = [] } in
+    let apart = AreDistinct-drawn t o run free in
+    λ i. option_or (option_map (λ places. Labels places.0 places.1) (first_clash-none _ (labels_differ t o run apart) i))
+    (option_map (λ places. Places places.0 places.1) (first_clash-none _ (tags_differ t o run apart) i))
+
 -- Promise P161 (inside): If no values of a history collide, the client finds no collision.
 --   assumes: kept limits, no collision
 -- a setup without collisions has no two equal values that have to differ
-pub collision_of_first-none : (f : KeyedFn) (keys : ℕ → List ℕ) (s : Setup) → HasNoCollision f keys (begun_by s) → collision_of_first f keys s ≡ None
-collision_of_first-none f keys s free =
-    let t = table f s.shape keys in
-    let run : Run = record { setup = s; later = [] } in
-    let apart = AreDistinct-drawn t at_first run free in
-    λ i. option_or (option_map (λ places. Labels places.0 places.1) (first_clash-none _ (labels_differ t at_first run apart) i))
-    (option_map (λ places. Places places.0 places.1) (first_clash-none _ (tags_differ t at_first run apart) i))
+pub collision_of_first-none : (f : KeyedFn) (key : List ℕ) (s : Setup) → HasNoCollision f key (begun_by s) → collision_of_first f key s ≡ None
+collision_of_first-none f key s free = setup-none (table f s.shape (λ epoch. key)) at_first s free
+
+-- nor has a renewal after which there is none
+pub collision_of_renewal-none : (f : KeyedFn) (key own : List ℕ) (h : History) → HasNoCollision f key (renewed own h) → collision_of_renewal f own h ≡ None
+collision_of_renewal-none f key own None free = refl
+collision_of_renewal-none f key own (Some es) free = let s = setup_renewed (last_run es) in setup-none (table f s.shape (λ epoch. own)) (next_begins es) s free.1
 
 -- One command more.
 
@@ -126,8 +135,9 @@ collision_of-none t o s past (Search word) history free = refl
 
 -- Promise P161, also here
 -- a command that leaves a history without collisions has no two equal values that have to differ
-pub collision_of_next-none : (f : KeyedFn) (keys : ℕ → List ℕ) (h : History) (c : Command) → IsKept (longer (c ∷ []) h) → HasNoCollision f keys (longer (c ∷ []) h)
-    → collision_of_next f keys h (c ∷ []) ≡ None
-collision_of_next-none f keys None c kept free = refl
-collision_of_next-none f keys (Some run) c kept free =
-    ap (λ o. option_or o None) (collision_of-none (table_of f keys run) at_first run.setup run.later c kept.0 free)
+pub collision_of_next-none : (f : KeyedFn) (key : List ℕ) (h : History) (c : Command) → IsKept (longer (c ∷ []) h) → HasNoCollision f key (longer (c ∷ []) h)
+    → collision_of_next f key h (c ∷ []) ≡ None
+collision_of_next-none f key None c kept free = refl
+collision_of_next-none f key (Some (From o run)) c kept free = ap (λ o. option_or o None) (collision_of-none (table_at f key run) o run.setup run.later c kept.0 free)
+collision_of_next-none f key (Some (Renewed before own run)) c kept free =
+    ap (λ o. option_or o None) (collision_of-none (table_at f own run) (next_begins before) run.setup run.later c kept.0.2 free.1)

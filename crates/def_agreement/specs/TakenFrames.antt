@@ -1,17 +1,17 @@
 -- Frames that a server takes one after another: the state after them, and the replies; and a server that takes a setup.
-use Rattle.std.specs.Prelude.{◌≡◌, ℕ, List, [], ◌∷◌, true, None}
+use Rattle.std.specs.Prelude.{◌≡◌, ℕ, List, [], ◌∷◌, not, true, None}
 use Rattle.keyed_fn.specs.KeyedFn.{KeyedFn}
 use Rattle.sse_frames.specs.Frames.{FrameText}
 use Rattle.sse_frames.specs.Replies.{ReplyText}
 use Rattle.server_core.specs.Refusal.{is_next, in_place, clash}
-use Rattle.server_core.specs.State.{ServerState, is_empty}
+use Rattle.server_core.specs.State.{ServerState, is_filling}
 use Rattle.server_core.specs.Step.{taken, answers}
 
--- a server that takes the frames of a setup, the first of which has this number, whatever its tables hold: SetupBegin
--- overwrites all but the number
+-- a server that takes the frames of a setup, the first of which has this number, whatever it holds, unless it is within another
+-- setup: SetupBegin overwrites all but the number
 pub record Expects (q : ℕ) (s : ServerState) : Type 0 where
   pub next : s.next ≡ q
-  pub stage : is_empty s.stage ≡ true
+  pub stage : not (is_filling s.stage) ≡ true
 
 -- a frame has the number that the server expects, if it has one, fits the stage, and collides with nothing that it holds
 pub record IsInOrder (s : ServerState) (frame : FrameText) : Type 0 where

@@ -3,10 +3,10 @@ use Rattle.std.proofs.Common.{◌≡◌, ℕ, List, [], ◌∷◌, ◌++◌, map
 use Rattle.std.specs.Prelude.{flat_map}
 use Rattle.std.proofs.lemmas.List.{append-nil, map-append}
 use Rattle.std.proofs.lemmas.List.Concat.{flat_map-append}
-use Rattle.client_registry.proofs.HistoryLaws.{IsKept-first, whole_run}
+use Rattle.client_registry.proofs.HistoryLaws.{IsKept-first, joined-first}
 use Rattle.client_registry.proofs.OverLaws.{over-append}
 use Rattle.client_registry.specs.Command.{Command}
-use Rattle.client_registry.specs.Histories.{IsKept, IsFirstOf}
+use Rattle.client_registry.specs.Histories.{IsKept, IsWhole, IsFirstOf}
 use Rattle.client_registry.specs.Over.{over}
 use Rattle.client_registry.specs.Run.{Run, Offsets, History, at_first}
 use Rattle.keyed_fn.specs.KeyedFn.{KeyedFn}
@@ -17,7 +17,7 @@ use Rattle.def_leakage.specs.DrawnValues.{draw, drawings_of_setup, drawings_by, 
 use Rattle.def_leakage.specs.Histories.{leak_in, draws_in}
 use Rattle.def_leakage.specs.CommandLeaks.{leak_of_setup, leak_by, leak}
 use Rattle.sse_model.proofs.Prefixes.{run_of, exchanged_by, transcript-append}
-use Rattle.sse_model.specs.Histories.{table_of}
+use Rattle.sse_model.specs.Histories.{table_at}
 use Rattle.sse_model.specs.Names.{Table}
 use Rattle.sse_model.specs.Transcript.{transcript, session}
 use Rattle.sse_simulator.specs.Leaks.{Leak, Draw}
@@ -34,42 +34,50 @@ draws-append t o run cs =
     ap (λ rest. map drawn (drawings_of_setup o.epoch run.setup ∷ rest)) (over-append (drawings_by o.epoch run.setup) [] run.later cs)
     ∙ map-append drawn (drawings o run) (over (drawings_by o.epoch run.setup) run.later cs)
 
+leaks-more : (o : Offsets) (run : Run) (cs : List Command) → leak o (record { setup = run.setup; later = run.later ++ cs }) ≡ leak o run ++ over (leak_by o run.setup) run.later cs
+leaks-more o run cs = leak-append o run cs
+
 -- Promise P146 (inside): A history's leakage, draws and simulated traffic up to a command don't depend on later commands.
 --   assumes: kept limits
 pub leak_in-first : (part whole : History) → IsFirstOf part whole → (more : List Leak) × (leak_in whole ≡ leak_in part ++ more)
 leak_in-first None whole p = (leak_in whole, refl)
-leak_in-first (Some run) None p = absurd p
-leak_in-first (Some run) (Some whole) p =
-    (over (leak_by at_first run.setup) run.later p.1.0, ap (λ r. leak at_first r) (whole_run run whole p) ∙ leak-append at_first run p.1.0)
+leak_in-first (Some es) None p = absurd p
+leak_in-first (Some es) (Some whole) p =
+    let all = joined-first (λ key o run. leak o run) (λ key o run cs. over (leak_by o run.setup) run.later cs) (λ key o run cs. leaks-more o run cs) [] es p.0 in
+    (all.0, ap (λ xs. leak_in (Some xs)) p.1 ∙ all.1)
 
-module _ (f : KeyedFn) (keys : ℕ → List ℕ) where
+module _ (f : KeyedFn) (key : List ℕ) where
   -- Promise P146, also here
-  pub draws_in-first : (part whole : History) → IsFirstOf part whole → (more : List (List Draw)) × (draws_in f keys whole ≡ draws_in f keys part ++ more)
-  draws_in-first None whole p = (draws_in f keys whole, refl)
-  draws_in-first (Some run) None p = absurd p
-  draws_in-first (Some run) (Some whole) p = (
-    map (map (draw (table_of f keys run) (ranks_in (table_of f keys run) at_first.epoch run.setup))) (over (drawings_by at_first.epoch run.setup) run.later p.1.0),
-    ap (λ r. draws_in f keys (Some r)) (whole_run run whole p) ∙ draws-append (table_of f keys run) at_first run p.1.0,
-  )
+  pub draws_in-first : (part whole : History) → IsFirstOf part whole → (more : List (List Draw)) × (draws_in f key whole ≡ draws_in f key part ++ more)
+  draws_in-first None whole p = (draws_in f key whole, refl)
+  draws_in-first (Some es) None p = absurd p
+  draws_in-first (Some es) (Some whole) p =
+      let all = joined-first (λ own o run. draws (table_at f own run) o run)
+      (λ own o run cs. map (map (draw (table_at f own run) (ranks_in (table_at f own run) o.epoch run.setup))) (over (drawings_by o.epoch run.setup) run.later cs))
+      (λ own o run cs. draws-append (table_at f own run) o run cs) key es p.0 in
+      (all.0, ap (λ xs. draws_in f key (Some xs)) p.1 ∙ all.1)
+
+  transcripts-more : (own : List ℕ) (o : Offsets) (run : Run) (cs : List Command)
+      → flat_map (λ passed. passed) (transcript (table_at f own run) o (record { setup = run.setup; later = run.later ++ cs }))
+      ≡ flat_map (λ passed. passed) (transcript (table_at f own run) o run) ++ flat_map (λ passed. passed) (over (exchanged_by (table_at f own run) o run.setup) run.later cs)
+  transcripts-more own o run cs =
+      ap (flat_map (λ passed. passed)) (transcript-append (table_at f own run) o run.setup run.later cs)
+      ∙ flat_map-append (λ passed. passed) (transcript (table_at f own run) o run) (over (exchanged_by (table_at f own run) o run.setup) run.later cs)
 
   -- Promise P146, also here
-  pub session-first : (part whole : History) → IsFirstOf part whole → (more : List Passed) × (session f keys whole ≡ session f keys part ++ more)
+  pub session-first : (part whole : History) → IsFirstOf part whole → (more : List Passed) × (session f key whole ≡ session f key part ++ more)
   session-first None None p = ([], sym (append-nil (greeting 0)))
-  session-first None (Some run) p = (flat_map (λ passed. passed) (transcript (table_of f keys run) at_first run), refl)
-  session-first (Some run) None p = absurd p
-  session-first (Some run) (Some whole) p =
-      let t = table_of f keys run in
-      let more = over (exchanged_by t at_first run.setup) run.later p.1.0 in (
-        flat_map (λ passed. passed) more,
-        ap (λ r. session f keys (Some r)) (whole_run run whole p)
-            ∙ ap (λ all. greeting 0 ++ flat_map (λ passed. passed) all) (transcript-append t at_first run.setup run.later p.1.0)
-            ∙ ap (λ rest. greeting 0 ++ rest) (flat_map-append (λ passed. passed) (transcript t at_first run) more),
-      )
+  session-first None (Some es) p = (_, refl)
+  session-first (Some es) None p = absurd p
+  session-first (Some es) (Some whole) p =
+      let all = joined-first (λ own o run. flat_map (λ passed. passed) (transcript (table_at f own run) o run))
+      (λ own o run cs. flat_map (λ passed. passed) (over (exchanged_by (table_at f own run) o run.setup) run.later cs)) transcripts-more key es p.0 in
+      (all.0, ap (λ xs. session f key (Some xs)) p.1 ∙ ap (λ passed. greeting 0 ++ passed) all.1)
 
   -- Promise P146, also here
   -- what the simulator makes of the first part is the first of what it makes of the whole
-  pub simulated-first : (part whole : History) → IsFirstOf part whole → IsKept whole
-      → (front : List Passed) × (more : List Passed) × (simulated (leak_in part) (draws_in f keys part) ≡ Some front) × (simulated (leak_in whole) (draws_in f keys whole) ≡ Some (front ++ more))
-  simulated-first part whole p kept =
+  pub simulated-first : (part whole : History) → IsFirstOf part whole → IsWhole part → IsWhole whole → IsKept whole
+      → (front : List Passed) × (more : List Passed) × (simulated (leak_in part) (draws_in f key part) ≡ Some front) × (simulated (leak_in whole) (draws_in f key whole) ≡ Some (front ++ more))
+  simulated-first part whole p one all kept =
       let later = session-first part whole p in
-      (session f keys part, later.0, session_is_simulated f keys part (IsKept-first part whole p kept), session_is_simulated f keys whole kept ∙ ap Some later.1)
+      (session f key part, later.0, session_is_simulated f key part one (IsKept-first part whole p kept), session_is_simulated f key whole all kept ∙ ap Some later.1)

@@ -79,13 +79,17 @@ again_row = refl
 ahead_row : step toy begun (SetupEnd 2) ≡ (begun, Number 1 ∷ [])
 ahead_row = refl
 
--- a frame that isn't one for the stage: a search before the setup, a second setup, a setup that ends too early, cells of
+-- a setup after a whole one begins with empty tables
+second_row : step toy whole (SetupBegin 3 1 1 1 0) ≡ (record at_first { stage = Filling; next = 4; words = 1; shape = record { b = 1; big = 1 } }, Took 3 ∷ [])
+second_row = refl
+
+-- a frame that isn't one for the stage: a search before the setup, a setup within one, a setup that ends too early, cells of
 -- another width, more cells than words
 early_row : step toy at_first (SearchFrame []) ≡ (at_first, OutOfPlace ∷ [])
 early_row = refl
 
-second_row : step toy whole (SetupBegin 3 1 1 1 0) ≡ (whole, OutOfPlace ∷ [])
-second_row = refl
+within_row : step toy begun (SetupBegin 1 1 1 1 0) ≡ (begun, OutOfPlace ∷ [])
+within_row = refl
 
 short_row : step toy begun (SetupEnd 1) ≡ (begun, OutOfPlace ∷ [])
 short_row = simp (map.gets)

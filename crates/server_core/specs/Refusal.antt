@@ -7,7 +7,7 @@ use Rattle.std.specs.FinSet as set
 use Rattle.sse_frames.specs.Frames.{Entry, FrameText, Hello, SetupBegin, SetupDict, SetupArray, SetupEnd, AddFrame, DeleteFrame, SearchFrame, update_number}
 use Rattle.sse_frames.specs.Replies.{ReplyText, Number, Clash, OutOfPlace}
 use Rattle.server_tables.specs.Contents.{CellMap}
-use Rattle.server_core.specs.State.{ServerState, is_empty, is_filling, is_ready}
+use Rattle.server_core.specs.State.{ServerState, is_filling, is_ready}
 
 abbrev pub is_nil : {A : Type 0} → List A → Bool
 is_nil [] = true
@@ -16,7 +16,7 @@ is_nil (x ∷ xs) = false
 -- whether the frame fits the stage, and what the setup still lacks
 abbrev pub in_place : ServerState → FrameText → Bool
 in_place s Hello = true
-in_place s (SetupBegin q b big m a) = is_empty s.stage
+in_place s (SetupBegin q b big m a) = not (is_filling s.stage)
 in_place s (SetupDict q width entries) =
     is_filling s.stage && (width == 1 + 8 * s.shape.b) && is_nil s.array && nat_le (map.len s.dictionary + length entries) s.words
 in_place s (SetupArray q width blocks) =

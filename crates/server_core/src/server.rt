@@ -297,7 +297,7 @@ impl<T: Tables> Server<T> {
     {
         match *frame {
             Frame::Hello => true,
-            Frame::SetupBegin { .. } => self.stage.is_empty(),
+            Frame::SetupBegin { .. } => !self.stage.is_filling(),
             Frame::SetupDict { width, entries, .. } => self.stage.is_filling()
                 && self.has_place(width, entries),
             Frame::SetupEnd { .. } => self.stage.is_filling() && self.is_whole(),

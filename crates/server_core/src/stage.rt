@@ -1,5 +1,5 @@
 ghost use Rattle.std.specs.Prelude.{◌≡◌};
-ghost use Rattle.server_core.specs.State.{is_empty, is_filling, is_ready};
+ghost use Rattle.server_core.specs.State.{is_filling, is_ready};
 
 /// How far a server has come with its setup.
 #[derive(Clone, Copy)]
@@ -13,13 +13,6 @@ pub enum Stage {
 }
 
 impl Stage {
-    /// Whether nothing was taken yet.
-    pub fn is_empty(self) -> bool
-        ensures { result ≡ is_empty self }
-    {
-        matches!(self, Stage::Empty)
-    }
-
     /// Whether the setup has begun and isn't whole.
     pub fn is_filling(self) -> bool
         ensures { result ≡ is_filling self }

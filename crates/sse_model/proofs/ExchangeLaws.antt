@@ -1,6 +1,6 @@
 -- Laws of frames with their replies: of some frames and then others, of a setup's and of commands'; and all that passes for
 -- a history is the greeting and the exchange of its frames, with what its searches show for answers.
-use Rattle.std.proofs.Common.{◌≡◌, ℕ, ◌+◌, ◌*◌, ◌≤◌, List, [], ◌∷◌, ◌++◌, length, map, true, Some, None, refl, sym, ap, ◌∙◌, arith, append_assoc}
+use Rattle.std.proofs.Common.{◌≡◌, ℕ, ◌+◌, ◌*◌, ◌≤◌, List, [], ◌∷◌, ◌++◌, length, map, true, Some, None, refl, sym, ap, ◌∙◌, arith, append_assoc, length-append}
 use Rattle.std.specs.Prelude.{flat_map}
 use Rattle.std.specs.List.{AllByRecursion, range_with_len}
 use Rattle.keyed_fn.specs.KeyedFn.{KeyedFn}
@@ -9,7 +9,8 @@ use Rattle.client_registry.specs.Acceptance.{frames_needed}
 use Rattle.client_registry.specs.Command.{Command, Add, Delete, Search, is_update}
 use Rattle.client_registry.specs.Histories.{shown_by, shown_in_turn}
 use Rattle.client_registry.specs.Over.{over}
-use Rattle.client_registry.specs.Run.{Offsets, History, at_first}
+use Rattle.client_registry.specs.Epochs.{next_begins, joined, setup_renewed}
+use Rattle.client_registry.specs.Run.{Run, Offsets, Epochs, From, Renewed, last_run, History}
 use Rattle.client_registry.specs.Setup.{Setup}
 use Rattle.list_packing.specs.Parts.{parts}
 use Rattle.two_level.specs.Shape.{Shape}
@@ -20,11 +21,11 @@ use Rattle.sse_frames.specs.Replies.{Took}
 use Rattle.sse_frames.specs.SentParts.{numbered, dict_frames, array_frames}
 use Rattle.sse_model.proofs.Counts.{AllByRecursion-append, AllByRecursion-each, length-frames_of_setup, length-numbered}
 use Rattle.sse_model.proofs.Prefixes.{frames_by, exchanged_by, exchanged_setup}
-use Rattle.sse_model.specs.Histories.{table_of, frames_sent, frames_of_next}
-use Rattle.sse_model.specs.Names.{Table}
+use Rattle.sse_model.specs.Histories.{table_at, frames_sent, frames_of_next, frames_of_renewal}
+use Rattle.sse_model.specs.Names.{Table, table}
 use Rattle.sse_model.specs.Positions.{entry_positions, block_positions, sealed, ranks_of}
-use Rattle.sse_model.specs.Transcript.{session}
-use Rattle.sse_model.specs.Wire.{labels_in, frames_of_setup, acknowledgements, replies_of}
+use Rattle.sse_model.specs.Transcript.{transcript, session}
+use Rattle.sse_model.specs.Wire.{labels_in, frames_of_setup, wire, acknowledgements, replies_of}
 
 -- Some frames and then others.
 
@@ -164,33 +165,66 @@ module _ (t : Table) (o : Offsets) (s : Setup) where
   searches-commands past (Delete id ∷ later) = omega (arith, searches-commands (past ++ Delete id ∷ []) later)
   searches-commands past (Search word ∷ later) = omega (arith, searches-commands (past ++ Search word ∷ []) later)
 
--- Histories.
+-- Runs.
 
-module _ (f : KeyedFn) (keys : ℕ → List ℕ) where
-  -- all that passes for a history is the greeting, and then the exchange of its frames, with what its searches show
-  pub session-exchange : (h : History) → session f keys h ≡ greeting 0 ++ exchange (shown_in_turn h) (frames_sent f keys h)
-  session-exchange None = refl
-  session-exchange (Some run) =
-      let t : Table = table_of f keys run in
-      sym (ap (λ passed. greeting 0 ++ passed)
-      (exchange-setup t at_first run.setup (shown_in_turn (Some run)) (frames_sent_by t at_first run.setup [] run.later)
-      ∙ ap (λ passed. exchanged_setup t at_first run.setup ++ passed) (exchange-commands t at_first run.setup [] run.later)))
+module _ (t : Table) (o : Offsets) (run : Run) where
+  abbrev shown_of : List (List ℕ)
+  shown_of = flat_map (λ r. r) (over (shown_by run.setup) [] run.later)
 
-  -- there is an answer for each search among them
-  pub searches-sent : (h : History) → searches (frames_sent f keys h) ≡ length (shown_in_turn h)
-  searches-sent None = refl
-  searches-sent (Some run) =
-      let t : Table = table_of f keys run in
+  -- the frames of a run, with what its searches show, are exchanged as all that passes for it
+  pub exchange-run : exchange shown_of (flat_map (λ frames. frames) (wire t o run)) ≡ flat_map (λ passed. passed) (transcript t o run)
+  exchange-run =
+      exchange-setup t o run.setup shown_of (frames_sent_by t o run.setup [] run.later)
+      ∙ ap (λ passed. exchanged_setup t o run.setup ++ passed) (exchange-commands t o run.setup [] run.later)
+
+  pub searches-run : searches (flat_map (λ frames. frames) (wire t o run)) ≡ length shown_of
+  searches-run =
       omega (
         arith,
-        searches-append (frames_of_setup t at_first run.setup) (frames_sent_by t at_first run.setup [] run.later),
-        searches-setup t at_first run.setup,
-        searches-commands t at_first run.setup [] run.later,
+        searches-append (frames_of_setup t o run.setup) (frames_sent_by t o run.setup [] run.later),
+        searches-setup t o run.setup,
+        searches-commands t o run.setup [] run.later,
       )
 
+-- Histories.
+
+module _ (f : KeyedFn) (key : List ℕ) where
+  abbrev frames_in_epochs : Epochs → List FrameText
+  frames_in_epochs es = frames_sent f key (Some es)
+
+  -- there is an answer for each search among them
+  pub searches-sent : (h : History) → searches (frames_sent f key h) ≡ length (shown_in_turn h)
+  searches-sent None = refl
+  searches-sent (Some es) = by es
+    where
+      by : (es : Epochs) → searches (frames_sent f key (Some es)) ≡ length (shown_in_turn (Some es))
+      by (From o run) = searches-run (table_at f key run) o run
+      by (Renewed before own run) =
+          let o = next_begins before in
+          let t = table_at f own run in
+          omega (arith, searches-append (frames_in_epochs before) (flat_map (λ frames. frames) (wire t o run)), by before, searches-run t o run, length-append (shown_in_turn (Some before)) (shown_of t o run))
+
+  -- all that passes for a history is the greeting, and then the exchange of its frames, with what its searches show
+  pub session-exchange : (h : History) → session f key h ≡ greeting 0 ++ exchange (shown_in_turn h) (frames_sent f key h)
+  session-exchange None = refl
+  session-exchange (Some es) = ap (λ passed. greeting 0 ++ passed) (sym (by es))
+    where
+      by : (es : Epochs) → exchange (shown_in_turn (Some es)) (frames_sent f key (Some es)) ≡ joined (λ own o run. flat_map (λ passed. passed) (transcript (table_at f own run) o run)) key es
+      by (From o run) = exchange-run (table_at f key run) o run
+      by (Renewed before own run) =
+          let o = next_begins before in
+          let t = table_at f own run in
+          exchange-append (frames_in_epochs before) (flat_map (λ frames. frames) (wire t o run)) (shown_in_turn (Some before)) (shown_of t o run) (sym (searches-sent (Some before)))
+          ∙ (λ i. by before i ++ exchange-run t o run i)
+
   -- none among the frames of an update after a history, whose one search is a search's
-  pub searches_behind-update : (h : History) (c : Command) → is_update c ≡ true → searches (frames_of_next f keys h (c ∷ [])) ≡ 0
+  pub searches_behind-update : (h : History) (c : Command) → is_update c ≡ true → searches (frames_of_next f key h (c ∷ [])) ≡ 0
   searches_behind-update None c update = refl
-  searches_behind-update (Some run) (Add d) update = refl
-  searches_behind-update (Some run) (Delete id) update = refl
-  searches_behind-update (Some run) (Search word) update = absurd (true≢false (sym update))
+  searches_behind-update (Some es) (Add d) update = refl
+  searches_behind-update (Some es) (Delete id) update = refl
+  searches_behind-update (Some es) (Search word) update = absurd (true≢false (sym update))
+
+  -- and none among those of a renewal
+  pub searches_behind-renewal : (h : History) (own : List ℕ) → searches (frames_of_renewal f own h) ≡ 0
+  searches_behind-renewal None own = refl
+  searches_behind-renewal (Some es) own = let s = setup_renewed (last_run es) in searches-setup (table f s.shape (λ epoch. own)) (next_begins es) s

@@ -28,3 +28,5 @@ pub mod Grammar
 pub mod HistoryLaws
 pub mod ExchangeLaws
 pub mod LiveWords
+pub mod RenewalRows
+pub mod SetupEpochs

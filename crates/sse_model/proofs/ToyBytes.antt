@@ -6,7 +6,8 @@ use Rattle.two_level.specs.Shape.{Shape}
 use Rattle.keyed_fn.specs.KeyedFn.{keyed_fn}
 use Rattle.keyed_fn.specs.Toy.{toy_prf, toy_pad}
 use Rattle.client_registry.specs.Document.{Document}
-use Rattle.client_registry.specs.Run.{History}
+use Rattle.client_registry.specs.Run.{Run, From, at_first}
+use Rattle.std.specs.Prelude.{Option, option_map}
 use Rattle.sse_frames.specs.Exchange.{Passed, Sent, Received}
 use Rattle.sse_frames.specs.Frames.{frame_bytes}
 use Rattle.sse_frames.specs.Replies.{reply_bytes}
@@ -35,6 +36,6 @@ abbrev pub passed_bytes : Passed → List ℕ
 passed_bytes (Sent frame) = frame_bytes frame
 passed_bytes (Received reply) = reply_bytes reply
 
--- the bytes of each frame and each reply of a history's session, in order
-abbrev pub session_bytes : History → List (List ℕ)
-session_bytes h = map passed_bytes (session (keyed_fn toy_prf toy_pad) (λ epoch. replicate 32 0) h)
+-- the bytes of each frame and each reply of the session of a history of one epoch, in order
+abbrev pub session_bytes : Option Run → List (List ℕ)
+session_bytes run = map passed_bytes (session (keyed_fn toy_prf toy_pad) (replicate 32 0) (option_map (From at_first) run))

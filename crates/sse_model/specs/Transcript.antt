@@ -3,6 +3,7 @@ use Rattle.std.specs.Prelude.{ℕ, List, [], ◌∷◌, ◌++◌, flat_map, None
 use Rattle.keyed_fn.specs.KeyedFn.{KeyedFn}
 use Rattle.client_registry.specs.Acceptance.{frames_needed}
 use Rattle.client_registry.specs.Over.{over}
+use Rattle.client_registry.specs.Epochs.{joined}
 use Rattle.client_registry.specs.Run.{Run, Offsets, History, at_first}
 use Rattle.sse_frames.specs.Exchange.{Passed, exchanged, greeting}
 use Rattle.sse_model.specs.Names.{Table, table}
@@ -14,7 +15,8 @@ transcript t o run =
     exchanged (frames_of_setup t o run.setup) (acknowledgements o.frame (frames_needed run.setup))
     ∷ over (λ past c. exchanged (frames_of t o.epoch run.setup (next_number o run.setup past) past c) (replies_of o run.setup past c)) [] run.later
 
--- all that passes for a history under the keys of its epochs, from a server that has taken nothing
-abbrev pub session : KeyedFn → (ℕ → List ℕ) → History → List Passed
-session f keys None = greeting at_first.frame
-session f keys (Some run) = greeting at_first.frame ++ flat_map (λ passed. passed) (transcript (table f run.setup.shape keys) at_first run)
+-- all that passes for a history whose first key is this, from a server that has taken nothing: the greeting, and then epoch by epoch
+abbrev pub session : KeyedFn → List ℕ → History → List Passed
+session f key None = greeting at_first.frame
+session f key (Some es) =
+    greeting at_first.frame ++ joined (λ own o run. flat_map (λ passed. passed) (transcript (table f run.setup.shape (λ epoch. own)) o run)) key es

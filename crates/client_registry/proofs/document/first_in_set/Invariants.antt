@@ -6,7 +6,7 @@ use Rattle.std.specs.Ordering.{nat_cmp}
 use Rattle.std.specs.Str.{bytes_eq}
 use Rattle.client_registry.specs.DocumentRule.{first_repeat as least_repeat}
 use Rattle.client_registry.specs.WordBytes.{word_bytes as bytes_of}
-use Rattle.client_registry.proofs.document.first_repeat.Given as goal
+use Rattle.client_registry.proofs.document.first_in_set.Given as goal
 use denote.Bor.{Bor}
 
 abbrev pub invariant-loop-position : goal.invariant-loop-position

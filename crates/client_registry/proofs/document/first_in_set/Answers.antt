@@ -10,7 +10,7 @@ use Rattle.client_registry.specs.DocumentRule.{first_repeat as least_repeat}
 use Rattle.client_registry.specs.WordBytes.{word_bytes as bytes_of}
 use Rattle.client_registry.proofs.FirstClashLaws.{first_repeat-new, first_repeat-old}
 use Rattle.client_registry.proofs.SeenWords.{front_and_rest, front_more, length_front, list_any-push}
-use Rattle.client_registry.proofs.document.first_repeat.Goals as goal
+use Rattle.client_registry.proofs.document.first_in_set.Goals as goal
 use denote.Bor.{Bor}
 
 pub returns-then-not-branch : goal.returns-then-not-branch
