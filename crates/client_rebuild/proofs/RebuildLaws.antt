@@ -15,7 +15,7 @@ use Rattle.client_registry.specs.Facts.{Facts, facts_of, facts_after, has_counte
 use Rattle.client_registry.specs.HashNumbers.{hash_numbers}
 use Rattle.client_registry.specs.Registered.{facts}
 use Rattle.client_registry.specs.declared.hash_keys.HashKeys.{HashKeys}
-use Rattle.client_registry.specs.Run.{History, Run}
+use Rattle.client_registry.specs.Run.{History, Run, From, Renewed, at_first}
 use Rattle.client_registry.specs.Setup.{Setup}
 use Rattle.client_registry.specs.Sized.{is_accepted, update_frames}
 use Rattle.client_records.proofs.OpeningLaws.{bad_last, not_elsewhere, not_nowhere, nowhere_or_elsewhere, nowhere-first_setup, nowhere-first_update, nowhere-no_record, nowhere-setup, nowhere-update, opens_more, opens_setup}
@@ -178,7 +178,8 @@ none_taken keys mark payloads was = by was.history was.opened was.recalls
   where
     by : (h : History) → OpensTo mark payloads h → RecallsIn h None → payloads ≡ []
     by None opened recalls = opened
-    by (Some run) opened recalls = absurd recalls
+    by (Some (From o run)) opened recalls = absurd recalls
+    by (Some (Renewed before key run)) opened recalls = absurd recalls
 
 -- and behind one the history is set up
 record IsSetUp (keys : ℕ × ℕ) (mark : List ℕ) (payloads : List (List ℕ)) (l : Last) : Type 0 where
@@ -191,7 +192,8 @@ set_up keys mark payloads l was = by was.history was.opened was.recalls
   where
     by : (h : History) → OpensTo mark payloads h → RecallsIn h (Some l) → IsSetUp keys mark payloads l
     by None opened recalls = absurd recalls
-    by (Some run) opened recalls = record { run = run; opened = opened; recalls = recalls }
+    by (Some (From o run)) opened recalls = record { run = run; opened = opened.1; recalls = recalls }
+    by (Some (Renewed before key run)) opened recalls = absurd recalls
 
 module _ (keys : ℕ × ℕ) (mark : List ℕ) (payloads : List (List ℕ)) (payload : List ℕ) (text : RecordText) (is : IsRecordOf payload text) where
   -- the first record is taken
@@ -207,8 +209,8 @@ module _ (keys : ℕ × ℕ) (mark : List ℕ) (payloads : List (List ℕ)) (pay
 
     pub first_taken : (next : Last) → TakesFirst keys mark text (Ok next) → IsTaken keys mark (payloads ++ payload ∷ []) (Some next)
     first_taken next takes = record {
-      history = Some (record { setup = takes.0; later = [] });
-      opened = alone_opens mark takes.0 takes.1;
+      history = Some (From at_first (record { setup = takes.0; later = [] }));
+      opened = (refl, alone_opens mark takes.0 takes.1);
       recalls = takes.2;
       records = takes.3 ∙ ap (λ (ps : List (List ℕ)). length ps) (sym first_alone);
       hashed = takes.4;
@@ -241,8 +243,8 @@ module _ (keys : ℕ × ℕ) (mark : List ℕ) (payloads : List (List ℕ)) (pay
     same_taken next same =
         let at = set_up keys mark payloads l was in
         record {
-          history = Some at.run;
-          opened = at.opened;
+          history = Some (From at_first at.run);
+          opened = (refl, at.opened);
           recalls = same.recalls at.run at.recalls;
           records = same.records ∙ was.records;
           hashed = same.hashed ∙ was.hashed;
@@ -258,8 +260,8 @@ module _ (keys : ℕ × ℕ) (mark : List ℕ) (payloads : List (List ℕ)) (pay
     followed c next says ok more =
         let at = set_up keys mark payloads l was in
         record {
-          history = Some (with_update at.run c);
-          opened = opened_with c says ok;
+          history = Some (From at_first (with_update at.run c));
+          opened = (refl, opened_with c says ok);
           recalls = more.recalls at.run at.recalls;
           records = omega (arith, more.records, was.records, length-append payloads (payload ∷ []));
           hashed = more.hashed ∙ was.hashed;
@@ -283,7 +285,7 @@ module _ (keys : ℕ × ℕ) (mark : List ℕ) (payloads : List (List ℕ)) (pay
     later_taken next (Err WrongKey) takes = absurd takes
     later_taken next (Err NoMemory) takes =
         let at = set_up keys mark payloads l was in
-        (inr (Some (with_update at.run takes.0), opened_with takes.0 takes.1 takes.2), same_taken next takes.3)
+        (inr (Some (From at_first (with_update at.run takes.0)), (refl, opened_with takes.0 takes.1 takes.2)), same_taken next takes.3)
 
 -- What is answered.
 
@@ -293,7 +295,8 @@ more_than_none (p ∷ payloads) payload e = cc
 
 set_up_with : (mark : List ℕ) (payloads : List (List ℕ)) (payload : List ℕ) (h : History) → OpensTo mark (payloads ++ payload ∷ []) h → (run : Run) × Opens mark (payloads ++ payload ∷ []) run
 set_up_with mark payloads payload None e = absurd (more_than_none payloads payload e)
-set_up_with mark payloads payload (Some run) opened = (run, opened)
+set_up_with mark payloads payload (Some (From o run)) opened = (run, opened.1)
+set_up_with mark payloads payload (Some (Renewed before key run)) opened = absurd opened
 
 -- bytes that are no record
 pub no_record_taken : (A : Type 0) (keys : ℕ × ℕ) (mark : List ℕ) (payloads : List (List ℕ)) (payload : List ℕ) (last : Option Last) → IsTaken keys mark payloads last

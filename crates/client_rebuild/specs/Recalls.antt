@@ -3,7 +3,7 @@ use Rattle.std.specs.Prelude.{◌≡◌, ℕ, ◌+◌, ◌-◌, ◌^◌, Bool, �
 use Rattle.client_registry.specs.Command.{Command}
 use Rattle.client_registry.specs.Facts.{Facts, facts_of, facts_after}
 use Rattle.client_registry.specs.Registered.{facts, Represents}
-use Rattle.client_registry.specs.Run.{History, Run}
+use Rattle.client_registry.specs.Run.{History, Run, From, Renewed}
 use Rattle.client_registry.specs.Setup.{Setup, setup_with}
 use Rattle.client_registry.specs.Sized.{update_frames}
 use Rattle.client_records.specs.Openings.{with_update}
@@ -42,12 +42,13 @@ Recalls run (last.Setup s) = run ≡ record { setup = setup_in s; later = [] }
 Recalls run (last.Update u) =
     (before : Run) × (run ≡ with_update before (command_of u.update)) × Represents u.registry before.setup before.later × (u.frames ≡ update_frames before)
 
--- the same of a history; before a setup there is no record
+-- the same of a history; before a setup there is no record, and there is none of a renewal
 abbrev pub RecallsIn : History → Option Last → Type 0
 RecallsIn None None = Unit {0}
 RecallsIn None (Some l) = ⊥
-RecallsIn (Some run) None = ⊥
-RecallsIn (Some run) (Some l) = Recalls run l
+RecallsIn (Some (From o run)) None = ⊥
+RecallsIn (Some (From o run)) (Some l) = Recalls run l
+RecallsIn (Some (Renewed before key run)) last = ⊥
 
 -- a command is accepted after it: it fits what is live, and there is a number for its frame
 abbrev pub accepts_after : Last → Command → Bool

@@ -14,9 +14,9 @@ use Rattle.client_registry.specs.Acceptance.{size_refusal}
 use Rattle.client_registry.specs.Command.{Command, Add, Delete, Search, is_update}
 use Rattle.client_registry.specs.Histories.{IsKept}
 use Rattle.client_registry.specs.Over.{over}
-use Rattle.client_registry.specs.Run.{History, Run}
+use Rattle.client_registry.specs.Run.{History, Run, From, Renewed, at_first}
 use Rattle.client_registry.specs.Setup.{Setup}
-use Rattle.client_registry.specs.Sized.{IsSizedCommand, is_accepted, update_frames}
+use Rattle.client_registry.specs.Sized.{IsHistory, IsSizedCommand, is_accepted, update_frames}
 use Rattle.client_records.specs.Records.{RecordText, SetsUp, Adds, Deletes, IsNoRecord, IsRecordOf, IsSetupText, setup_record, update_record}
 use Rattle.client_records.specs.Openings.{IsUpdateRecord, AreUpdateRecords, AreRecordsOf, Opens, OpensTo, OpensNowhere, OpensElsewhere, IsBadRecord, with_update}
 use Rattle.client_records.proofs.RecordOnce.{record_once}
@@ -101,7 +101,7 @@ pub opens_more : (mark : List ℕ) (payloads : List (List ℕ)) (payload : List 
     → is_accepted run.setup run.later c ≡ true → update_frames run + 1 < 2 ^ 32 → Opens mark (payloads ++ payload ∷ []) (with_update run c)
 opens_more mark payloads payload run c was is accepted frames = record {
   say = records_more mark payloads payload run c was.say is;
-  kept = IsKept-longer (Some run) c was.kept (IsSizedCommand-record payload c is) accepted (omega (arith, frames, one_frame-record payload c is));
+  kept = IsKept-longer (Some (From at_first run)) c was.kept (IsSizedCommand-record payload c is) accepted (omega (arith, frames, one_frame-record payload c is));
 }
 
 -- what stands before the last of such records, and the last
@@ -146,13 +146,13 @@ pub record IsMore (mark n : List ℕ) (payload : List ℕ) (run before : Run) : 
   pub frames : update_frames before + 1 < 2 ^ 32
   pub same : mark ≡ n
 
--- the last update of a history that keeps all limits is accepted after those before it
-pub accepted_last : (before : Run) (c : Command) → IsKept (Some (with_update before c)) → is_accepted before.setup before.later c ≡ true
-accepted_last before c kept =
+-- the last update of a run that keeps all limits is accepted after those before it
+pub accepted_last : (before : Run) (c : Command) → IsHistory (with_update before c) → is_accepted before.setup before.later c ≡ true
+accepted_last before c are =
     let each : list_all (λ (b : Bool). b) (over (is_accepted before.setup) [] before.later) && (is_accepted before.setup before.later c && true) ≡ true =
     sym (ap (list_all (λ (b : Bool). b)) (over-append (is_accepted before.setup) [] before.later (c ∷ []))
     ∙ list_all-append (λ (b : Bool). b) (over (is_accepted before.setup) [] before.later) (is_accepted before.setup before.later c ∷ []))
-    ∙ kept.0.accepted in
+    ∙ are.accepted in
     (and_parts (is_accepted before.setup before.later c) true
     (and_parts (list_all (λ (b : Bool). b) (over (is_accepted before.setup) [] before.later)) (is_accepted before.setup before.later c && true) each).1).0
 
@@ -160,12 +160,12 @@ pub opens_less : (mark : List ℕ) (payloads : List (List ℕ)) (payload : List 
 opens_less mark payloads payload run n before x y =
     let parts = records_less mark payloads payload run n before x.say y.say in
     let c = parts.0 in
-    let kept : IsKept (Some (with_update before c)) = subst (λ (r : Run). IsKept (Some r)) parts.1 x.kept in
+    let kept : IsKept (Some (From at_first (with_update before c))) = subst (λ (r : Run). IsKept (Some (From at_first r))) parts.1 x.kept in
     record {
       last = c;
       whole = parts.1;
       record_of = parts.2;
-      accepted = accepted_last before c kept;
+      accepted = accepted_last before c kept.0;
       frames = omega (arith, kept.1, update_frames-push before c, one_frame-record payload c parts.2);
       same = parts.3;
     }
@@ -202,33 +202,38 @@ one_more_is_some (p ∷ payloads) payload e = cc
 -- with bytes that are no record
 pub nowhere-no_record : (payloads : List (List ℕ)) (payload : List ℕ) → IsNoRecord payload → OpensNowhere (payloads ++ payload ∷ [])
 nowhere-no_record payloads payload none mark None e = one_more_is_some payloads payload e
-nowhere-no_record payloads payload none mark (Some run) x = let last = last_is_record mark payloads payload run x.say in none last.0 last.1
+nowhere-no_record payloads payload none mark (Some (From o run)) x = let last = last_is_record mark payloads payload run x.1.say in none last.0 last.1
+nowhere-no_record payloads payload none mark (Some (Renewed before key run)) x = x
 
 -- an update first
 pub nowhere-first_update : (payload : List ℕ) (c : Command) → IsUpdateRecord payload c → OpensNowhere (payload ∷ [])
 nowhere-first_update payload c is mark None e = one_more_is_some [] payload e
-nowhere-first_update payload c is mark (Some run) x = update_is_no_setup payload mark run.setup c x.say.0 is
+nowhere-first_update payload c is mark (Some (From o run)) x = update_is_no_setup payload mark run.setup c x.1.say.0 is
+nowhere-first_update payload c is mark (Some (Renewed before key run)) x = x
 
 -- a setup first whose size is refused
 pub nowhere-first_setup : (payload n : List ℕ) (s : Setup) → IsRecordOf payload (SetsUp n s) → (size_refusal s ≡ None → ⊥) → OpensNowhere (payload ∷ [])
 unfolding set_up
 nowhere-first_setup payload n s is refused mark None e = one_more_is_some [] payload e
-nowhere-first_setup payload n s is refused mark (Some run) x =
-    refused (subst (λ (t : Setup). size_refusal t ≡ None) (ap (set_up s) (record_once payload (SetsUp mark run.setup) (SetsUp n s) x.say.0 is)) x.kept.0.setup)
+nowhere-first_setup payload n s is refused mark (Some (From o run)) x =
+    refused (subst (λ (t : Setup). size_refusal t ≡ None) (ap (set_up s) (record_once payload (SetsUp mark run.setup) (SetsUp n s) x.1.say.0 is)) x.1.kept.0.setup)
+nowhere-first_setup payload n s is refused mark (Some (Renewed before key run)) x = x
 
 module _ (n : List ℕ) (payloads : List (List ℕ)) (payload : List ℕ) (before : Run) (was : Opens n payloads before) where
   -- a setup after others
   pub nowhere-setup : (m : List ℕ) (s : Setup) → IsRecordOf payload (SetsUp m s) → OpensNowhere (payloads ++ payload ∷ [])
   nowhere-setup m s is mark None e = one_more_is_some payloads payload e
-  nowhere-setup m s is mark (Some run) x = let more = opens_less mark payloads payload run n before x was in update_is_no_setup payload m s more.last is more.record_of
+  nowhere-setup m s is mark (Some (From o run)) x = let more = opens_less mark payloads payload run n before x.1 was in update_is_no_setup payload m s more.last is more.record_of
+  nowhere-setup m s is mark (Some (Renewed es key run)) x = x
 
   -- an update that isn't accepted after the others, or whose frame has no number
   pub nowhere-update : (c : Command) → IsUpdateRecord payload c → (is_accepted before.setup before.later c ≡ true → update_frames before + 1 < 2 ^ 32 → ⊥) → OpensNowhere (payloads ++ payload ∷ [])
   nowhere-update c is refused mark None e = one_more_is_some payloads payload e
-  nowhere-update c is refused mark (Some run) x =
-      let more = opens_less mark payloads payload run n before x was in
+  nowhere-update c is refused mark (Some (From o run)) x =
+      let more = opens_less mark payloads payload run n before x.1 was in
       let same : more.last ≡ c = update_once payload more.last c more.record_of is in
       refused (subst (λ (d : Command). is_accepted before.setup before.later d ≡ true) same more.accepted) more.frames
+  nowhere-update c is refused mark (Some (Renewed es key run)) x = x
 
 -- a setup's record alone opens to it, where its size is accepted
 pub opens_setup : (payload mark : List ℕ) (s : Setup) → IsRecordOf payload (SetsUp mark s) → size_refusal s ≡ None → Opens mark (payload ∷ []) (record { setup = s; later = [] })
@@ -247,13 +252,13 @@ bad_last mark payloads payload h opened nowhere = record {
 
 -- records that open don't open nowhere, nor under another mark
 pub not_nowhere : (mark : List ℕ) (payloads : List (List ℕ)) (run : Run) → Opens mark payloads run → OpensNowhere payloads → ⊥
-not_nowhere mark payloads run opened nowhere = nowhere mark (Some run) opened
+not_nowhere mark payloads run opened nowhere = nowhere mark (Some (From at_first run)) (refl, opened)
 
 pub not_elsewhere : (mark : List ℕ) (payloads : List (List ℕ)) (run : Run) → Opens mark payloads run → OpensElsewhere mark payloads → ⊥
 not_elsewhere mark payloads run opened other = other.differs (opens_once other.other mark payloads other.run run other.opened opened).0
 
 pub nowhere_or_elsewhere : (mark : List ℕ) (payloads : List (List ℕ)) → OpensNowhere payloads → OpensElsewhere mark payloads → ⊥
-nowhere_or_elsewhere mark payloads nowhere other = nowhere other.other (Some other.run) other.opened
+nowhere_or_elsewhere mark payloads nowhere other = nowhere other.other (Some (From at_first other.run)) (refl, other.opened)
 
 -- The records that are written.
 
@@ -267,7 +272,7 @@ is_update_record (Delete id) sized update = record { limits = sized; spelled = r
 is_update_record (Search word) sized update = absurd (true≢false (sym update))
 
 -- and that of an update, behind records that open, to the history with it
-pub opens-update_record : (mark : List ℕ) (payloads : List (List ℕ)) (run : Run) (c : Command) → Opens mark payloads run → is_update c ≡ true → IsKept (Some (with_update run c))
+pub opens-update_record : (mark : List ℕ) (payloads : List (List ℕ)) (run : Run) (c : Command) → Opens mark payloads run → is_update c ≡ true → IsKept (Some (From at_first (with_update run c)))
     → Opens mark (payloads ++ update_record c ∷ []) (with_update run c)
 opens-update_record mark payloads run c was update kept = record {
   say = records_more mark payloads (update_record c) run c was.say (is_update_record c (sized run.later kept.0.each) update);

@@ -2,7 +2,7 @@
 use Rattle.std.specs.Prelude.{◌≡◌, ℕ, ◌+◌, List, [], ◌∷◌, ◌++◌, take, None, Some}
 use Rattle.client_registry.specs.Command.{Command, Add, Delete, Search}
 use Rattle.client_registry.specs.Histories.{IsKept}
-use Rattle.client_registry.specs.Run.{History, Run}
+use Rattle.client_registry.specs.Run.{History, Run, From, Renewed, at_first}
 use Rattle.client_records.specs.Records.{SetsUp, Adds, Deletes, IsRecordOf}
 
 -- the same run with one update more
@@ -30,12 +30,13 @@ AreRecordsOf mark (first ∷ others) run = IsRecordOf first (SetsUp mark run.set
 -- and the run keeps the rules of every history: its setup is accepted, and so is each update after those before it
 pub record Opens (mark : List ℕ) (payloads : List (List ℕ)) (run : Run) : Type 0 where
   pub say : AreRecordsOf mark payloads run
-  pub kept : IsKept (Some run)
+  pub kept : IsKept (Some (From at_first run))
 
--- the same of a history; before a setup there is no record
+-- the same of a whole history; before a setup there is no record, and none open to one with a renewal, since there is no record of it
 abbrev pub OpensTo : List ℕ → List (List ℕ) → History → Type 0
 OpensTo mark payloads None = payloads ≡ []
-OpensTo mark payloads (Some run) = Opens mark payloads run
+OpensTo mark payloads (Some (From o run)) = (o ≡ at_first) × Opens mark payloads run
+OpensTo mark payloads (Some (Renewed before key run)) = ⊥
 
 -- they open to no history, under no mark
 abbrev pub OpensNowhere : List (List ℕ) → Type 0

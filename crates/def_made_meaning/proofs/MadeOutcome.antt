@@ -19,7 +19,7 @@ use Rattle.client_registry.specs.Document.{Document}
 use Rattle.client_registry.specs.Documents.{is_live}
 use Rattle.client_registry.specs.Histories.{counter_in, empty, frames_in, is_listed_in}
 use Rattle.client_registry.specs.Live.{live, matching_in}
-use Rattle.client_registry.specs.Run.{History}
+use Rattle.client_registry.specs.Run.{History, From, at_first}
 use Rattle.client_registry.specs.Setup.{Setup, setup_with}
 use Rattle.client_registry.specs.WordRule.{word_refusal}
 use Rattle.client_registry.specs.declared.faults.WordFault.{WordFault}
@@ -123,7 +123,7 @@ module _ (seed : ℕ) (key : List ℕ) (n : ℕ) (few : n ≤ 10000) where
   setup = setup_with (made_docs seed n) 16 64 1
 
   abbrev with_commands : List Command → History
-  with_commands cs = Some (record { setup = setup; later = cs })
+  with_commands cs = Some (From at_first (record { setup = setup; later = cs }))
 
   abbrev behind : List Command → Place
   behind cs = record { key = key; documents = made_docs seed n; history = with_commands cs }

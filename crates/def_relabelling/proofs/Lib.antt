@@ -4,6 +4,9 @@ pub mod Shifts
 pub mod OwnValues
 pub mod SameDrawings
 pub mod SameDraws
+pub mod EpochDraws
+pub mod AlikeEpochs
+pub mod OwnEpoch
 pub mod FirstPlaces
 pub mod SamePlaces
 pub mod Orderly
@@ -26,6 +29,8 @@ pub mod SumsBeside
 pub mod OpenedAlike
 pub mod SizedValues
 pub mod OneToOne
+pub mod RelabelledEpochs
+pub mod RelabelledBack
 pub mod FromDraws
 pub mod Twins
 pub mod AlikeBefore

@@ -184,6 +184,22 @@ transcript_told t o run = λ i. setup i ∷ later [] run.later i
 some_inside : {A : Type 0} (a b : A) → Some a ≡ Some b → a ≡ b
 some_inside a b e = cc
 
+-- Two runs of equal leakage that draw the same, each under a table.
+
+module _ (o : Offsets) (run other : Run) (t m : Table) (history : IsHistory run) (history2 : IsHistory other) (leaks : leak o run ≡ leak o other)
+    (same : draws m o other ≡ draws t o run) where
+  pub wire_drawn : wire m o other ≡ wire t o run
+  wire_drawn =
+      let earlier : List Kept = replicate o.command Nothing in
+      let is : length earlier ≡ o.command = length-replicate o.command Nothing in
+      some_inside (wire m o other) (wire t o run)
+      (sym (simulate_is_wire m o other earlier is history2)
+      ∙ (λ i. simulated_from (record { kept = earlier; next = o.frame }) (sym leaks i) (same i))
+      ∙ simulate_is_wire t o run earlier is history)
+
+  pub transcript_drawn : transcript m o other ≡ transcript t o run
+  transcript_drawn = transcript_told m o other ∙ (λ i. map passed_by (zip (sym leaks i) (wire_drawn i))) ∙ sym (transcript_told t o run)
+
 -- Two runs of equal leakage.
 
 module _ (o : Offsets) (run other : Run) (t : Table) (history2 : IsHistory other) (leaks : leak o run ≡ leak o other) where
@@ -292,18 +308,9 @@ module _ (o : Offsets) (run other : Run) (t : Table) (history2 : IsHistory other
     -- Promise P150, also here
     -- so the same frames are sent
     pub wire_relabelled : wire (relabelled o run other t) o other ≡ wire t o run
-    wire_relabelled =
-        let earlier : List Kept = replicate o.command Nothing in
-        let is : length earlier ≡ o.command = length-replicate o.command Nothing in
-        some_inside (wire (relabelled o run other t) o other) (wire t o run)
-        (sym (simulate_is_wire (relabelled o run other t) o other earlier is history2)
-        ∙ (λ i. simulated_from (record { kept = earlier; next = o.frame }) (sym leaks i) (draws_relabelled i))
-        ∙ simulate_is_wire t o run earlier is history)
+    wire_relabelled = wire_drawn o run other t (relabelled o run other t) history history2 leaks draws_relabelled
 
     -- Promise P150, also here
     -- and all that passes is the same
     pub transcript_relabelled : transcript (relabelled o run other t) o other ≡ transcript t o run
-    transcript_relabelled =
-        transcript_told (relabelled o run other t) o other
-        ∙ (λ i. map passed_by (zip (sym leaks i) (wire_relabelled i)))
-        ∙ sym (transcript_told t o run)
+    transcript_relabelled = transcript_drawn o run other t (relabelled o run other t) history history2 leaks draws_relabelled

@@ -1,9 +1,9 @@
--- Two runs that differ in nothing but the order of the words inside their documents.
+-- Two runs that differ in nothing but the order of the words inside their documents, and histories of such runs.
 use Rattle.std.specs.Prelude.{◌≡◌, ℕ, List}
 use Rattle.client_registry.specs.Command.{Command, Add, Delete, Search}
 use Rattle.client_registry.specs.Document.{Document}
 use Rattle.client_registry.specs.Documents.{has_word}
-use Rattle.client_registry.specs.Run.{Run}
+use Rattle.client_registry.specs.Run.{Run, Epochs, From, Renewed}
 use Rattle.def_relabelling.specs.Paired.{Paired}
 
 -- the same identifier and the same words, in whatever order: no document has a word twice
@@ -21,3 +21,9 @@ pub record IsReordered (run other : Run) : Type 0 where
   pub pad : run.setup.pad ≡ other.setup.pad
   pub documents : Paired HasSameWords run.setup.documents other.setup.documents
   pub later : Paired IsSameCommand run.later other.later
+
+-- epoch by epoch, under the same keys
+abbrev pub AreReordered : Epochs → Epochs → Type 0
+AreReordered (From o run) (From o2 other) = (o ≡ o2) × IsReordered run other
+AreReordered (Renewed before key run) (Renewed before2 key2 other) = AreReordered before before2 × (key ≡ key2) × IsReordered run other
+AreReordered _ _ = ⊥

@@ -3,6 +3,7 @@
 use Rattle.std.proofs.Common.{◌≡◌, ℕ, List, [], ◌∷◌, Some, None, refl}
 use Rattle.std.specs.Prelude.{replicate}
 use Rattle.client_registry.specs.Command.{Command, Add, Delete}
+use Rattle.client_registry.specs.Run.{From, at_first}
 use Rattle.client_registry.specs.Setup.{setup_of}
 use Rattle.keyed_fn.specs.KeyedFn.{KeyedFn, keyed_fn}
 use Rattle.keyed_fn.specs.Toy.{toy_prf, toy_pad}
@@ -35,7 +36,7 @@ ac = 0x61 ∷ 0x63 ∷ []
 
 -- after a setup of one document, and these commands
 abbrev behind : List Command → Place
-behind commands = record { key = key; documents = []; history = Some (record { setup = setup_of (document 1 (a ∷ []) ∷ []) 1 1; later = commands }) }
+behind commands = record { key = key; documents = []; history = Some (From at_first (record { setup = setup_of (document 1 (a ∷ []) ∷ []) 1 1; later = commands })) }
 
 labels_of_a_setup : clash_in_hand toy (opened key) (SetsUp (setup_of (document 1 (da ∷ ac ∷ []) ∷ []) 1 1)) ≡ Some (LabelClash 0 1)
 labels_of_a_setup = refl

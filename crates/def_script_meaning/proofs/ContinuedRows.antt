@@ -10,7 +10,7 @@ use Rattle.std.proofs.lemmas.List.Elements.{All-nil, All-cons}
 use Rattle.client_registry.specs.Command.{Command, Add, Search}
 use Rattle.client_registry.specs.Document.{Document}
 use Rattle.client_registry.specs.Histories.{IsKept, longer}
-use Rattle.client_registry.specs.Run.{Run, at_first}
+use Rattle.client_registry.specs.Run.{Run, From, at_first}
 use Rattle.script_documents.specs.LineDocument.{document}
 use Rattle.def_link_events.specs.Events.{Event}
 use Rattle.def_link_events.specs.Served.{IsHonest}
@@ -23,8 +23,7 @@ use Rattle.sse_frames.specs.Frames.{FrameText, Hello}
 use Rattle.sse_frames.specs.Replies.{Next, Took, Page, IsIdentifier}
 use Rattle.sse_model.proofs.CollisionTest.{IsCollisionFree-from_test}
 use Rattle.sse_model.specs.Drawn.{IsCollisionFree}
-use Rattle.sse_model.specs.Epochs.{keys_under}
-use Rattle.sse_model.specs.Histories.{table_of, frames_sent}
+use Rattle.sse_model.specs.Histories.{table_at, frames_sent}
 use Rattle.sse_script.specs.Shown.{Added}
 use Rattle.def_script_meaning.specs.Carries.{Carries, frames_by, records_by}
 use Rattle.def_script_meaning.specs.Continues.{at_run, GoesOn, frames_since, Continued}
@@ -53,31 +52,28 @@ more = Add (document 5 (a ∷ [])) ∷ Search a ∷ []
 abbrev lines : List (Option Line)
 lines = Some (CommandLine (AddLine 5 (a ∷ []))) ∷ Some (CommandLine (Find a)) ∷ []
 
-abbrev keys : ℕ → List ℕ
-keys = keys_under key (Some run)
-
 -- What holds before the session.
 
 kept_row : IsKeptAt 64 (at_run key docs run)
 unfolding utf8_valid_len is_utf8 chars encode
 kept_row = kept_next 32 (record { key = key; documents = docs; history = None }) (SetupLine 1 1 1) tt (kept_next 0 (opened key) (Doc 1 (a ∷ [])) (lit< tt) (IsKeptAt-opened 0 key))
 
-whole_kept_row : IsKept (longer more (Some run))
+whole_kept_row : IsKept (longer more (Some (From at_first run)))
 unfolding utf8_valid_len is_utf8 chars encode
 whole_kept_row = (kept_follow 64 (at_run key docs run) 1 lines false (lit< tt, (tt, tt)) kept_row).0
 
-free_row : IsCollisionFree (table_of toy keys run) at_first run
-free_row = IsCollisionFree-from_test (table_of toy keys run) at_first run refl
+free_row : IsCollisionFree (table_at toy key run) at_first run
+free_row = IsCollisionFree-from_test (table_at toy key run) at_first run refl
 
-whole_free_row : IsCollisionFree (table_of toy keys run) at_first (record { setup = setup; later = more })
-whole_free_row = IsCollisionFree-from_test (table_of toy keys run) at_first (record { setup = setup; later = more }) refl
+whole_free_row : IsCollisionFree (table_at toy key run) at_first (record { setup = setup; later = more })
+whole_free_row = IsCollisionFree-from_test (table_at toy key run) at_first (record { setup = setup; later = more }) refl
 
 -- a server that was sent the setup's three frames
 abbrev before : ServerState
-before = (steps toy server.at_first (frames_sent toy keys (Some run))).0
+before = (steps toy server.at_first (frames_sent toy key (Some (From at_first run)))).0
 
-held_row : Holds (table_of toy keys run) at_first setup [] before
-held_row = history_held toy keys run server.at_first toy_laws kept_row.history free_row (record { next = refl; stage = refl })
+held_row : Holds (table_at toy key run) at_first setup [] before
+held_row = history_held toy key (From at_first run) server.at_first toy_laws kept_row.history free_row (record { next = refl; stage = refl })
 
 next_row : before.next ≡ 3
 next_row = held_row.next
@@ -139,7 +135,7 @@ finds_row = record {
 }
 
 abbrev end : Ended
-end = ended (seen passing records text) (Some key) (longer more (Some run)) (AtEnd false)
+end = ended (seen passing records text) (Some key) (longer more (Some (From at_first run))) (AtEnd false)
 
 -- the number is one of 2 and 3
 greeted_row : IsGreeted 2 3 (seen [] [] []) (seen greeted [] [])

@@ -2,20 +2,21 @@
 -- that, no collision and no reply stops it where the history up to its stop has no collision; and where nothing stopped it from
 -- outside either, it did what its lines mean.
 use Rattle.std.proofs.Common.{◌≡◌, ℕ, Bool, ◌^◌, ◌<◌, ◌≤◌, inl, inr, List, [], ◌∷◌, ◌++◌, length, map, take, Some, None, refl, sym, ap, ◌∙◌, subst, arith, length-append}
-use Rattle.std.specs.Prelude.{filter, flat_map, Option}
+use Rattle.std.specs.Prelude.{filter, flat_map, fold, Option}
 use Rattle.std.specs.Io.KnownBytes.{append_known}
 use Rattle.std.specs.List.{AllByRecursion}
 use Rattle.std.proofs.lemmas.List.{append_cancel_left, map-append}
 use Rattle.std.proofs.lemmas.List.Concat.{flat_map-append}
-use Rattle.client_registry.proofs.HistoryLaws.{IsKept-first, whole_run}
+use Rattle.client_registry.proofs.HistoryLaws.{IsFirstOf-longer, IsKept-first}
 use Rattle.client_registry.proofs.OverLaws.{over-append}
 use Rattle.client_records.specs.Records.{update_record}
 use Rattle.client_registry.specs.Command.{Command, is_update}
 use Rattle.client_registry.specs.Document.{Document}
-use Rattle.client_registry.specs.Histories.{IsKept, IsFirstOf, longer, shown_by, shown_in_turn, found_in_turn}
+use Rattle.client_registry.specs.Epochs.{Step, Does, Renews, step_after}
+use Rattle.client_registry.specs.Histories.{IsKept, IsFirstOf, IsOneEpoch, longer, renewed, shown_by, shown_in_turn, found_in_turn}
 use Rattle.client_registry.specs.Live.{in_order}
 use Rattle.client_registry.specs.Over.{over}
-use Rattle.client_registry.specs.Run.{Run, History, at_first}
+use Rattle.client_registry.specs.Run.{Run, History, From, at_first}
 use Rattle.keyed_fn.specs.KeyedFn.{KeyedFn, IsKeyedFn}
 use Rattle.def_link_events.specs.Events.{Event}
 use Rattle.def_link_events.specs.Served.{IsServed, idle}
@@ -27,8 +28,7 @@ use Rattle.sse_frames.specs.Exchange.{searches}
 use Rattle.sse_frames.specs.Frames.{InGrammar}
 use Rattle.sse_model.proofs.ExchangeLaws.{searches-append, searches-sent}
 use Rattle.sse_model.proofs.HistoryLaws.{frames_sent-longer, frames_sent-in_grammar}
-use Rattle.sse_model.specs.Epochs.{keys_under}
-use Rattle.sse_model.specs.Histories.{table_of, frames_sent, frames_of_next, HasNoCollision}
+use Rattle.sse_model.specs.Histories.{table_at, frames_sent, frames_of_next, HasNoCollision}
 use Rattle.sse_outside.proofs.Known.{append_known-twice}
 use Rattle.sse_script.specs.Texts.{text_of}
 use Rattle.sse_outside.specs.Kept.{with_records}
@@ -36,7 +36,7 @@ use Rattle.def_script_meaning.specs.Outcome.{said}
 use Rattle.def_script_meaning.specs.Carries.{Keeps, Outside, text_with, with_answers}
 use Rattle.def_script_meaning.specs.Continues.{at_run, GoesOn, frames_since, Continued}
 use Rattle.def_script_meaning.specs.Exchange.{Adds}
-use Rattle.def_script_meaning.specs.Goes.{Passes, HasPassed, Goes, updates_count}
+use Rattle.def_script_meaning.specs.Goes.{Passes, HasPassed, Goes}
 use Rattle.def_script_meaning.specs.Headline.{IsOverHonest, IsUndisturbed}
 use Rattle.def_script_meaning.specs.Lines.{Line}
 use Rattle.def_script_meaning.specs.Meaning.{Meaning, follow}
@@ -49,6 +49,8 @@ use Rattle.def_script_meaning.proofs.FollowedPlaces.{finds, finds-follow, first-
 use Rattle.def_script_meaning.proofs.GoneAsMeant.{Adds-joined, Prints-none}
 use Rattle.def_script_meaning.proofs.Headline.{AreAnswered, session_outside, session_whole, same_events, with_answers-finds, few, IsFree-first}
 use Rattle.def_script_meaning.proofs.Kept.{IsWithinItem, IsKeptAt, kept_follow}
+use Rattle.def_script_meaning.proofs.OneEpoch.{IsOneEpoch-first, one_follow}
+use Rattle.def_script_meaning.proofs.QueryLaws.{longer-none, longer-twice}
 use Rattle.def_script_meaning.proofs.Recorded.{KeepsFirst-all, records-longer, kept_since}
 use Rattle.def_script_meaning.proofs.RunGoes.{turned_status, went}
 
@@ -57,50 +59,44 @@ second_half : {X : Type 0} (P : X → Type 0) (xs ys : List X) → AllByRecursio
 second_half P [] ys all = all
 second_half P (x ∷ xs) ys all = second_half P xs ys all.1
 
--- a history that begins with a run is that run with commands after it
-pub since : (run : Run) (h : History) → IsFirstOf (Some run) h → (more : List Command) × (h ≡ longer more (Some run))
-since run None first = absurd first
-since run (Some whole) first = (first.1.0, ap (λ r. Some r) (whole_run run whole first))
-
--- none, where it is that run
-pub no_commands : (run : Run) (h : History) (first : IsFirstOf (Some run) h) → h ≡ Some run → (since run h first).0 ≡ []
-no_commands run h first same = append_cancel_left run.later (since run h first).0 [] (later_of (record run { later = run.later ++ (since run h first).0 }) run (sym (since run h first).1 ∙ same) ∙ append-none run.later)
+-- a history of one epoch that begins with a run is that run with commands after it
+pub since : (run : Run) (h : History) → IsOneEpoch h → IsFirstOf (Some (From at_first run)) h → (more : List Command) × (h ≡ longer more (Some (From at_first run)))
+since run None one first = absurd first
+since run (Some whole) one first =
+    let all = by run first.0 (subst (λ es. IsOneEpoch (Some es)) first.1 one) in (all.0, ap (λ es. Some es) first.1 ∙ all.1)
   where
-    later_of : (a b : Run) → Some a ≡ Some b → a.later ≡ b.later
-    later_of a b e = ap (λ (r : Run). r.later) (let same : a ≡ b = cc in same)
-
-    append-none : {A : Type 0} (xs : List A) → xs ≡ xs ++ []
-    append-none [] = refl
-    append-none (x ∷ xs) = ap (λ more. x ∷ more) (append-none xs)
+    by : (run : Run) (steps : List Step) → IsOneEpoch (Some (fold step_after (From at_first run) steps)) → (more : List Command) × (Some (fold step_after (From at_first run) steps) ≡ longer more (Some (From at_first run)))
+    by run [] one = ([], sym (longer-none (Some (From at_first run))))
+    by run (Does c ∷ steps) one =
+        let rest = by (record run { later = run.later ++ c ∷ [] }) steps one in
+        (c ∷ rest.0, rest.1 ∙ sym (longer-twice (Some (From at_first run)) c rest.0))
+    by run (Renews key ∷ steps) one = absurd (IsOneEpoch-first (renewed key (Some (From at_first run))) (Some (fold step_after (From at_first run) (Renews key ∷ steps))) (steps, refl) one)
 
 -- what the searches of all show is what those of the run show, and then those after it
-pub shown_in_turn-longer : (run : Run) (more : List Command) → shown_in_turn (longer more (Some run)) ≡ shown_in_turn (Some run) ++ shown_behind run more
+pub shown_in_turn-longer : (run : Run) (more : List Command) → shown_in_turn (longer more (Some (From at_first run))) ≡ shown_in_turn (Some (From at_first run)) ++ shown_behind run more
 shown_in_turn-longer run more =
     ap (flat_map (λ r. r)) (over-append (shown_by run.setup) [] run.later more)
     ∙ flat_map-append (λ r. r) (over (shown_by run.setup) [] run.later) (over (shown_by run.setup) run.later more)
 
 module _ (f : KeyedFn) (laws : IsKeyedFn f) (key : List ℕ) (run : Run) (before : ServerState)
-    (held : Holds (table_of f (keys_under key (Some run)) run) at_first run.setup run.later before) where
-  abbrev keys : ℕ → List ℕ
-  keys = keys_under key (Some run)
-
+    (held : Holds (table_at f key run) at_first run.setup run.later before) where
   -- a server that holds what a run leaves so answers the frames of commands after it
-  pub since_is_answered : (more : List Command) → IsKept (longer more (Some run)) → HasNoCollision f keys (longer more (Some run)) → AreAnswered f before (frames_since f key run more) (shown_behind run more)
+  pub since_is_answered : (more : List Command) → IsKept (longer more (Some (From at_first run))) → HasNoCollision f key (longer more (Some (From at_first run))) → AreAnswered f before (frames_since f key run more) (shown_behind run more)
   since_is_answered more kept free =
-      let all : frames_sent f keys (longer more (Some run)) ≡ frames_sent f keys (Some run) ++ frames_of_next f keys (Some run) more = frames_sent-longer f keys (Some run) more in
+      let all : frames_sent f key (longer more (Some (From at_first run))) ≡ frames_sent f key (Some (From at_first run)) ++ frames_of_next f key (Some (From at_first run)) more = frames_sent-longer f key (Some (From at_first run)) more in
       record {
-        grammar = second_half InGrammar (frames_sent f keys (Some run)) (frames_of_next f keys (Some run) more) (subst (AllByRecursion InGrammar) all (frames_sent-in_grammar f keys (longer more (Some run)) laws kept free));
-        given = second_half IsAnswer (shown_in_turn (Some run)) (shown_behind run more) (subst (AllByRecursion IsAnswer) (shown_in_turn-longer run more) (shown_are_answers (longer more (Some run)) kept));
+        grammar = second_half InGrammar (frames_sent f key (Some (From at_first run))) (frames_of_next f key (Some (From at_first run)) more) (subst (AllByRecursion InGrammar) all (frames_sent-in_grammar f key (longer more (Some (From at_first run))) laws kept free));
+        given = second_half IsAnswer (shown_in_turn (Some (From at_first run))) (shown_behind run more) (subst (AllByRecursion IsAnswer) (shown_in_turn-longer run more) (shown_are_answers (longer more (Some (From at_first run))) kept));
         count = omega (
           arith,
-          searches-sent f keys (longer more (Some run)),
-          searches-sent f keys (Some run),
+          searches-sent f key (longer more (Some (From at_first run))),
+          searches-sent f key (Some (From at_first run)),
           ap searches all,
-          searches-append (frames_sent f keys (Some run)) (frames_of_next f keys (Some run) more),
+          searches-append (frames_sent f key (Some (From at_first run))) (frames_of_next f key (Some (From at_first run)) more),
           ap length (shown_in_turn-longer run more),
-          length-append (shown_in_turn (Some run)) (shown_behind run more),
+          length-append (shown_in_turn (Some (From at_first run))) (shown_behind run more),
         );
-        replies = replies_behind f keys run more before laws kept free held;
+        replies = replies_behind f key (From at_first run) more before laws kept free held;
       }
 
   module _ (docs : List Document) (n number : ℕ) (lines : List (Option Line)) (refused : Bool) (within : AllByRecursion IsWithinItem lines) (kept_at : IsKeptAt n (at_run key docs run))
@@ -112,40 +108,38 @@ module _ (f : KeyedFn) (laws : IsKeyedFn f) (key : List ℕ) (run : Run) (before
     kept : IsKept m.history
     kept = (kept_follow n (at_run key docs run) number lines refused within kept_at).0
 
-    -- the commands of a history that begins with the run
-    abbrev commands_in : (h : History) → IsFirstOf (Some run) h → List Command
-    commands_in h first = (since run h first).0
-
     -- it goes as its lines mean, and sends the frames after the run
     pub record GoesSince : Type 0 where
-      pub first : IsFirstOf (Some run) end.history
+      pub commands : List Command
+      pub history : end.history ≡ longer commands (Some (From at_first run))
       pub same_key : end.key ≡ Some key
-      pub goes : Goes f m low high (λ next. frames_since f key run (commands_in end.history first)) now end
+      pub goes : Goes f m low high (λ next. frames_since f key run commands) now end
 
     pub goes_since : GoesSince
     goes_since = elim goes_on [
-      | inl away ↦
-          let first : IsFirstOf (Some run) end.history = subst (IsFirstOf (Some run)) (sym away.history) (refl, ([], sym (append-none run.later))) in record {
-            first = first;
-            same_key = away.same_key;
-            goes = record {
-              key = inr (away.same_key ∙ sym (follow-key (at_run key docs run) number lines refused));
-              history = subst (λ h. IsFirstOf h m.history) (sym away.history) (first-follow (at_run key docs run) number lines refused);
-              answers = [];
-              passes = inr (inl (record { key = key; same_key = away.same_key; cause = away.cause; stops = away.stops; away = away.away; none = refl; most = λ next least most. omega (arith, ap (λ cs. updates_count (frames_since f key run cs)) (no_commands run end.history first away.history)) }));
-              prints = Prints-none m [] now.written end.outside.written away.unprinted;
-              ended = λ low_status. absurd (omega (arith, low_status, ap status_of away.stops, turned_status low high away.away.events away.cause away.away.turned));
-            };
-          }
+      | inl away ↦ record {
+        commands = [];
+        history = away.history ∙ sym (longer-none (Some (From at_first run)));
+        same_key = away.same_key;
+        goes = record {
+          key = inr (away.same_key ∙ sym (follow-key (at_run key docs run) number lines refused));
+          history = subst (λ h. IsFirstOf h m.history) (sym away.history) (first-follow (at_run key docs run) number lines refused);
+          answers = [];
+          passes = inr (inl (record { key = key; same_key = away.same_key; cause = away.cause; stops = away.stops; away = away.away; none = refl; most = λ next least most. omega arith }));
+          prints = Prints-none m [] now.written end.outside.written away.unprinted;
+          ended = λ low_status. absurd (omega (arith, low_status, ap status_of away.stops, turned_status low high away.away.events away.cause away.away.turned));
+        };
+      }
       | inr opened ↦
           let greeted = opened.1 in
           let w = went f n (at_run key docs run) number lines refused opened.0 end within kept_at opened.2 in
-          let behind = since run end.history w.since in
+          let behind = since run end.history (one_epoch w.history) w.since in
           let frames : w.more ≡ frames_since f key run behind.0 =
-          append_cancel_left (frames_sent f keys (Some run)) w.more (frames_since f key run behind.0)
-          (sym w.frames ∙ ap (frames_sent f keys) behind.1 ∙ frames_sent-longer f keys (Some run) behind.0) in
+          append_cancel_left (frames_sent f key (Some (From at_first run))) w.more (frames_since f key run behind.0)
+          (sym w.frames ∙ ap (frames_sent f key) behind.1 ∙ frames_sent-longer f key (Some (From at_first run)) behind.0) in
           record {
-            first = w.since;
+            commands = behind.0;
+            history = behind.1;
             same_key = w.same_key;
             goes = record {
               key = inr (w.same_key ∙ sym (follow-key (at_run key docs run) number lines refused));
@@ -160,20 +154,19 @@ module _ (f : KeyedFn) (laws : IsKeyedFn f) (key : List ℕ) (run : Run) (before
           }
     ]
       where
-        append-none : {A : Type 0} (xs : List A) → xs ++ [] ≡ xs
-        append-none [] = refl
-        append-none (x ∷ xs) = ap (λ more. x ∷ more) (append-none xs)
+        one_epoch : IsFirstOf end.history m.history → IsOneEpoch end.history
+        one_epoch first = IsOneEpoch-first end.history m.history first (one_follow (at_run key docs run) number lines refused refl)
 
     -- at its end the records after the run were kept
-    kept_on : status_of end.stop ≤ 2 → (more : List Command) → end.history ≡ longer more (Some run) → Keeps now.kept end.outside.kept (map update_record (filter is_update more))
+    kept_on : status_of end.stop ≤ 2 → (more : List Command) → end.history ≡ longer more (Some (From at_first run)) → Keeps now.kept end.outside.kept (map update_record (filter is_update more))
     kept_on low_status more history = elim goes_on [
       | inl away ↦ absurd (omega (arith, low_status, ap status_of away.stops, turned_status low high away.away.events away.cause away.away.turned))
       | inr opened ↦
           let w = kept_since f (at_run key docs run) number lines refused opened.0 end opened.2 in
-          let held : w.held ≡ longer more (Some run) = w.whole (λ e. absurd (omega (arith, low_status, e))) (λ e. absurd (omega (arith, low_status, e))) (λ e. absurd (omega (arith, low_status, e))) ∙ history in
+          let held : w.held ≡ longer more (Some (From at_first run)) = w.whole (λ e. absurd (omega (arith, low_status, e))) (λ e. absurd (omega (arith, low_status, e))) (λ e. absurd (omega (arith, low_status, e))) ∙ history in
           let same : w.records ≡ map update_record (filter is_update more) =
-          append_cancel_left (records_in f key (Some run)) w.records (map update_record (filter is_update more))
-          (sym w.are ∙ ap (records_in f key) held ∙ records-longer f key (Some run) more refl) in
+          append_cancel_left (records_in f key (Some (From at_first run))) w.records (map update_record (filter is_update more))
+          (sym w.are ∙ ap (records_in f key) held ∙ records-longer f key (Some (From at_first run)) more refl) in
           KeepsFirst-all w.all w.records (status_of end.stop) opened.0.kept end.outside.kept (λ e. absurd (omega (arith, low_status, e))) (λ e. absurd (omega (arith, low_status, e))) w.kept
           ∙ (λ i. with_records (same i) (opened.1.unkept i))
     ]
@@ -186,13 +179,12 @@ module _ (f : KeyedFn) (laws : IsKeyedFn f) (key : List ℕ) (run : Run) (before
       g = goes_since
 
       abbrev commands : List Command
-      commands = commands_in end.history g.first
+      commands = g.commands
 
       answered : IsFree f end.key end.history → AreAnswered f before (frames_since f key run commands) (shown_behind run commands)
       answered free =
-          let behind = since run end.history g.first in
-          since_is_answered commands (subst IsKept behind.1 (IsKept-first end.history m.history g.goes.history kept))
-          (subst (HasNoCollision f keys) behind.1 (subst (λ k. IsFree f k end.history) g.same_key free))
+          since_is_answered commands (subst IsKept g.history (IsKept-first end.history m.history g.goes.history kept))
+          (subst (HasNoCollision f key) g.history (subst (λ k. IsFree f k end.history) g.same_key free))
 
       -- Promise P165 (inside): A session that continues after a run has the traffic, the printed lines and the server state of its lines' meaning.
       --   assumes: keyed function, kept limits, honest link, no collision, no device fault, enough memory; not: A server that doesn't hold all that the run left (P166).
@@ -203,7 +195,7 @@ module _ (f : KeyedFn) (laws : IsKeyedFn f) (key : List ℕ) (run : Run) (before
 
       -- Promise P165, also here
       -- and where nothing else did, it did what its lines mean
-      pub continued : (last : Outside) → Ends end last → HasNoCollision f (keys_under key m.history) m.history → IsUndisturbed (status_of end.stop) → Continued f before key run m now last (status_of end.stop) state
+      pub continued : (last : Outside) → Ends end last → HasNoCollision f key m.history → IsUndisturbed (status_of end.stop) → Continued f before key run m now last (status_of end.stop) state
       continued last ends free calm =
           let whole_key : m.key ≡ Some key = follow-key (at_run key docs run) number lines refused in
           let free_end : IsFree f end.key end.history = IsFree-first f end.key m.key end.history m.history g.goes.key g.goes.history (subst (λ k. IsFree f k m.history) (sym whole_key) free) in
@@ -215,17 +207,16 @@ module _ (f : KeyedFn) (laws : IsKeyedFn f) (key : List ℕ) (run : Run) (before
           by free_end low_status (inr (inl u)) = absurd (omega (arith, low_status, ap status_of u.stops, turned_status low high u.away.events u.cause u.away.turned))
           by free_end low_status (inr (inr o)) =
               let well = g.goes.ended low_status in
-              let behind = since run end.history g.first in
               let all = session_whole f low high (λ next. frames_since f key run commands) g.goes.answers now.told end fits before state least most free_end served (shown_behind run commands) (answered free_end) o low_status in
-              let kept_end : IsKept (longer commands (Some run)) = subst IsKept behind.1 (IsKept-first end.history m.history g.goes.history kept) in
-              let history : m.history ≡ longer commands (Some run) = sym well.2 ∙ behind.1 in
+              let kept_end : IsKept (longer commands (Some (From at_first run))) = subst IsKept g.history (IsKept-first end.history m.history g.goes.history kept) in
+              let history : m.history ≡ longer commands (Some (From at_first run)) = sym well.2 ∙ g.history in
               -- the answers, each in order, are those of the lines
               let answers : map in_order (shown_behind run commands) ≡ finds m.shown =
-              append_cancel_left (found_in_turn (Some run)) (map in_order (shown_behind run commands)) (finds m.shown)
-              (ap (λ found. found ++ map in_order (shown_behind run commands)) (sym (in_order-shown_in_turn (Some run) (IsKept-first (Some run) (longer commands (Some run)) (refl, (commands, refl)) kept_end)))
-              ∙ sym (map-append in_order (shown_in_turn (Some run)) (shown_behind run commands))
+              append_cancel_left (found_in_turn (Some (From at_first run))) (map in_order (shown_behind run commands)) (finds m.shown)
+              (ap (λ found. found ++ map in_order (shown_behind run commands)) (sym (in_order-shown_in_turn (Some (From at_first run)) (IsKept-first (Some (From at_first run)) (longer commands (Some (From at_first run))) (IsFirstOf-longer (Some (From at_first run)) commands) kept_end)))
+              ∙ sym (map-append in_order (shown_in_turn (Some (From at_first run))) (shown_behind run commands))
               ∙ ap (map in_order) (sym (shown_in_turn-longer run commands))
-              ∙ in_order-shown_in_turn (longer commands (Some run)) kept_end
+              ∙ in_order-shown_in_turn (longer commands (Some (From at_first run))) kept_end
               ∙ ap found_in_turn (sym history)
               ∙ finds-follow (at_run key docs run) number lines refused) in
               let own_text : text_with g.goes.answers m.shown ≡ flat_map text_of (map said m.shown) =
@@ -242,7 +233,7 @@ module _ (f : KeyedFn) (laws : IsKeyedFn f) (key : List ℕ) (run : Run) (before
                 history = history;
                 events = o.greets.events ++ o.passes.events;
                 adds = subst (λ told. Adds now.told told (o.greets.events ++ o.passes.events)) (sym ends.told) (Adds-joined now.told o.greeted end.outside.told o.greets.events o.passes.events o.greets.adds o.passes.adds);
-                kept = ends.kept ∙ kept_on low_status commands behind.1;
+                kept = ends.kept ∙ kept_on low_status commands g.history;
                 passed = all.2;
                 stored = all.1;
               }

@@ -6,7 +6,8 @@ use Rattle.std.proofs.lemmas.List.{append-nil, length-map}
 use Rattle.client_registry.proofs.HistoryLaws.{IsFirstOf-same, IsFirstOf-trans, IsFirstOf-before, IsFirstOf-longer, found_in_turn-before, found_in_turn-update, found_in_turn-search}
 use Rattle.client_registry.specs.Command.{Command, Add, Delete, Search}
 use Rattle.client_registry.specs.Histories.{begun_by, IsKept, IsFirstOf, found_in_turn, longer}
-use Rattle.client_registry.specs.Run.{History, at_first}
+use Rattle.client_registry.specs.Epochs.{next_begins}
+use Rattle.client_registry.specs.Run.{History, Offsets, From, Renewed, at_first}
 use Rattle.client_registry.specs.Setup.{Setup, setup_with}
 use Rattle.keyed_fn.specs.KeyedFn.{KeyedFn}
 use Rattle.sse_frames.specs.Exchange.{searches}
@@ -14,7 +15,7 @@ use Rattle.def_agreement.proofs.NoCollision.{collision_of_first-none, collision_
 use Rattle.sse_model.proofs.ExchangeLaws.{searches-setup, searches_behind-update}
 use Rattle.sse_model.proofs.HistoryLaws.{frames_sent-before, frames_sent-begun, frames_sent-longer, frames_of_next-search, collision_of_next-search}
 use Rattle.sse_model.proofs.Counts.{length-frames_of_setup}
-use Rattle.sse_model.specs.Histories.{frames_sent, frames_of_first, frames_of_next, table_of, HasNoCollision}
+use Rattle.sse_model.specs.Histories.{frames_sent, frames_of_first, frames_of_next, table_at, HasNoCollision}
 use Rattle.sse_model.specs.Names.{Table, table}
 use Rattle.sse_model.specs.Wire.{frames_of, next_number}
 use Rattle.script_documents.specs.LineDocument.{document}
@@ -22,7 +23,7 @@ use Rattle.client_registry.specs.Live.{matching_in}
 use Rattle.bool_search.specs.Fields.{words_of}
 use Rattle.def_script_meaning.proofs.QueryLaws.{found-searches, no_updates-searches, searches-searches, collision-searches}
 use Rattle.def_script_meaning.proofs.UpdatesLeft.{updates_fewer}
-use Rattle.def_script_meaning.specs.Carries.{keys_at, frames_by, collision_cause, clash_in_hand}
+use Rattle.def_script_meaning.specs.Carries.{frames_by, collision_cause, clash_in_hand}
 use Rattle.def_script_meaning.specs.Goes.{frames_in_hand, frames_of_last, updates_count}
 use Rattle.def_script_meaning.specs.Lines as script
 use Rattle.def_script_meaning.specs.Lines.{Line, Empty, Key, Request}
@@ -44,24 +45,25 @@ finds-append (Finds ids ∷ xs) ys = ap (λ rest. ids ∷ rest) (finds-append xs
 finds-append (Matches fields lists ∷ xs) ys = ap (λ rest. lists ++ rest) (finds-append xs ys) ∙ sym (append_assoc lists (finds xs) (finds ys))
 
 -- one command after a history sends at most one frame, and is its last
-one_command : (f : KeyedFn) (keys : ℕ → List ℕ) (h : History) (c : Command) → (commands : List Command) → commands ≡ c ∷ [] → length (frames_of_next f keys h commands) ≤ frames_in_hand (longer commands h)
-one_command f keys h c commands e = subst (λ cs. length (frames_of_next f keys h cs) ≤ frames_in_hand (longer cs h)) (sym e) (by h)
+one_command : (f : KeyedFn) (key : List ℕ) (h : History) (c : Command) → (commands : List Command) → commands ≡ c ∷ [] → length (frames_of_next f key h commands) ≤ frames_in_hand (longer commands h)
+one_command f key h c commands e = subst (λ cs. length (frames_of_next f key h cs) ≤ frames_in_hand (longer cs h)) (sym e) (by h)
   where
     last : (s : Setup) (later : List Command) → 1 ≤ frames_of_last s (later ++ c ∷ [])
     last s [] = omega arith
     last s (first ∷ later) = omega arith
 
-    one : (t : Table) (s : Setup) (past : List Command) (c : Command) → length (frames_of t at_first.epoch s (next_number at_first s past) past c ++ []) ≤ 1
-    one t s past (Add d) = omega arith
-    one t s past (Delete id) = omega arith
-    one t s past (Search word) = omega arith
+    one : (t : Table) (o : Offsets) (s : Setup) (past : List Command) (c : Command) → length (frames_of t o.epoch s (next_number o s past) past c ++ []) ≤ 1
+    one t o s past (Add d) = omega arith
+    one t o s past (Delete id) = omega arith
+    one t o s past (Search word) = omega arith
 
-    by : (h : History) → length (frames_of_next f keys h (c ∷ [])) ≤ frames_in_hand (longer (c ∷ []) h)
+    by : (h : History) → length (frames_of_next f key h (c ∷ [])) ≤ frames_in_hand (longer (c ∷ []) h)
     by None = omega arith
-    by (Some run) = omega (arith, one (table_of f keys run) run.setup run.later c, last run.setup run.later)
+    by (Some (From o run)) = omega (arith, one (table_at f key run) o run.setup run.later c, last run.setup run.later)
+    by (Some (Renewed before own run)) = omega (arith, one (table_at f own run) (next_begins before) run.setup run.later c, last run.setup run.later)
 
-one_alone : (f : KeyedFn) (keys : ℕ → List ℕ) (h : History) (c : Command) → (commands : List Command) → commands ≡ c ∷ [] → updates_count (frames_of_next f keys h commands) ≤ frames_in_hand (longer commands h)
-one_alone f keys h c commands e = let one = one_command f keys h c commands e in omega (arith, one, updates_fewer (frames_of_next f keys h commands))
+one_alone : (f : KeyedFn) (key : List ℕ) (h : History) (c : Command) → (commands : List Command) → commands ≡ c ∷ [] → updates_count (frames_of_next f key h commands) ≤ frames_in_hand (longer commands h)
+one_alone f key h c commands e = let one = one_command f key h c commands e in omega (arith, one, updates_fewer (frames_of_next f key h commands))
 
 module _ (place : Place) (line : Request) where
   abbrev result : Outcome
@@ -95,17 +97,17 @@ module _ (place : Place) (line : Request) where
   })
 
   -- the frames after a line are those before it, and then its own
-  pub frames-next : (f : KeyedFn) → frames_sent f (keys_at place) (after result place).history ≡ frames_sent f (keys_at place) place.history ++ frames_by f place result
-  frames-next f = by_cases place line (λ r. frames_sent f (keys_at place) (after r place).history ≡ frames_sent f (keys_at place) place.history ++ frames_by f place r) (record {
-    refuses = λ refusal. sym (append-nil (frames_sent f (keys_at place) place.history));
-    collects = λ id words is none e. sym (append-nil (frames_sent f (keys_at place) place.history));
+  pub frames-next : (f : KeyedFn) → frames_sent f place.key (after result place).history ≡ frames_sent f place.key place.history ++ frames_by f place result
+  frames-next f = by_cases place line (λ r. frames_sent f place.key (after r place).history ≡ frames_sent f place.key place.history ++ frames_by f place r) (record {
+    refuses = λ refusal. sym (append-nil (frames_sent f place.key place.history));
+    collects = λ id words is none e. sym (append-nil (frames_sent f place.key place.history));
     sets_up = λ b big pad none e.
-        frames_sent-begun f (keys_at place) (setup_with place.documents b big pad)
-        ∙ ap (λ frames. frames ++ frames_of_first f (keys_at place) (setup_with place.documents b big pad)) (sym (frames_sent-before f (keys_at place) place.history none));
-    adds = λ id words is up e. frames_sent-longer f (keys_at place) place.history _;
-    deletes = λ id is up e. frames_sent-longer f (keys_at place) place.history _;
-    finds = λ word up e. frames_sent-longer f (keys_at place) place.history _;
-    queries = λ fields up e. frames_sent-longer f (keys_at place) place.history _;
+        frames_sent-begun f place.key (setup_with place.documents b big pad)
+        ∙ ap (λ frames. frames ++ frames_of_first f place.key (setup_with place.documents b big pad)) (sym (frames_sent-before f place.key place.history none));
+    adds = λ id words is up e. frames_sent-longer f place.key place.history _;
+    deletes = λ id is up e. frames_sent-longer f place.key place.history _;
+    finds = λ word up e. frames_sent-longer f place.key place.history _;
+    queries = λ fields up e. frames_sent-longer f place.key place.history _;
   })
 
   -- and are at most those of the history's last command
@@ -113,11 +115,11 @@ module _ (place : Place) (line : Request) where
   few-next f = by_cases place line (λ r. updates_count (frames_by f place r) ≤ frames_in_hand (after r place).history) (record {
     refuses = λ refusal. omega arith;
     collects = λ id words is none e. omega arith;
-    sets_up = λ b big pad none e. omega (arith, updates_fewer (frames_of_first f (keys_at place) (setup_with place.documents b big pad)), length-frames_of_setup (table f (setup_with place.documents b big pad).shape (keys_at place)) at_first (setup_with place.documents b big pad));
-    adds = λ id words is up e. one_alone f (keys_at place) place.history _ _ refl;
-    deletes = λ id is up e. one_alone f (keys_at place) place.history _ _ refl;
-    finds = λ word up e. one_alone f (keys_at place) place.history _ _ refl;
-    queries = λ fields up e. omega (arith, no_updates-searches f (keys_at place) place.history (words_of fields));
+    sets_up = λ b big pad none e. omega (arith, updates_fewer (frames_of_first f place.key (setup_with place.documents b big pad)), length-frames_of_setup (table f (setup_with place.documents b big pad).shape (λ epoch. place.key)) at_first (setup_with place.documents b big pad));
+    adds = λ id words is up e. one_alone f place.key place.history _ _ refl;
+    deletes = λ id is up e. one_alone f place.key place.history _ _ refl;
+    finds = λ word up e. one_alone f place.key place.history _ _ refl;
+    queries = λ fields up e. omega (arith, no_updates-searches f place.key place.history (words_of fields));
   })
 
   -- a line sends as many searches as it prints answers
@@ -126,27 +128,27 @@ module _ (place : Place) (line : Request) where
     refuses = λ refusal. refl;
     collects = λ id words is none e. refl;
     sets_up = λ b big pad none e. searches-setup _ at_first (setup_with place.documents b big pad);
-    adds = λ id words is up e. searches_behind-update f (keys_at place) place.history _ refl;
-    deletes = λ id is up e. searches_behind-update f (keys_at place) place.history _ refl;
-    finds = λ word up e. ap searches (frames_of_next-search f (keys_at place) place.history word up);
+    adds = λ id words is up e. searches_behind-update f place.key place.history _ refl;
+    deletes = λ id is up e. searches_behind-update f place.key place.history _ refl;
+    finds = λ word up e. ap searches (frames_of_next-search f place.key place.history word up);
     queries = λ fields up e.
-        searches-searches f (keys_at place) place.history (words_of fields) up
+        searches-searches f place.key place.history (words_of fields) up
         ∙ sym (length-map (words_of fields) (matching_in place.history))
         ∙ ap length (sym (append-nil (map (matching_in place.history) (words_of fields))));
   })
 
 -- where the history after a line keeps the limits and has no collision, there is none in hand
-pub no_clash-next : (f : KeyedFn) (place : Place) (line : Request) → IsKept (after (outcome place line) place).history → HasNoCollision f (keys_at place) (after (outcome place line) place).history
+pub no_clash-next : (f : KeyedFn) (place : Place) (line : Request) → IsKept (after (outcome place line) place).history → HasNoCollision f place.key (after (outcome place line) place).history
     → clash_in_hand f place (outcome place line) ≡ None
-no_clash-next f place line = by_cases place line (λ r. IsKept (after r place).history → HasNoCollision f (keys_at place) (after r place).history → clash_in_hand f place r ≡ None) (record {
+no_clash-next f place line = by_cases place line (λ r. IsKept (after r place).history → HasNoCollision f place.key (after r place).history → clash_in_hand f place r ≡ None) (record {
   refuses = λ refusal kept free. refl;
   collects = λ id words is none e kept free. refl;
   sets_up = λ b big pad none e kept free.
-      ap (option_map collision_cause) (collision_of_first-none f (keys_at place) (setup_with place.documents b big pad) free);
-  adds = λ id words is up e kept free. ap (option_map collision_cause) (collision_of_next-none f (keys_at place) place.history (Add (document id words)) kept free);
-  deletes = λ id is up e kept free. ap (option_map collision_cause) (collision_of_next-none f (keys_at place) place.history (Delete id) kept free);
-  finds = λ word up e kept free. ap (option_map collision_cause) (collision_of_next-search f (keys_at place) place.history word);
-  queries = λ fields up e kept free. ap (option_map collision_cause) (collision-searches f (keys_at place) place.history (words_of fields));
+      ap (option_map collision_cause) (collision_of_first-none f place.key (setup_with place.documents b big pad) free);
+  adds = λ id words is up e kept free. ap (option_map collision_cause) (collision_of_next-none f place.key place.history (Add (document id words)) kept free);
+  deletes = λ id is up e kept free. ap (option_map collision_cause) (collision_of_next-none f place.key place.history (Delete id) kept free);
+  finds = λ word up e kept free. ap (option_map collision_cause) (collision_of_next-search f place.key place.history word);
+  queries = λ fields up e kept free. ap (option_map collision_cause) (collision-searches f place.key place.history (words_of fields));
 })
 
 -- no line changes the key

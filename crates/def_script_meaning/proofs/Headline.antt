@@ -9,7 +9,7 @@ use Rattle.std.proofs.Math.Seq.{take-length, take-append_seam, drop-append_seam}
 use Rattle.std.proofs.lemmas.List.{append-nil, append_cancel_left, map-append, drop_all}
 use Rattle.std.proofs.lemmas.List.Elements.{recursion_from_All}
 use Rattle.client_registry.proofs.HistoryLaws.{IsKept-first}
-use Rattle.client_registry.specs.Histories.{empty, IsKept, IsFirstOf, shown_in_turn}
+use Rattle.client_registry.specs.Histories.{empty, IsKept, IsFirstOf, IsWhole, shown_in_turn}
 use Rattle.client_registry.specs.Live.{in_order}
 use Rattle.client_registry.specs.Run.{History}
 use Rattle.sse_outside.proofs.Known.{append_known-twice}
@@ -25,7 +25,6 @@ use Rattle.def_link_events.specs.Events.{Event}
 use Rattle.def_link_events.specs.Served.{Served, IsServed, idle}
 use Rattle.sse_model.proofs.ExchangeLaws.{session-exchange, searches-sent}
 use Rattle.sse_model.proofs.HistoryLaws.{frames_sent-in_grammar, HasNoCollision-first}
-use Rattle.sse_model.specs.Epochs.{keys_under}
 use Rattle.sse_script.specs.Shown.{Cause}
 use Rattle.sse_script.specs.Shown.{Found, Matched}
 use Rattle.sse_script.specs.Stops.{cause_status}
@@ -47,6 +46,7 @@ use Rattle.def_script_meaning.specs.Stops.{status_of, stop_text}
 use Rattle.def_script_meaning.proofs.FollowedPlaces.{finds, follow-key, finds-meant}
 use Rattle.def_script_meaning.proofs.GoneAsMeant.{Adds-nothing, Adds-joined}
 use Rattle.def_script_meaning.proofs.Honest.{IsServed-bare, behind, cut_outside, behind_greeted, turned_outside}
+use Rattle.def_script_meaning.proofs.OneEpoch.{IsWhole-first, expects_first, meaning_is_whole}
 use Rattle.def_script_meaning.proofs.PartsLeft.{part_left, part_of_left, steps-next, turned_state}
 use Rattle.def_script_meaning.proofs.Recorded.{KeepsFirst-all, recorded}
 use Rattle.def_script_meaning.proofs.RunGoes.{goes, turned_status}
@@ -77,16 +77,15 @@ shown_with None h = []
 shown_with (Some key) h = shown_in_turn h
 
 -- the frames of a history without collisions are so answered by a server that expects the first of them
-pub history_is_answered : (f : KeyedFn) → IsKeyedFn f → (key : Option (List ℕ)) (h : History) (start : ServerState) → IsKept h → IsFree f key h → Expects 0 start
+pub history_is_answered : (f : KeyedFn) → IsKeyedFn f → (key : Option (List ℕ)) (h : History) (start : ServerState) → IsWhole h → IsKept h → IsFree f key h → Expects 0 start
     → AreAnswered f start (frames_with f key h) (shown_with key h)
-history_is_answered f laws None h start kept free expects = record { grammar = tt; given = tt; count = refl; replies = refl }
-history_is_answered f laws (Some key) h start kept free expects =
-    let keys = keys_under key h in record {
-      grammar = frames_sent-in_grammar f keys h laws kept free;
-      given = shown_are_answers h kept;
-      count = sym (searches-sent f keys h);
-      replies = replies_agree f keys h start laws kept free expects;
-    }
+history_is_answered f laws None h start is_whole kept free expects = record { grammar = tt; given = tt; count = refl; replies = refl }
+history_is_answered f laws (Some key) h start is_whole kept free expects = record {
+  grammar = frames_sent-in_grammar f key h laws kept free;
+  given = shown_are_answers h kept;
+  count = sym (searches-sent f key h);
+  replies = replies_agree f key h start laws kept free (expects_first h start is_whole expects);
+}
 
 -- After such a server, from any state of it.
 
@@ -222,7 +221,7 @@ IsFree-first f key whole_key part whole (inr same) first free = subst (λ k. IsF
   where
     by : (k : Option (List ℕ)) → IsFree f k whole → IsFree f k part
     by None free = tt
-    by (Some key) free = HasNoCollision-first f (keys_under key whole) part whole first free
+    by (Some key) free = HasNoCollision-first f key part whole first free
 
 -- without a key there is no history
 keyless : (number : ℕ) (lines : List (Option Line)) → (meant_from number lines).key ≡ None → (meant_from number lines).history ≡ empty
@@ -251,6 +250,9 @@ module _ (f : KeyedFn) (laws : IsKeyedFn f) (bytes : List ℕ) (now : Outside) (
   kept : IsKept m.history
   kept = (meaning_is_kept bytes).0
 
+  is_whole : IsWhole end.history
+  is_whole = IsWhole-first end.history m.history g.history (meaning_is_whole bytes)
+
   -- from any state of a server that expects the first frame of a history
   module _ (before state : ServerState) (expects : Expects 0 before) (honest : IsOverHonest f before now.told end.outside.told state) where
     served : (events : List Event) → Adds now.told end.outside.told events → IsServed f (idle before) events (idle state)
@@ -267,14 +269,14 @@ module _ (f : KeyedFn) (laws : IsKeyedFn f) (bytes : List ℕ) (now : Outside) (
     pub honest_status : IsFree f end.key end.history → status_of end.stop ≤ 7
     honest_status free =
         session_outside f 0 0 (λ next. frames_with f end.key end.history) g.answers now.told end (omega arith) before state least most free served (shown_with end.key end.history)
-        (history_is_answered f laws end.key end.history before (IsKept-first end.history m.history g.history kept) free expects) g.passes
+        (history_is_answered f laws end.key end.history before is_whole (IsKept-first end.history m.history g.history kept) free expects) g.passes
 
     -- wherever it stopped, the server is one that was sent the first frames of the history up to there, all but some of the last command's
     pub frames_left : (key : List ℕ) → end.key ≡ Some key → IsFree f end.key end.history
         → (n : ℕ) × (updates_count (drop n (frames_with f end.key end.history)) ≤ frames_in_hand end.history) × (state ≡ (steps f before (take n (frames_with f end.key end.history))).0)
     frames_left key same_key free =
         session_left f 0 0 (λ next. frames_with f end.key end.history) g.answers now.told end (omega arith) before state least most free served key same_key (shown_with end.key end.history)
-        (history_is_answered f laws end.key end.history before (IsKept-first end.history m.history g.history kept) free expects) g.passes
+        (history_is_answered f laws end.key end.history before is_whole (IsKept-first end.history m.history g.history kept) free expects) g.passes
 
     module _ (free : IsFree f m.key m.history) (low : status_of end.stop ≤ 2) where
       -- all that passed, with the answers that the history shows; and the server is one that was sent its frames
@@ -301,7 +303,7 @@ module _ (f : KeyedFn) (laws : IsKeyedFn f) (bytes : List ℕ) (now : Outside) (
             let same : frames_with f end.key end.history ≡ frames_of f m = λ i. frames_with f ((g.ended low).1 i) ((g.ended low).2 i) in
             let free_end : IsFree f end.key end.history = subst (λ k. IsFree f k end.history) (sym (g.ended low).1) (subst (IsFree f m.key) (sym (g.ended low).2) free) in
             let r = session_whole f 0 0 (λ next. frames_with f end.key end.history) g.answers now.told end (omega arith) before state least most free_end served (shown_with end.key end.history)
-            (history_is_answered f laws end.key end.history before (IsKept-first end.history m.history g.history kept) free_end expects) o low in
+            (history_is_answered f laws end.key end.history before is_whole (IsKept-first end.history m.history g.history kept) free_end expects) o low in
             record {
               events = o.greets.events ++ o.passes.events;
               adds = Adds-joined now.told o.greeted end.outside.told o.greets.events o.passes.events o.greets.adds o.passes.adds;
@@ -309,7 +311,7 @@ module _ (f : KeyedFn) (laws : IsKeyedFn f) (bytes : List ℕ) (now : Outside) (
                   r.2
                   ∙ (λ i. map as_event (greeting (expects.next i) ++ exchange (shown_with (o.same_key i) ((g.ended low).2 i)) (same i)))
                   ∙ ap (λ k. map as_event (greeting 0 ++ exchange (shown_in_turn m.history) (frames_with f k m.history))) key
-                  ∙ ap (map as_event) (sym (session-exchange f (keys_under o.key m.history) m.history))
+                  ∙ ap (map as_event) (sym (session-exchange f o.key m.history))
                   ∙ ap (λ k. map as_event (session_with f k m.history)) (sym key);
               answers = r.0 ∙ λ i. shown_with (o.same_key i) ((g.ended low).2 i);
               stored = r.1 ∙ ap (λ fs. (steps f before fs).0) same;
@@ -341,7 +343,7 @@ module _ (f : KeyedFn) (laws : IsKeyedFn f) (bytes : List ℕ) (now : Outside) (
           events = all.events;
           adds = subst (λ told. Adds now.told told all.events) (sym ends.told) all.adds;
           session = all.session;
-          simulated = record { passed = session_of f m; made = session_with-simulated f m.key m.history kept; same = all.session };
+          simulated = record { passed = session_of f m; made = session_with-simulated f m.key m.history (meaning_is_whole bytes) kept; same = all.session };
           kept = ends.kept ∙ KeepsFirst-all _ _ (status_of end.stop) now.kept end.outside.kept (λ e. absurd (omega (arith, low, e))) (λ e. absurd (omega (arith, low, e))) records.kept ∙ (λ i. with_records (records_with f (well.1 i) (history i)) now.kept);
           stored = all.stored;
         }

@@ -1,11 +1,11 @@
 -- The history that a script means keeps all limits.
-use Rattle.std.proofs.Common.{◌≡◌, ◌≢◌, ℕ, suc, ◌+◌, ◌-◌, ◌^◌, ◌<◌, ◌≤◌, Bool, true, false, not, ◌&&◌, ◌||◌, List, [], ◌∷◌, length, nat_lt, refl, ap, ◌∙◌, subst, arith, zero, ◌*◌, take, sym}
+use Rattle.std.proofs.Common.{◌≡◌, ◌≢◌, ℕ, ◌+◌, ◌-◌, ◌^◌, ◌<◌, ◌≤◌, Bool, true, false, not, ◌&&◌, ◌||◌, List, [], ◌∷◌, length, nat_lt, refl, ap, ◌∙◌, subst, arith, ◌*◌, sym}
 use Rattle.std.specs.Prelude.{◌==◌, filter, Option, None, Some, if◌then◌else◌}
 use Rattle.std.specs.List.{list_all, position_from, AllByRecursion, IsDistinct}
 use Rattle.std.specs.Option.{option_and_then, option_map}
 use Rattle.std.proofs.lemmas.Bool.{true≢false, eqb-false, lt-ltb, ltb-false}
 use Rattle.std.proofs.lemmas.List.Elements.{All-nil}
-use Rattle.client_registry.proofs.HistoryLaws.{IsKept-begun, IsKept-longer, length-commands_of, frames_in-below, counter_in-below, accepts-add, accepts-delete, accepts-search}
+use Rattle.client_registry.proofs.HistoryLaws.{IsKept-begun, IsKept-longer, commands_in-longer, frames_in-below, counter_in-below, accepts-add, accepts-delete, accepts-search}
 use Rattle.client_registry.proofs.PushLaws.{IsCollected-push}
 use Rattle.client_registry.specs.declared.faults.SizeFault.{SizeFault}
 use Rattle.client_registry.specs.WordRule.{word_refusal}
@@ -14,13 +14,13 @@ use Rattle.client_registry.specs.DocumentRule.{IsDocument}
 use Rattle.client_registry.specs.Documents.{IsCollected}
 use Rattle.client_registry.specs.Acceptance.{size_refusal}
 use Rattle.client_registry.specs.Command.{Command, Add, Delete, Search, is_update}
-use Rattle.client_registry.specs.Histories.{is_set_up, longer, is_live_in, is_listed_in, counter_in, frames_in, accepts, IsKept}
-use Rattle.client_registry.specs.Run.{History, commands_of}
+use Rattle.client_registry.specs.Histories.{is_set_up, longer, is_live_in, is_listed_in, counter_in, frames_in, accepts, commands_in, IsKept}
+use Rattle.client_registry.specs.Run.{History}
 use Rattle.client_registry.specs.Setup.{setup_with}
 use Rattle.client_registry.specs.Sized.{IsSizedCommand}
 use Rattle.sse_script.specs.declared.refusal.Refusal.TheVariants.{Zero, AlreadyLive, UnknownDocument, CounterFull, HistoryFull}
 use Rattle.script_documents.specs.LineDocument.{document}
-use Rattle.script_documents.specs.Refused.{word_refused, document_refusal, bad_word}
+use Rattle.script_documents.specs.Refused.{word_refused, document_refusal}
 use Rattle.script_documents.proofs.Passed.{some-none, neither, passed, word_passed, document_passed, docs_passed}
 use Rattle.std.proofs.lemmas.List.{length-map}
 use Rattle.bool_search.specs.Fields.{words_of}
@@ -108,7 +108,7 @@ IsWithinItem (Some (CommandLine line)) = IsWithin line
 pub record IsKeptAt (n : ℕ) (place : Place) : Type 0 where
   pub documents : IsCollected place.documents
   pub history : IsKept place.history
-  pub few : length (commands_of place.history) ≤ n
+  pub few : commands_in place.history ≤ n
 
 no_documents : IsCollected []
 unfolding IsDistinct
@@ -138,7 +138,7 @@ module _ (n : ℕ) (place : Place) (line : Request) (within : IsWithin line) (ke
   kept_command c ok frames = record {
     documents = kept.documents;
     history = IsKept-longer place.history c kept.history ok.0 ok.1 frames;
-    few = omega (arith, kept.few, length-commands_of place.history (c ∷ []));
+    few = omega (arith, kept.few, commands_in-longer place.history (c ∷ []));
   }
 
   cases : ByCases place line Kept
@@ -167,7 +167,7 @@ module _ (n : ℕ) (place : Place) (line : Request) (within : IsWithin line) (ke
     queries = λ fields up e. record {
       documents = kept.documents;
       history = kept_searches place.history (words_of fields) kept.history up (words_are_words fields e);
-      few = omega (arith, kept.few, length-commands_of place.history (searching (words_of fields)), length-map (words_of fields) (λ word. Search word), words_few fields e);
+      few = omega (arith, kept.few, commands_in-longer place.history (searching (words_of fields)), length-map (words_of fields) (λ word. Search word), words_few fields e);
     };
   }
 
@@ -176,7 +176,7 @@ module _ (n : ℕ) (place : Place) (line : Request) (within : IsWithin line) (ke
 
 -- and so does the history of all that follows
 pub kept_follow : (n : ℕ) (place : Place) (number : ℕ) (lines : List (Option Line)) (refused : Bool) → AllByRecursion IsWithinItem lines → IsKeptAt n place
-    → IsKept (follow place number lines refused).history × (length (commands_of (follow place number lines refused).history) ≤ n + 32 * length lines)
+    → IsKept (follow place number lines refused).history × (commands_in (follow place number lines refused).history ≤ n + 32 * length lines)
 kept_follow n place number [] refused within kept = (kept.history, omega (arith, kept.few))
 kept_follow n place number (None ∷ lines) refused within kept = (kept.history, omega (arith, kept.few))
 kept_follow n place number (Some Empty ∷ lines) refused within kept =
@@ -187,7 +187,7 @@ kept_follow n place number (Some (CommandLine line) ∷ lines) refused within ke
     (rest.0, omega (arith, rest.1))
 
 pub kept_meant : (number : ℕ) (lines : List (Option Line)) → AllByRecursion IsWithinItem lines
-    → IsKept (meant_from number lines).history × (length (commands_of (meant_from number lines).history) ≤ 32 * length lines)
+    → IsKept (meant_from number lines).history × (commands_in (meant_from number lines).history ≤ 32 * length lines)
 kept_meant number [] within = (tt, omega arith)
 kept_meant number (None ∷ lines) within = (tt, omega arith)
 kept_meant number (Some Empty ∷ lines) within = let rest = kept_meant (number + 1) lines within.1 in (rest.0, omega (arith, rest.1))

@@ -3,13 +3,13 @@
 use Rattle.std.proofs.Common.{◌≡◌, ◌≤◌, ◌<◌, ◌^◌, ℕ, zero, suc, ◌+◌, Bool, true, false, List, [], ◌∷◌, length, take, drop, filter, Option, None, Some, refl, sym, ap, ◌∙◌, subst, arith, length-append}
 use Rattle.std.specs.Prelude.{if◌then◌else◌}
 use Rattle.std.specs.List.{AllByRecursion}
-use Rattle.std.proofs.lemmas.List.{length-drop, take-append-drop}
+use Rattle.std.proofs.lemmas.List.{take-append-drop}
 use Rattle.std.proofs.lemmas.List.Elements.{filter-append}
 use Rattle.client_registry.proofs.HistoryLaws.{IsKept-first}
 use Rattle.client_registry.specs.Acceptance.{frames_needed}
 use Rattle.client_registry.specs.Command.{Command, is_update}
-use Rattle.client_registry.specs.Histories.{IsKept}
-use Rattle.client_registry.specs.Run.{History, Run}
+use Rattle.client_registry.specs.Histories.{IsKept, IsOneEpoch}
+use Rattle.client_registry.specs.Run.{History, Run, From, Renewed, at_first}
 use Rattle.client_registry.specs.Setup.{Setup}
 use Rattle.client_registry.specs.Sized.{update_frames}
 use Rattle.keyed_fn.specs.KeyedFn.{KeyedFn, IsKeyedFn}
@@ -25,6 +25,7 @@ use Rattle.def_script_meaning.proofs.Headline.{frames_left, history_is_answered,
 use Rattle.def_script_meaning.proofs.Honest.{IsBehindGreeting}
 use Rattle.def_script_meaning.proofs.JoinedSessions.{steps-updates}
 use Rattle.def_script_meaning.proofs.Kept.{IsKeptAt, IsWithinItem, kept_follow}
+use Rattle.def_script_meaning.proofs.OneEpoch.{IsOneEpoch-first, meaning_is_one_epoch, one_follow}
 use Rattle.def_script_meaning.proofs.RejoinedSessions.{GoesRejoining, frames_left_after, goes_rejoining, length-frames_under}
 use Rattle.def_script_meaning.proofs.RunGoes.{goes}
 use Rattle.def_script_meaning.proofs.Stepped.{AreBehindGreeting, none_greets, none_refused, step_taken}
@@ -45,7 +46,7 @@ use Rattle.def_script_meaning.specs.Session.{IsFree, frames_with}
 
 module _ {A : Type 0} (p : A → Bool) where
   -- what is left of a front is a front of what is left
-  filter-front : (n : ℕ) (xs : List A) → filter p (take n xs) ≡ take (length (filter p (take n xs))) (filter p xs)
+  pub filter-front : (n : ℕ) (xs : List A) → filter p (take n xs) ≡ take (length (filter p (take n xs))) (filter p xs)
   filter-front zero xs = refl
   filter-front (suc n) [] = refl
   filter-front (suc n) (x ∷ xs) = by (p x) (filter-front n xs)
@@ -73,7 +74,7 @@ module _ {A : Type 0} (p : A → Bool) where
         fewer (drop n xs),
       )
 
-  filter-within : (n : ℕ) (xs : List A) → length (filter p (take n xs)) ≤ length (filter p xs)
+  pub filter-within : (n : ℕ) (xs : List A) → length (filter p (take n xs)) ≤ length (filter p xs)
   filter-within n xs =
       omega (
         arith,
@@ -85,12 +86,12 @@ module _ {A : Type 0} (p : A → Bool) where
 -- Frames that are all taken.
 
 module _ (f : KeyedFn) where
-  refused_none : (s : ServerState) (frames : List FrameText) (n : ℕ) → NoneRefused s frames → NoneRefused s (take n frames)
+  pub refused_none : (s : ServerState) (frames : List FrameText) (n : ℕ) → NoneRefused s frames → NoneRefused s (take n frames)
   refused_none s frames zero none = tt
   refused_none s [] (suc n) none = tt
   refused_none s (frame ∷ frames) (suc n) none = (none.0, refused_none (taken s frame) frames n none.1)
 
-  greets_none : (frames : List FrameText) (n : ℕ) → AreBehindGreeting f frames → AreBehindGreeting f (take n frames)
+  pub greets_none : (frames : List FrameText) (n : ℕ) → AreBehindGreeting f frames → AreBehindGreeting f (take n frames)
   greets_none frames zero all = tt
   greets_none [] (suc n) all = tt
   greets_none (frame ∷ frames) (suc n) all = (all.0, greets_none frames n all.1)
@@ -106,7 +107,7 @@ module _ (f : KeyedFn) where
   one_counted s (SearchFrame token) frames behind = omega arith
 
   -- the server counts the updates among them
-  counted : (s : ServerState) (frames : List FrameText) → NoneRefused s frames → AreBehindGreeting f frames → (steps f s frames).0.next ≡ s.next + length (filter is_no_search frames)
+  pub counted : (s : ServerState) (frames : List FrameText) → NoneRefused s frames → AreBehindGreeting f frames → (steps f s frames).0.next ≡ s.next + length (filter is_no_search frames)
   counted s [] none behind = omega arith
   counted s (frame ∷ frames) none behind =
       ap (λ state. (steps f state frames).0.next) (step_taken f s frame none.0)
@@ -114,7 +115,7 @@ module _ (f : KeyedFn) where
       ∙ one_counted s frame frames behind.0
 
 -- of the updates alone the last command is an update too, or the setup
-in_hand-alone : (s : Setup) (later : List Command) → 1 ≤ frames_needed s → frames_of_last s later ≤ frames_of_last s (filter is_update later)
+pub in_hand-alone : (s : Setup) (later : List Command) → 1 ≤ frames_needed s → frames_of_last s later ≤ frames_of_last s (filter is_update later)
 in_hand-alone s [] some = omega arith
 in_hand-alone s (c ∷ later) some = by (filter is_update (c ∷ later))
   where
@@ -122,20 +123,20 @@ in_hand-alone s (c ∷ later) some = by (filter is_update (c ∷ later))
     by [] = some
     by (d ∷ cs) = omega arith
 
-module _ (f : KeyedFn) (laws : IsKeyedFn f) (key : List ℕ) (run : Run) (kept : IsKept (Some run)) (free : IsFree f (Some key) (Some run)) (start : ServerState) (expects : Expects 0 start) where
+module _ (f : KeyedFn) (laws : IsKeyedFn f) (key : List ℕ) (run : Run) (kept : IsKept (Some (From at_first run))) (free : IsFree f (Some key) (Some (From at_first run))) (start : ServerState) (expects : Expects 0 start) where
   abbrev all : List FrameText
-  all = frames_under f key (Some run)
+  all = frames_under f key (Some (From at_first run))
 
   abbrev alone : List FrameText
-  alone = frames_under f key (Some (updates_of run))
+  alone = frames_under f key (Some (From at_first (updates_of run)))
 
   -- a server that was sent the first of its frames, all but some of the last command's, was sent the first of its updates' so
-  pub leaves_taken : (n : ℕ) (state : ServerState) → updates_count (drop n all) ≤ frames_in_hand (Some run) → state ≡ (steps f start (take n all)).0 → LeavesTaken f key run state
+  pub leaves_taken : (n : ℕ) (state : ServerState) → updates_count (drop n all) ≤ frames_in_hand (Some (From at_first run)) → state ≡ (steps f start (take n all)).0 → LeavesTaken f key run state
   leaves_taken n state most stored =
-      let answered = history_is_answered f laws (Some key) (Some run) start kept free expects in
+      let answered = history_is_answered f laws (Some key) (Some (From at_first run)) start refl kept free expects in
       let next = length (filter is_no_search (take n all)) in
-      let none = refused_none f start all n (none_refused f start all (shown_with (Some key) (Some run)) answered.replies) in
-      let behind = greets_none f all n (none_greets f start all (shown_with (Some key) (Some run)) answered.replies) in
+      let none = refused_none f start all n (none_refused f start all (shown_with (Some key) (Some (From at_first run))) answered.replies) in
+      let behind = greets_none f all n (none_greets f start all (shown_with (Some key) (Some (From at_first run))) answered.replies) in
       let count : length alone ≡ update_frames (updates_of run) = length-frames_under f key (updates_of run) (updates_again run.later) in
       let left : length (filter is_no_search all) ≡ length alone = ap length (sym (frames_alone f key run)) in
       record {
@@ -155,12 +156,21 @@ module _ (f : KeyedFn) (laws : IsKeyedFn f) (key : List ℕ) (run : Run) (kept :
 
 -- Whole runs.
 
+-- a server that was sent the first frames of a history, all but some of the last command's
+abbrev HasMost : KeyedFn → (key : List ℕ) → History → (start state : ServerState) → Type 0
+HasMost f key h start state = (n : ℕ) × (updates_count (drop n (frames_under f key h)) ≤ frames_in_hand h) × (state ≡ (steps f start (take n (frames_under f key h))).0)
+
 -- a history so far sent leaves its server
-leaves_server : (f : KeyedFn) → IsKeyedFn f → (key : Option (List ℕ)) (h : History) (start state : ServerState) → IsKept h → IsFree f key h → Expects 0 start
-    → ((k : List ℕ) → key ≡ Some k → (n : ℕ) × (updates_count (drop n (frames_under f k h)) ≤ frames_in_hand h) × (state ≡ (steps f start (take n (frames_under f k h))).0)) → LeavesServer f key h state
-leaves_server f laws None h start state kept free expects left = tt
-leaves_server f laws (Some key) None start state kept free expects left = tt
-leaves_server f laws (Some key) (Some run) start state kept free expects left = let l = left key refl in leaves_taken f laws key run kept free start expects l.0 state l.1 l.2
+leaves_server : (f : KeyedFn) → IsKeyedFn f → (key : Option (List ℕ)) (h : History) (start state : ServerState) → IsOneEpoch h → IsKept h → IsFree f key h → Expects 0 start
+    → ((k : List ℕ) → key ≡ Some k → HasMost f k h start state) → LeavesServer f key h state
+leaves_server f laws None h start state one kept free expects left = tt
+leaves_server f laws (Some key) None start state one kept free expects left = tt
+leaves_server f laws (Some key) (Some (Renewed before own run)) start state one kept free expects left = absurd one
+leaves_server f laws (Some key) (Some (From o run)) start state one kept free expects left = (
+  one,
+  subst (λ at. IsKept (Some (From at run)) → IsFree f (Some key) (Some (From at run)) → HasMost f key (Some (From at run)) start state → LeavesTaken f key run state) (sym one)
+      (λ kept free most. leaves_taken f laws key run kept free start expects most.0 state most.1 most.2) kept free (left key refl),
+)
 
 -- Promise P167 (inside): A run over an honest link leaves a server with which the next session can resume, whatever stopped it.
 --   assumes: keyed function, honest link, no collision, resumable state
@@ -168,7 +178,8 @@ leaves_server f laws (Some key) (Some run) start state kept free expects left = 
 pub run_leaves : (f : KeyedFn) → IsKeyedFn f → (bytes : List ℕ) (now : Outside) (end : Ended) → Opens f 1 (script_lines bytes) now end → (before state : ServerState) → Expects 0 before → IsOverHonest f before now.told end.outside.told state
     → IsFree f end.key end.history → LeavesServer f end.key end.history state
 run_leaves f laws bytes now end opens before state expects honest free =
-    leaves_server f laws end.key end.history before state (IsKept-first end.history (meaning bytes).history (goes f bytes now end opens).history (meaning_is_kept bytes).0) free expects
+    leaves_server f laws end.key end.history before state (IsOneEpoch-first end.history (meaning bytes).history (goes f bytes now end opens).history (meaning_is_one_epoch bytes))
+    (IsKept-first end.history (meaning bytes).history (goes f bytes now end opens).history (meaning_is_kept bytes).0) free expects
     (λ key same.
     let left = frames_left f laws bytes now end opens before state expects honest key same free in
     let frames : frames_with f end.key end.history ≡ frames_under f key end.history = ap (λ k. frames_with f k end.history) same in
@@ -177,7 +188,7 @@ run_leaves f laws bytes now end opens before state expects honest free =
 -- whatever stopped one that goes on after a history with a server that was sent the first of its frames
 module _ (f : KeyedFn) (laws : IsKeyedFn f) (key : List ℕ) (run : Run) (updates : filter is_update run.later ≡ run.later) (next : ℕ) (before : ServerState) (had : HasTaken f key run next before)
     (n number : ℕ) (lines : List (Option Line)) (within : AllByRecursion IsWithinItem lines) (kept_at : IsKeptAt n (at_run key [] run))
-    (low high : ℕ) (fits : high < 2 ^ 32) (least : low ≤ next) (most : next ≤ high) (near : update_frames run ≤ low + frames_in_hand (Some run))
+    (low high : ℕ) (fits : high < 2 ^ 32) (least : low ≤ next) (most : next ≤ high) (near : update_frames run ≤ low + frames_in_hand (Some (From at_first run)))
     (now : Outside) (end : Ended) (goes : Rejoins f low high key run number lines now end) (state : ServerState) (honest : IsOverHonest f before now.told end.outside.told state) where
   abbrev g : GoesRejoining f laws key run updates next before had n number lines within kept_at low high fits least most near now end goes
   g = goes_rejoining f laws key run updates next before had n number lines within kept_at low high fits least most near now end goes
@@ -185,7 +196,9 @@ module _ (f : KeyedFn) (laws : IsKeyedFn f) (key : List ℕ) (run : Run) (update
   -- Promise P167, also here
   pub rejoined_leaves : IsFree f end.key end.history → LeavesServer f end.key end.history state
   rejoined_leaves free =
-      leaves_server f laws end.key end.history had.start state (IsKept-first end.history (follow (at_run key [] run) number lines false).history g.history (kept_follow n (at_run key [] run) number lines false within kept_at).0) free had.expects
+      leaves_server f laws end.key end.history had.start state
+      (IsOneEpoch-first end.history (follow (at_run key [] run) number lines false).history g.history (one_follow (at_run key [] run) number lines false refl))
+      (IsKept-first end.history (follow (at_run key [] run) number lines false).history g.history (kept_follow n (at_run key [] run) number lines false within kept_at).0) free had.expects
       (λ other same.
       let key_is : key ≡ other = inside key other (sym g.same_key ∙ same) in
       subst (λ k. (q : ℕ) × (updates_count (drop q (frames_under f k end.history)) ≤ frames_in_hand end.history) × (state ≡ (steps f had.start (take q (frames_under f k end.history))).0)) key_is

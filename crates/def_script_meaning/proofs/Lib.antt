@@ -3,6 +3,7 @@ pub mod Steps
 pub mod Outcomes
 pub mod Kept
 pub mod Within
+pub mod OneEpoch
 pub mod FollowedPlaces
 pub mod GoneAsMeant
 pub mod RunGoes
@@ -26,6 +27,10 @@ mod ContinuedRows
 mod ClashRows
 pub mod RecordedBehind
 pub mod SessionsInARow
+pub mod SinceLaws
+pub mod TakenLast
+pub mod LeavesEpochs
+pub mod OneSession
 pub mod QueryWords
 pub mod QueryLaws
 pub mod UpdatesLeft

@@ -3,24 +3,23 @@ use Rattle.std.proofs.Common.{◌≡◌, ◌≢◌, ◌⊎◌, ℕ, suc, ◌+◌
 use Rattle.std.specs.Prelude.{filter, Option}
 use Rattle.std.proofs.Math.Seq.{take-add, take-append-add, take-length}
 use Rattle.std.proofs.lemmas.List.{append-nil, map-append, take-map}
-use Rattle.std.proofs.lemmas.List.Elements.{filter-append}
-use Rattle.client_records.specs.Records.{setup_record, update_record}
+use Rattle.client_records.proofs.RecordedLaws as recorded_laws
+use Rattle.client_records.specs.Records.{update_record}
 use Rattle.client_registry.proofs.HistoryLaws.{IsFirstOf-same, IsFirstOf-trans}
 use Rattle.client_registry.specs.Command.{Command, is_update}
-use Rattle.client_registry.specs.Histories.{empty, is_set_up, longer, IsFirstOf}
+use Rattle.client_registry.specs.Histories.{empty, is_set_up, longer, IsFirstOf, IsOneEpoch}
 use Rattle.client_registry.specs.Run.{History}
 use Rattle.keyed_fn.specs.KeyFormulas.{mark_of}
 use Rattle.keyed_fn.specs.KeyedFn.{KeyedFn}
 use Rattle.def_link_events.specs.Events.{Event}
 use Rattle.sse_frames.specs.Exchange.{sent_among}
 use Rattle.sse_frames.specs.Frames.{FrameText, Hello, frame_bytes}
-use Rattle.sse_model.specs.Epochs.{keys_under}
 use Rattle.sse_model.specs.Histories.{frames_sent}
 use Rattle.sse_outside.specs.Kept.{Kept, with_records, with_refused}
 use Rattle.sse_script.specs.Shown.{Cause}
 use Rattle.bool_search.specs.Fields.{words_of}
 use Rattle.def_script_meaning.proofs.QueryLaws.{no_updates}
-use Rattle.def_script_meaning.specs.Carries.{Keeps, Outside, keys_at, frames_by, records_by, Carries, FindsClash, LacksMemory, IsUnkept, IsCutShort, IsUnprinted}
+use Rattle.def_script_meaning.specs.Carries.{Keeps, Outside, frames_by, records_by, Carries, FindsClash, LacksMemory, IsUnkept, IsCutShort, IsUnprinted}
 use Rattle.def_script_meaning.specs.Exchange.{Adds, AreExchanged, AreCut, sent_in}
 use Rattle.def_script_meaning.specs.Lines.{Line, Empty, Key, Command as CommandLine, Request}
 use Rattle.def_script_meaning.specs.Outcome.{Place, Outcome, opened, outcome, after, is_refusal}
@@ -30,6 +29,7 @@ use Rattle.def_script_meaning.specs.Session.{session_with}
 use Rattle.def_script_meaning.specs.Stops.{Stop, status_of}
 use Rattle.def_script_meaning.proofs.FollowedPlaces.{first-next, frames-next, after-key}
 use Rattle.def_script_meaning.proofs.GoneAsMeant.{Adds-nothing, Adds-joined, Keeps-nothing, Keeps-joined}
+use Rattle.def_script_meaning.proofs.OneEpoch.{one_next}
 use Rattle.def_script_meaning.proofs.Outcomes.{by_cases}
 use Rattle.def_script_meaning.proofs.RunGoes.{clash_status}
 use Rattle.def_script_meaning.proofs.Sent.{sent_in-append, sent_in-bare, sent_in-exchange, sent_in-cut, sent_in-turned, frames_with_hello}
@@ -39,10 +39,7 @@ use Rattle.def_script_meaning.proofs.Simulated.{frames_among}
 
 pub records-longer : (f : KeyedFn) (key : List ℕ) (h : History) (commands : List Command) → is_set_up h ≡ true
     → records_in f key (longer commands h) ≡ records_in f key h ++ map update_record (filter is_update commands)
-records-longer f key None commands up = absurd (cc)
-records-longer f key (Some run) commands up =
-    ap (λ updates. setup_record (mark_of f key) run.setup ∷ map update_record updates) (filter-append is_update run.later commands)
-    ∙ ap (λ records. setup_record (mark_of f key) run.setup ∷ records) (map-append update_record (filter is_update run.later) (filter is_update commands))
+records-longer f key h commands up = recorded_laws.records-longer (mark_of f key) h commands up
 
 module _ (f : KeyedFn) (place : Place) (line : Request) where
   abbrev result : Outcome
@@ -74,7 +71,7 @@ module _ (f : KeyedFn) (place : Place) (line : Request) where
     where
       before : (h : History) → is_set_up h ≡ false → (records : List (List ℕ)) → records ≡ records_in f place.key h ++ records
       before None none records = refl
-      before (Some run) none records = absurd (cc)
+      before (Some es) none records = absurd (cc)
 
 -- Records that are taken behind others.
 
@@ -121,12 +118,13 @@ pub record KeptSince (f : KeyedFn) (key : List ℕ) (h : History) (now : Outside
   pub kept : KeepsFirst all records (status_of end.stop) now.kept end.outside.kept
   pub most : length (records_in f key end.history) ≤ length (records_in f key held) + 1
   pub more : List FrameText
-  pub frames : frames_sent f (keys_under key held) held ≡ frames_sent f (keys_under key h) h ++ more
+  pub frames : frames_sent f key held ≡ frames_sent f key h ++ more
   pub events : List Event
   pub adds : Adds now.told end.outside.told events
   pub count : ℕ
   pub sent : sent_in events ≡ map frame_bytes (take count more)
   pub whole : status_of end.stop ≢ 6 → status_of end.stop ≢ 7 → status_of end.stop ≢ 8 → held ≡ end.history
+  pub one_epoch : IsOneEpoch h → IsOneEpoch end.history
 
 module _ (f : KeyedFn) where
   -- A run that stops between two lines.
@@ -144,12 +142,13 @@ module _ (f : KeyedFn) where
     kept = inl (Keeps-nothing now.kept);
     most = omega arith;
     more = [];
-    frames = sym (append-nil (frames_sent f (keys_under key h) h));
+    frames = sym (append-nil (frames_sent f key h));
     events = [];
     adds = Adds-nothing now.told;
     count = 0;
     sent = refl;
     whole = λ disk memory clash. refl;
+    one_epoch = λ one. one;
   })
 
   since-reading : (key : List ℕ) (h : History) (now : Outside) (end : Ended) → StopsReading now (Some key) h end → KeptSince f key h now end
@@ -182,12 +181,13 @@ module _ (f : KeyedFn) where
           length-append (records_in f place.key place.history) (records_by f place came),
         );
         more = [];
-        frames = sym (append-nil (frames_sent f (keys_under place.key place.history) place.history));
+        frames = sym (append-nil (frames_sent f place.key place.history));
         events = [];
         adds = told ∙ Adds-nothing now.told;
         count = 0;
         sent = refl;
         whole = λ disk memory clash. absurd (elim status [ inl e ↦ disk e | inr (inl e) ↦ memory e | inr (inr e) ↦ clash e ]);
+        one_epoch = λ one. subst IsOneEpoch (sym s.history) (one_next place line one);
       }
 
       -- its records were taken, and of its frames a front was sent
@@ -205,12 +205,13 @@ module _ (f : KeyedFn) where
         kept = inl kept;
         most = omega arith;
         more = frames_by f place came;
-        frames = ap (frames_sent f (keys_at place)) s.history ∙ frames-next place line f;
+        frames = ap (frames_sent f place.key) s.history ∙ frames-next place line f;
         events = events;
         adds = adds;
         count = sent.0;
         sent = sent.1;
         whole = λ disk memory clash. refl;
+        one_epoch = λ one. subst IsOneEpoch (sym s.history) (one_next place line one);
       }
 
       -- nothing was handed over
@@ -278,7 +279,7 @@ module _ (f : KeyedFn) where
           frames =
               w.frames
               ∙ ap (λ fs. fs ++ w.more) (frames-next place line f)
-              ∙ append_assoc (frames_sent f (keys_at place) place.history) (frames_by f place came) w.more;
+              ∙ append_assoc (frames_sent f place.key place.history) (frames_by f place came) w.more;
           events = c.sent.events ++ w.events;
           adds = Adds-joined now.told next.told end.outside.told c.sent.events w.events c.sent.adds w.adds;
           count = length (frames_by f place came) + w.count;
@@ -288,6 +289,7 @@ module _ (f : KeyedFn) where
               ∙ sym (map-append frame_bytes (frames_by f place came) (take w.count w.more))
               ∙ ap (map frame_bytes) (sym (take-append-add (frames_by f place came) w.more w.count));
           whole = w.whole;
+          one_epoch = λ one. w.one_epoch (one_next place line one);
         }
 
   -- All lines.

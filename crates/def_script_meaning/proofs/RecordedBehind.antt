@@ -5,8 +5,8 @@ use Rattle.std.proofs.Math.Seq.{take-append-add, take-length}
 use Rattle.std.specs.List.{AllByRecursion}
 use Rattle.std.proofs.lemmas.List.{append-nil, drop-append-le, length-map, length-take, map-append}
 use Rattle.client_registry.proofs.HistoryLaws.{IsFirstOf-same, IsKept-first}
-use Rattle.client_registry.specs.Histories.{IsFirstOf, IsKept}
-use Rattle.client_registry.specs.Run.{Run}
+use Rattle.client_registry.specs.Histories.{IsFirstOf, IsKept, IsOneEpoch}
+use Rattle.client_registry.specs.Run.{Run, From, at_first}
 use Rattle.keyed_fn.specs.KeyedFn.{KeyedFn}
 use Rattle.def_link_events.specs.Events.{Event}
 use Rattle.sse_frames.specs.Exchange.{greeting}
@@ -28,24 +28,24 @@ use Rattle.def_script_meaning.proofs.Sent.{sent_in-append, sent_in-bare, sent_in
 
 module _ (f : KeyedFn) (key : List ℕ) (run : Run) (low high number : ℕ) (lines : List (Option Line)) (now : Outside) (end : Ended) where
   abbrev own : List FrameText
-  own = frames_under f key (Some run)
+  own = frames_under f key (Some (From at_first run))
 
   -- before any frame but Hello this server had replied that it expects the update of this number
   abbrev HasReplied : (next : ℕ) → List Event → Type 0
   HasReplied next events = 1 < length (sent_in events) → map bare (take 2 events) ≡ map as_event (greeting next)
 
   -- a run that took no record and sent the first of these
-  none_taken : end.key ≡ Some key → end.history ≡ Some run → end.outside.kept ≡ now.kept → (next : ℕ) → next ≤ length own → (events : List Event) → Adds now.told end.outside.told events
+  none_taken : end.key ≡ Some key → end.history ≡ Some (From at_first run) → end.outside.kept ≡ now.kept → (next : ℕ) → next ≤ length own → (events : List Event) → Adds now.told end.outside.told events
       → HasReplied next events → (count : ℕ) → sent_in events ≡ map frame_bytes (take count (Hello ∷ drop next own)) → IsRecordedBehind f key run now end
   none_taken same_key history unkept next within events adds replied count sent = record {
     same_key = same_key;
-    held = Some run;
-    since = IsFirstOf-same (Some run);
-    first = subst (λ h. IsFirstOf (Some run) h) (sym history) (IsFirstOf-same (Some run));
+    held = Some (From at_first run);
+    since = IsFirstOf-same (Some (From at_first run));
+    first = subst (λ h. IsFirstOf (Some (From at_first run)) h) (sym history) (IsFirstOf-same (Some (From at_first run)));
     taken = [];
-    taken_are = sym (append-nil (records_in f key (Some run)));
+    taken_are = sym (append-nil (records_in f key (Some (From at_first run))));
     all = [];
-    all_are = ap (records_in f key) history ∙ sym (append-nil (records_in f key (Some run)));
+    all_are = ap (records_in f key) history ∙ sym (append-nil (records_in f key (Some (From at_first run))));
     kept = inl (unkept ∙ Keeps-nothing now.kept);
     most = omega arith;
     next = next;
@@ -56,9 +56,10 @@ module _ (f : KeyedFn) (key : List ℕ) (run : Run) (low high number : ℕ) (lin
     count = count;
     sent = sent;
     whole = λ disk memory clash. sym history;
+    one_epoch = subst IsOneEpoch (sym history) refl;
   }
 
-  away : IsTurnedAway low high key (Some run) now end → IsRecordedBehind f key run now end
+  away : IsTurnedAway low high key (Some (From at_first run)) now end → IsRecordedBehind f key run now end
   away a =
       let turned = sent_in-turned low high a.away.events a.cause a.away.turned in
       let more = front_more turned.0 (Hello ∷ []) (drop 0 own) in
@@ -97,7 +98,7 @@ module _ (f : KeyedFn) (key : List ℕ) (run : Run) (low high number : ℕ) (lin
     joined events adds = Adds-joined now.told greeted.told end.outside.told g.greets.events events g.greets.adds adds
 
     -- so many of the frames that the server lacks
-    lacking_sent : end.key ≡ Some key → end.history ≡ Some run → end.outside.kept ≡ now.kept → (events : List Event) → Adds greeted.told end.outside.told events
+    lacking_sent : end.key ≡ Some key → end.history ≡ Some (From at_first run) → end.outside.kept ≡ now.kept → (events : List Event) → Adds greeted.told end.outside.told events
         → (count : ℕ) → sent_in events ≡ map frame_bytes (take count left) → IsRecordedBehind f key run now end
     lacking_sent same_key history unkept events adds count sent = none_taken same_key history unkept next within (g.greets.events ++ events) (joined events adds) (replied events) (suc count) (behind events (take count left) sent)
 
@@ -121,7 +122,7 @@ module _ (f : KeyedFn) (key : List ℕ) (run : Run) (low high number : ℕ) (lin
 
     -- and the lines behind
     module _ (later : Outside) (caught : HasCaughtUp left greeted later) (runs : Runs f (at_run key [] run) number lines false later end) where
-      abbrev w : KeptSince f key (Some run) later end
+      abbrev w : KeptSince f key (Some (From at_first run)) later end
       w = kept_since f (at_run key [] run) number lines false later end runs
 
       frames_is : drop next (frames_under f key w.held) ≡ left ++ w.more
@@ -138,7 +139,7 @@ module _ (f : KeyedFn) (key : List ℕ) (run : Run) (low high number : ℕ) (lin
         all = w.all;
         all_are = w.all_are;
         kept = subst (λ kept. KeepsFirst w.all w.records (status_of end.stop) kept end.outside.kept) (caught.unkept ∙ g.unkept) w.kept;
-        most = omega (arith, w.most, ap length w.are, ap length w.all_are, length-append (records_in f key (Some run)) w.records, length-append (records_in f key (Some run)) w.all);
+        most = omega (arith, w.most, ap length w.are, ap length w.all_are, length-append (records_in f key (Some (From at_first run))) w.records, length-append (records_in f key (Some (From at_first run))) w.all);
         next = next;
         within = within;
         events = g.greets.events ++ (caught.sent.events ++ w.events);
@@ -153,6 +154,7 @@ module _ (f : KeyedFn) (key : List ℕ) (run : Run) (low high number : ℕ) (lin
             ∙ ap (map frame_bytes) (sym (take-append-add left w.more w.count)))
             ∙ ap (λ frames. map frame_bytes (Hello ∷ take (length left + w.count) frames)) (sym frames_is);
         whole = w.whole;
+        one_epoch = w.one_epoch refl;
       }
 
   pub recorded_behind : high ≤ length own → Rejoins f low high key run number lines now end → IsRecordedBehind f key run now end

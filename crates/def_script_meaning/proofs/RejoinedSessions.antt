@@ -8,12 +8,12 @@ use Rattle.std.specs.List.{AllByRecursion}
 use Rattle.std.proofs.Math.Seq.{take-add}
 use Rattle.std.proofs.lemmas.List.{append-nil, append_cancel_left, drop-drop, drop-append-le, length-drop, take-append-drop, take-append-le}
 use Rattle.client_records.specs.Recorded.{recorded}
-use Rattle.client_registry.proofs.HistoryLaws.{IsFirstOf-same, IsKept-first}
+use Rattle.client_registry.proofs.HistoryLaws.{IsKept-first}
 use Rattle.client_registry.specs.Command.{Command, Add, Delete, Search, is_update}
 use Rattle.client_registry.specs.Histories.{IsKept, IsFirstOf, longer, shown_by, shown_in_turn, found_in_turn}
 use Rattle.client_registry.specs.Live.{in_order}
 use Rattle.client_registry.specs.Over.{over}
-use Rattle.client_registry.specs.Run.{Run, History, at_first}
+use Rattle.client_registry.specs.Run.{Run, History, From, at_first}
 use Rattle.client_registry.specs.Setup.{Setup}
 use Rattle.client_registry.specs.Sized.{update_frames}
 use Rattle.keyed_fn.specs.KeyedFn.{KeyedFn, IsKeyedFn}
@@ -30,8 +30,7 @@ use Rattle.sse_model.proofs.Counts.{length-frames_of_setup}
 use Rattle.sse_model.proofs.ExchangeLaws.{searches-append, searches-sent}
 use Rattle.sse_model.proofs.HistoryLaws.{frames_sent-longer}
 use Rattle.sse_model.proofs.Prefixes.{frames_by}
-use Rattle.sse_model.specs.Epochs.{keys_under}
-use Rattle.sse_model.specs.Histories.{frames_sent, HasNoCollision, table_of}
+use Rattle.sse_model.specs.Histories.{frames_sent, HasNoCollision, table_at}
 use Rattle.sse_model.specs.Wire.{frames_of_setup}
 use Rattle.sse_outside.proofs.Known.{append_known-twice}
 use Rattle.sse_script.specs.Shown.{NoMemory, Resumed}
@@ -53,11 +52,13 @@ use Rattle.def_script_meaning.specs.Rejoins.{frames_under, HasTaken, lacking, St
 use Rattle.def_script_meaning.specs.Runs.{Ended, Ends, IsGreeted, Runs}
 use Rattle.def_script_meaning.specs.Session.{IsFree}
 use Rattle.def_script_meaning.specs.Stops.{SinkFault, At, status_of, stop_text}
-use Rattle.def_script_meaning.proofs.ContinuedSessions.{no_commands, since, shown_in_turn-longer}
+use Rattle.def_script_meaning.proofs.ContinuedSessions.{since, shown_in_turn-longer}
 use Rattle.def_script_meaning.proofs.FollowedPlaces.{finds, finds-follow, first-follow, follow-key}
 use Rattle.def_script_meaning.proofs.GoneAsMeant.{Adds-joined, Adds-nothing, AreExchanged-none, Passes-behind, Passes-none}
 use Rattle.def_script_meaning.proofs.Headline.{AreAnswered, history_is_answered, session_left, session_outside, session_whole, opened_over, same_events, with_answers-finds, few, IsFree-first}
 use Rattle.def_script_meaning.proofs.Kept.{IsWithinItem, IsKeptAt, kept_follow}
+use Rattle.def_script_meaning.proofs.OneEpoch.{IsOneEpoch-first, one_follow}
+use Rattle.def_script_meaning.proofs.QueryLaws.{longer-none}
 use Rattle.def_script_meaning.proofs.Recorded.{KeepsFirst-all, records-longer, kept_since}
 use Rattle.def_script_meaning.proofs.RunGoes.{Passes-cut, clash_status, cut_status, turned_status, unsent_left, Went, went}
 use Rattle.def_script_meaning.proofs.SimulatedAfter.{simulated_after}
@@ -87,8 +88,8 @@ answered_behind f s (suc n) (frame ∷ frames) answers none are =
 
 -- Frames of a run without searches.
 
-no_searches : (run : Run) → filter is_update run.later ≡ run.later → shown_in_turn (Some run) ≡ []
-no_searches run updates = ap (λ later. shown_in_turn (Some (record run { later = later }))) (sym updates) ∙ by run.setup [] run.later
+no_searches : (run : Run) → filter is_update run.later ≡ run.later → shown_in_turn (Some (From at_first run)) ≡ []
+no_searches run updates = ap (λ later. shown_in_turn (Some (From at_first (record run { later = later })))) (sym updates) ∙ by run.setup [] run.later
   where
     by : (s : Setup) (past later : List Command) → flat_map (λ r. r) (over (shown_by s) past (filter is_update later)) ≡ []
     by s past [] = refl
@@ -96,63 +97,60 @@ no_searches run updates = ap (λ later. shown_in_turn (Some (record run { later 
     by s past (Delete id ∷ later) = by s (past ++ Delete id ∷ []) later
     by s past (Search word ∷ later) = by s past later
 
-each_one : (f : KeyedFn) (keys : ℕ → List ℕ) (run : Run) (past later : List Command)
-    → length (flat_map (λ frames. frames) (over (frames_by (table_of f keys run) at_first run.setup) past later)) ≡ length later
-each_one f keys run past [] = refl
-each_one f keys run past (Add d ∷ later) = omega (arith, each_one f keys run (past ++ Add d ∷ []) later)
-each_one f keys run past (Delete id ∷ later) = omega (arith, each_one f keys run (past ++ Delete id ∷ []) later)
-each_one f keys run past (Search word ∷ later) = omega (arith, each_one f keys run (past ++ Search word ∷ []) later)
+each_one : (f : KeyedFn) (key : List ℕ) (run : Run) (past later : List Command)
+    → length (flat_map (λ frames. frames) (over (frames_by (table_at f key run) at_first run.setup) past later)) ≡ length later
+each_one f key run past [] = refl
+each_one f key run past (Add d ∷ later) = omega (arith, each_one f key run (past ++ Add d ∷ []) later)
+each_one f key run past (Delete id ∷ later) = omega (arith, each_one f key run (past ++ Delete id ∷ []) later)
+each_one f key run past (Search word ∷ later) = omega (arith, each_one f key run (past ++ Search word ∷ []) later)
 
 -- they are as many as its update frames
-pub length-frames_under : (f : KeyedFn) (key : List ℕ) (run : Run) → filter is_update run.later ≡ run.later → length (frames_under f key (Some run)) ≡ update_frames run
+pub length-frames_under : (f : KeyedFn) (key : List ℕ) (run : Run) → filter is_update run.later ≡ run.later → length (frames_under f key (Some (From at_first run))) ≡ update_frames run
 length-frames_under f key run updates =
-    let t = table_of f (keys_under key (Some run)) run in
+    let t = table_at f key run in
     let later = flat_map (λ frames. frames) (over (frames_by t at_first run.setup) [] run.later) in
     omega (
       arith,
       length-append (frames_of_setup t at_first run.setup) later,
       length-frames_of_setup t at_first run.setup,
-      each_one f (keys_under key (Some run)) run [] run.later,
+      each_one f key run [] run.later,
       ap length updates,
     )
 
 module _ (f : KeyedFn) (laws : IsKeyedFn f) (key : List ℕ) (run : Run) (updates : filter is_update run.later ≡ run.later) (next : ℕ) (before : ServerState) (had : HasTaken f key run next before) where
-  abbrev keys : ℕ → List ℕ
-  keys = keys_under key (Some run)
-
   abbrev all : List FrameText
-  all = frames_under f key (Some run)
+  all = frames_under f key (Some (From at_first run))
 
   -- those from a number on of the run and of commands after it
-  pub frames_behind : (n : ℕ) (more : List Command) → n ≤ update_frames run → drop n (frames_under f key (longer more (Some run))) ≡ lacking f key run n ++ frames_since f key run more
+  pub frames_behind : (n : ℕ) (more : List Command) → n ≤ update_frames run → drop n (frames_under f key (longer more (Some (From at_first run)))) ≡ lacking f key run n ++ frames_since f key run more
   frames_behind n more few =
-      ap (drop n) (frames_sent-longer f keys (Some run) more)
+      ap (drop n) (frames_sent-longer f key (Some (From at_first run)) more)
       ∙ drop-append-le n all (frames_since f key run more) (omega (arith, few, length-frames_under f key run updates))
 
   -- the server so answers those that it lacks, and the frames of commands after them
-  pub rest_is_answered : (more : List Command) → IsKept (longer more (Some run)) → HasNoCollision f keys (longer more (Some run)) → AreAnswered f before (lacking f key run next ++ frames_since f key run more) (shown_behind run more)
+  pub rest_is_answered : (more : List Command) → IsKept (longer more (Some (From at_first run))) → HasNoCollision f key (longer more (Some (From at_first run))) → AreAnswered f before (lacking f key run next ++ frames_since f key run more) (shown_behind run more)
   rest_is_answered more kept free =
-      let whole = frames_under f key (longer more (Some run)) in
+      let whole = frames_under f key (longer more (Some (From at_first run))) in
       let first : take next whole ≡ take next all =
-      ap (take next) (frames_sent-longer f keys (Some run) more)
+      ap (take next) (frames_sent-longer f key (Some (From at_first run)) more)
       ∙ take-append-le next all (frames_since f key run more) (omega (arith, had.within, length-frames_under f key run updates)) in
       let none : searches (take next all) ≡ 0 =
       omega (
         arith,
         searches-append (take next all) (drop next all),
         ap searches (take-append-drop next all),
-        searches-sent f keys (Some run),
+        searches-sent f key (Some (From at_first run)),
         ap length (no_searches run updates),
       ) in
-      let shown : shown_in_turn (longer more (Some run)) ≡ shown_behind run more = shown_in_turn-longer run more ∙ ap (λ answers. answers ++ shown_behind run more) (no_searches run updates) in
-      let behind : AreAnswered f (steps f had.start (take next whole)).0 (drop next whole) (shown_in_turn (longer more (Some run))) =
-      answered_behind f had.start next whole (shown_in_turn (longer more (Some run))) (ap searches first ∙ none)
-      (history_is_answered f laws (Some key) (longer more (Some run)) had.start kept free had.expects) in
+      let shown : shown_in_turn (longer more (Some (From at_first run))) ≡ shown_behind run more = shown_in_turn-longer run more ∙ ap (λ answers. answers ++ shown_behind run more) (no_searches run updates) in
+      let behind : AreAnswered f (steps f had.start (take next whole)).0 (drop next whole) (shown_in_turn (longer more (Some (From at_first run)))) =
+      answered_behind f had.start next whole (shown_in_turn (longer more (Some (From at_first run)))) (ap searches first ∙ none)
+      (history_is_answered f laws (Some key) (longer more (Some (From at_first run))) had.start refl kept free had.expects) in
       subst (λ (p : ServerState × List FrameText × List (List ℕ)). AreAnswered f p.0 p.1 p.2)
       (λ i. ((ap (λ fs. (steps f had.start fs).0) first ∙ sym had.sent) i, frames_behind next more had.within i, shown i)) behind
 
   module _ (n number : ℕ) (lines : List (Option Line)) (within : AllByRecursion IsWithinItem lines) (kept_at : IsKeptAt n (at_run key [] run))
-      (low high : ℕ) (fits : high < 2 ^ 32) (least : low ≤ next) (most : next ≤ high) (near : update_frames run ≤ low + frames_in_hand (Some run))
+      (low high : ℕ) (fits : high < 2 ^ 32) (least : low ≤ next) (most : next ≤ high) (near : update_frames run ≤ low + frames_in_hand (Some (From at_first run)))
       (now : Outside) (end : Ended) (goes : Rejoins f low high key run number lines now end) where
     abbrev m : Meaning
     m = follow (at_run key [] run) number lines false
@@ -160,41 +158,37 @@ module _ (f : KeyedFn) (laws : IsKeyedFn f) (key : List ℕ) (run : Run) (update
     kept : IsKept m.history
     kept = (kept_follow n (at_run key [] run) number lines false within kept_at).0
 
-    -- the commands of a history that begins with the run
-    abbrev commands_in : (h : History) → IsFirstOf (Some run) h → List Command
-    commands_in h first = (since run h first).0
-
     -- with a server that says this number it sends these
     abbrev to_send : List Command → ℕ → List FrameText
     to_send commands q = lacking f key run q ++ frames_since f key run commands
 
     -- it sends the frames that are lacking and then those after the run
     pub record GoesRejoining : Type 0 where
-      pub first : IsFirstOf (Some run) end.history
+      pub commands : List Command
+      pub are : end.history ≡ longer commands (Some (From at_first run))
       pub same_key : end.key ≡ Some key
       pub history : IsFirstOf end.history m.history
       pub answers : List (List ℕ)
-      pub passes : HasPassed f low high (to_send (commands_in end.history first)) answers now.told end
+      pub passes : HasPassed f low high (to_send commands) answers now.told end
 
     -- at a stop before the lines the history is the run, which has no commands after it
-    stopped : (answers : List (List ℕ)) → end.key ≡ Some key → end.history ≡ Some run → ((commands : List Command) → commands ≡ [] → HasPassed f low high (to_send commands) answers now.told end) → GoesRejoining
-    stopped answers same_key history passes =
-        let first : IsFirstOf (Some run) end.history = subst (IsFirstOf (Some run)) (sym history) (IsFirstOf-same (Some run)) in
-        record {
-          first = first;
-          same_key = same_key;
-          history = subst (λ h. IsFirstOf h m.history) (sym history) (first-follow (at_run key [] run) number lines false);
-          answers = answers;
-          passes = passes (commands_in end.history first) (no_commands run end.history first history);
-        }
+    stopped : (answers : List (List ℕ)) → end.key ≡ Some key → end.history ≡ Some (From at_first run) → HasPassed f low high (to_send []) answers now.told end → GoesRejoining
+    stopped answers same_key history passes = record {
+      commands = [];
+      are = history ∙ sym (longer-none (Some (From at_first run)));
+      same_key = same_key;
+      history = subst (λ h. IsFirstOf h m.history) (sym history) (first-follow (at_run key [] run) number lines false);
+      answers = answers;
+      passes = passes;
+    }
 
     -- of the run's frames from a possible number on there are at most those of its last command
-    few_lacking : (q : ℕ) → low ≤ q → end.history ≡ Some run → length (lacking f key run q) ≤ frames_in_hand end.history
+    few_lacking : (q : ℕ) → low ≤ q → end.history ≡ Some (From at_first run) → length (lacking f key run q) ≤ frames_in_hand end.history
     few_lacking q at_least history =
         subst (λ h. length (lacking f key run q) ≤ frames_in_hand h) (sym history)
         (omega (arith, near, at_least, length-drop q all, length-frames_under f key run updates))
 
-    few_lacking_updates : (q : ℕ) → low ≤ q → end.history ≡ Some run → updates_count (lacking f key run q) ≤ frames_in_hand end.history
+    few_lacking_updates : (q : ℕ) → low ≤ q → end.history ≡ Some (From at_first run) → updates_count (lacking f key run q) ≤ frames_in_hand end.history
     few_lacking_updates q at_least history = let few = few_lacking q at_least history in omega (arith, few, updates_fewer (lacking f key run q))
 
     module _ (greeted : Outside) (g : IsGreeted low high now greeted) where
@@ -205,10 +199,9 @@ module _ (f : KeyedFn) (laws : IsKeyedFn f) (key : List ℕ) (run : Run) (update
       opened commands answers same_key passes = record { key = key; same_key = same_key; greeted = greeted.told; greets = g.greets; passes = passes }
 
       -- it stops in those frames, or behind them
-      stopped_open : (answers : List (List ℕ)) → end.key ≡ Some key → end.history ≡ Some run → Passes f lacked answers greeted.told end → GoesRejoining
+      stopped_open : (answers : List (List ℕ)) → end.key ≡ Some key → end.history ≡ Some (From at_first run) → Passes f lacked answers greeted.told end → GoesRejoining
       stopped_open answers same_key history passes =
-          stopped answers same_key history (λ commands none.
-          inr (inr (opened commands answers same_key (subst (λ fs. Passes f fs answers greeted.told end) (sym (append-nil lacked) ∙ ap (λ cs. to_send cs g.greets.next) (sym none)) passes))))
+          stopped answers same_key history (inr (inr (opened [] answers same_key (subst (λ fs. Passes f fs answers greeted.told end) (sym (append-nil lacked)) passes))))
 
       short : StopsShort f lacked key run greeted end → GoesRejoining
       short s = elim s.short [
@@ -255,16 +248,19 @@ module _ (f : KeyedFn) (laws : IsKeyedFn f) (key : List ℕ) (run : Run) (update
 
       -- it went over the lines
       module _ (later : Outside) (caught : HasCaughtUp lacked greeted later) (runs : Runs f (at_run key [] run) number lines false later end) where
-        w : Went f key (Some run) m later end
+        w : Went f key (Some (From at_first run)) m later end
         w = went f n (at_run key [] run) number lines false later end within kept_at runs
 
+        behind : (more : List Command) × (end.history ≡ longer more (Some (From at_first run)))
+        behind = since run end.history (IsOneEpoch-first end.history m.history w.history (one_follow (at_run key [] run) number lines false refl)) w.since
+
         abbrev commands : List Command
-        commands = commands_in end.history w.since
+        commands = behind.0
 
         frames_after : w.more ≡ frames_since f key run commands
         frames_after =
             append_cancel_left all w.more (frames_since f key run commands)
-            (sym w.frames ∙ ap (frames_sent f keys) (since run end.history w.since).1 ∙ frames_sent-longer f keys (Some run) commands)
+            (sym w.frames ∙ ap (frames_sent f key) behind.1 ∙ frames_sent-longer f key (Some (From at_first run)) commands)
 
         abbrev went_opened : IsOpened f low high (to_send commands) w.answers now.told end
         went_opened =
@@ -273,23 +269,23 @@ module _ (f : KeyedFn) (laws : IsKeyedFn f) (key : List ℕ) (run : Run) (update
             (Passes-behind f lacked w.more [] w.answers greeted.told later.told end caught.sent.events caught.sent.adds caught.sent.exchanged w.passes))
 
         went_on : GoesRejoining
-        went_on = record { first = w.since; same_key = w.same_key; history = w.history; answers = w.answers; passes = inr (inr went_opened) }
+        went_on = record { commands = commands; are = behind.1; same_key = w.same_key; history = w.history; answers = w.answers; passes = inr (inr went_opened) }
 
         -- the records after the run were kept
         kept_on : status_of end.stop ≤ 2 → Keeps now.kept end.outside.kept (recorded commands)
         kept_on low_status =
             let k = kept_since f (at_run key [] run) number lines false later end runs in
-            let held : k.held ≡ longer commands (Some run) =
-            k.whole (λ e. absurd (omega (arith, low_status, e))) (λ e. absurd (omega (arith, low_status, e))) (λ e. absurd (omega (arith, low_status, e))) ∙ (since run end.history w.since).1 in
+            let held : k.held ≡ longer commands (Some (From at_first run)) =
+            k.whole (λ e. absurd (omega (arith, low_status, e))) (λ e. absurd (omega (arith, low_status, e))) (λ e. absurd (omega (arith, low_status, e))) ∙ behind.1 in
             let same : k.records ≡ recorded commands =
-            append_cancel_left (records_in f key (Some run)) k.records (recorded commands)
-            (sym k.are ∙ ap (records_in f key) held ∙ records-longer f key (Some run) commands refl) in
+            append_cancel_left (records_in f key (Some (From at_first run))) k.records (recorded commands)
+            (sym k.are ∙ ap (records_in f key) held ∙ records-longer f key (Some (From at_first run)) commands refl) in
             KeepsFirst-all k.all k.records (status_of end.stop) later.kept end.outside.kept (λ e. absurd (omega (arith, low_status, e))) (λ e. absurd (omega (arith, low_status, e))) k.kept
             ∙ (λ i. with_records (same i) ((caught.unkept ∙ g.unkept) i))
 
     pub goes_rejoining : GoesRejoining
     goes_rejoining = elim goes [
-      | inl away ↦ stopped [] away.same_key away.history (λ commands none. inr (inl (record {
+      | inl away ↦ stopped [] away.same_key away.history (inr (inl (record {
         key = key;
         same_key = away.same_key;
         cause = away.cause;
@@ -298,7 +294,7 @@ module _ (f : KeyedFn) (laws : IsKeyedFn f) (key : List ℕ) (run : Run) (update
         none = refl;
         most = λ q least most.
             let here = few_lacking q least away.history in
-            omega (arith, here, updates_fewer (lacking f key run q ++ frames_since f key run commands), length-append (lacking f key run q) (frames_since f key run commands), ap (λ cs. length (frames_since f key run cs)) none);
+            omega (arith, here, updates_fewer (lacking f key run q ++ []), length-append (lacking f key run q) []);
       })))
       | inr (greeted, g, inl s) ↦ short greeted g s
       | inr (greeted, g, inr (inl u)) ↦ untold greeted g u
@@ -316,12 +312,10 @@ module _ (f : KeyedFn) (laws : IsKeyedFn f) (key : List ℕ) (run : Run) (update
       at_most = omega (arith, most, had.number)
 
       -- what the frames after the greeting are answered, where the history up to the stop has no collision
-      answered : (h : History) (first : IsFirstOf (Some run) h) → IsFirstOf h m.history → HasNoCollision f keys h → AreAnswered f before (to_send (commands_in h first) before.next) (shown_behind run (commands_in h first))
-      answered h first part free =
-          let commands = commands_in h first in
-          let whole = (since run h first).1 in
+      answered : (h : History) (commands : List Command) → h ≡ longer commands (Some (From at_first run)) → IsFirstOf h m.history → HasNoCollision f key h → AreAnswered f before (to_send commands before.next) (shown_behind run commands)
+      answered h commands whole part free =
           subst (λ q. AreAnswered f before (to_send commands q) (shown_behind run commands)) (sym had.number)
-          (rest_is_answered commands (subst IsKept whole (IsKept-first h m.history part kept)) (subst (HasNoCollision f keys) whole free))
+          (rest_is_answered commands (subst IsKept whole (IsKept-first h m.history part kept)) (subst (HasNoCollision f key) whole free))
 
       -- Promise P166 (inside): A session with a server that is missing frames sends those first and then carries out its lines as they are meant.
       --   assumes: keyed function, kept limits, honest link, no collision, no device fault, enough memory, resumable state
@@ -329,23 +323,23 @@ module _ (f : KeyedFn) (laws : IsKeyedFn f) (key : List ℕ) (run : Run) (update
       pub rejoined_status : IsFree f end.key end.history → status_of end.stop ≤ 7
       rejoined_status free =
           let g = goes_rejoining in
-          session_outside f low high (to_send (commands_in end.history g.first)) g.answers now.told end fits before state at_least at_most free served (shown_behind run (commands_in end.history g.first))
-          (answered end.history g.first g.history (subst (λ k. IsFree f k end.history) g.same_key free)) g.passes
+          session_outside f low high (to_send g.commands) g.answers now.told end fits before state at_least at_most free served (shown_behind run g.commands)
+          (answered end.history g.commands g.are g.history (subst (λ k. IsFree f k end.history) g.same_key free)) g.passes
 
       -- wherever it stopped, the server is one that was sent the first frames of the history up to there, all but some of the last command's
       pub frames_left_after : IsFree f end.key end.history
           → (n : ℕ) × (updates_count (drop n (frames_under f key end.history)) ≤ frames_in_hand end.history) × (state ≡ (steps f had.start (take n (frames_under f key end.history))).0)
       frames_left_after free =
           let g = goes_rejoining in
-          let cs = commands_in end.history g.first in
+          let cs = g.commands in
           let whole = frames_under f key end.history in
-          let history : end.history ≡ longer cs (Some run) = (since run end.history g.first).1 in
+          let history : end.history ≡ longer cs (Some (From at_first run)) = g.are in
           let left = session_left f low high (to_send cs) g.answers now.told end fits before state at_least at_most free served key g.same_key (shown_behind run cs)
-          (answered end.history g.first g.history (subst (λ k. IsFree f k end.history) g.same_key free)) g.passes in
+          (answered end.history g.commands g.are g.history (subst (λ k. IsFree f k end.history) g.same_key free)) g.passes in
           let sends : to_send cs before.next ≡ drop next whole = ap (to_send cs) had.number ∙ sym (frames_behind next cs had.within) ∙ ap (λ h. drop next (frames_under f key h)) (sym history) in
           let first : take next whole ≡ take next all =
           ap (λ h. take next (frames_under f key h)) history
-          ∙ ap (take next) (frames_sent-longer f keys (Some run) cs)
+          ∙ ap (take next) (frames_sent-longer f key (Some (From at_first run)) cs)
           ∙ take-append-le next all (frames_since f key run cs) (omega (arith, had.within, length-frames_under f key run updates)) in (
             next + left.0,
             omega (arith, left.1, ap (λ fs. updates_count (drop left.0 fs)) sends, ap updates_count (drop-drop left.0 next whole)),
@@ -358,7 +352,7 @@ module _ (f : KeyedFn) (laws : IsKeyedFn f) (key : List ℕ) (run : Run) (update
 
       -- Promise P166, also here
       -- and where nothing else did, it sent what the server lacked and did what its lines mean
-      pub rejoined : (last : Outside) → Ends end last → HasNoCollision f (keys_under key m.history) m.history → IsUndisturbed (status_of end.stop)
+      pub rejoined : (last : Outside) → Ends end last → HasNoCollision f key m.history → IsUndisturbed (status_of end.stop)
           → Rejoined f had.start key run next m now last (status_of end.stop) state
       rejoined last ends free calm =
           let whole_key : m.key ≡ Some key = follow-key (at_run key [] run) number lines false in
@@ -389,11 +383,11 @@ module _ (f : KeyedFn) (laws : IsKeyedFn f) (key : List ℕ) (run : Run) (update
               let v = w greeted g later caught runs in
               let cs = commands greeted g later caught runs in
               let o = went_opened greeted g later caught runs in
-              let whole = (since run end.history v.since).1 in
+              let whole = behind greeted g later caught runs in
               let well = v.ended_well low_status in
-              let history : m.history ≡ longer cs (Some run) = sym well.1 ∙ whole in
-              let free_here : HasNoCollision f keys end.history = subst (λ k. IsFree f k end.history) v.same_key free_end in
-              let passed = session_whole f low high (to_send cs) v.answers now.told end fits before state at_least at_most free_end served (shown_behind run cs) (answered end.history v.since v.history free_here) o low_status in
+              let history : m.history ≡ longer cs (Some (From at_first run)) = sym well.1 ∙ whole.1 in
+              let free_here : HasNoCollision f key end.history = subst (λ k. IsFree f k end.history) v.same_key free_end in
+              let passed = session_whole f low high (to_send cs) v.answers now.told end fits before state at_least at_most free_end served (shown_behind run cs) (answered end.history cs whole.1 v.history free_here) o low_status in
               let told : o.greets.next ≡ before.next = (opened_over f low high (to_send cs) v.answers now.told end fits before state at_least at_most free_end served o).2 in
               let number : g.greets.next ≡ next = told ∙ had.number in
               let behind : to_send cs before.next ≡ drop next (frames_under f key m.history) =
@@ -429,22 +423,22 @@ module _ (f : KeyedFn) (laws : IsKeyedFn f) (key : List ℕ) (run : Run) (update
                 stored = passed.1 ∙ ap (λ fs. (steps f before fs).0) behind ∙ stored_whole cs history;
               }
             where
-              answers_found : (cs : List Command) → m.history ≡ longer cs (Some run) → map in_order (shown_behind run cs) ≡ finds m.shown
+              answers_found : (cs : List Command) → m.history ≡ longer cs (Some (From at_first run)) → map in_order (shown_behind run cs) ≡ finds m.shown
               answers_found cs history =
-                  let shown : shown_in_turn (longer cs (Some run)) ≡ shown_behind run cs = shown_in_turn-longer run cs ∙ ap (λ answers. answers ++ shown_behind run cs) (no_searches run updates) in
-                  let none : found_in_turn (Some run) ≡ [] = sym (in_order-shown_in_turn (Some run) kept_at.history) ∙ ap (map in_order) (no_searches run updates) in
+                  let shown : shown_in_turn (longer cs (Some (From at_first run))) ≡ shown_behind run cs = shown_in_turn-longer run cs ∙ ap (λ answers. answers ++ shown_behind run cs) (no_searches run updates) in
+                  let none : found_in_turn (Some (From at_first run)) ≡ [] = sym (in_order-shown_in_turn (Some (From at_first run)) kept_at.history) ∙ ap (map in_order) (no_searches run updates) in
                   ap (map in_order) (sym shown)
-                  ∙ in_order-shown_in_turn (longer cs (Some run)) (subst IsKept history kept)
+                  ∙ in_order-shown_in_turn (longer cs (Some (From at_first run))) (subst IsKept history kept)
                   ∙ ap found_in_turn (sym history)
                   ∙ finds-follow (at_run key [] run) number lines false
                   ∙ ap (λ found. found ++ finds m.shown) none
 
-              stored_whole : (cs : List Command) → m.history ≡ longer cs (Some run) → (steps f before (drop next (frames_under f key m.history))).0 ≡ (steps f had.start (frames_under f key m.history)).0
+              stored_whole : (cs : List Command) → m.history ≡ longer cs (Some (From at_first run)) → (steps f before (drop next (frames_under f key m.history))).0 ≡ (steps f had.start (frames_under f key m.history)).0
               stored_whole cs history =
                   let whole = frames_under f key m.history in
                   let first : take next whole ≡ take next all =
                   ap (λ h. take next (frames_under f key h)) history
-                  ∙ ap (take next) (frames_sent-longer f keys (Some run) cs)
+                  ∙ ap (take next) (frames_sent-longer f key (Some (From at_first run)) cs)
                   ∙ take-append-le next all (frames_since f key run cs) (omega (arith, had.within, length-frames_under f key run updates)) in
                   ap (λ s. (steps f s (drop next whole)).0) (had.sent ∙ ap (λ fs. (steps f had.start fs).0) (sym first))
                   ∙ sym (ap (λ r. r.0) (steps-append f had.start (take next whole) (drop next whole)))

@@ -1,5 +1,5 @@
 -- A run goes as its script means: by induction over the lines that are left.
-use Rattle.std.proofs.Common.{◌≡◌, ◌⊎◌, ℕ, suc, ◌+◌, ◌≤◌, inl, inr, Bool, true, false, ◌||◌, List, [], ◌∷◌, ◌++◌, length, take, drop, Some, None, refl, sym, ap, ◌∙◌, subst, arith, append_assoc}
+use Rattle.std.proofs.Common.{◌≡◌, ◌⊎◌, ℕ, ◌+◌, ◌≤◌, inl, inr, Bool, true, false, ◌||◌, List, [], ◌∷◌, ◌++◌, length, take, drop, Some, None, refl, sym, ap, ◌∙◌, subst, arith, append_assoc}
 use Rattle.std.specs.Prelude.{Option, option_map}
 use Rattle.std.specs.Io.KnownBytes.{append_known}
 use Rattle.std.specs.List.{AllByRecursion}
@@ -14,13 +14,12 @@ use Rattle.sse_frames.specs.Exchange.{asked}
 use Rattle.sse_frames.specs.Frames.{FrameText}
 use Rattle.def_link_events.specs.Events.{Event, Sent, Received}
 use Rattle.sse_model.specs.Compared.{Collision, Labels, Places, Numbers}
-use Rattle.sse_model.specs.Epochs.{keys_under}
 use Rattle.sse_model.specs.Histories.{frames_sent, HasNoCollision}
 use Rattle.sse_script.specs.Shown.{Cause, DiskFault, NoMemory}
 use Rattle.sse_script.specs.Stops.{cause_status}
 use Rattle.sse_script.specs.TextLines.{lines_of}
 use Rattle.def_script_meaning.proofs.UpdatesLeft.{updates_behind}
-use Rattle.def_script_meaning.specs.Carries.{Outside, keys_at, frames_by, collision_cause, clash_in_hand, text_with, Carries, FindsClash, LacksMemory, IsUnkept, IsCutShort, IsUnprinted}
+use Rattle.def_script_meaning.specs.Carries.{Outside, frames_by, collision_cause, clash_in_hand, text_with, Carries, FindsClash, LacksMemory, IsUnkept, IsCutShort, IsUnprinted}
 use Rattle.def_script_meaning.specs.Exchange.{Told, Adds, AreCut, IsCut}
 use Rattle.def_script_meaning.specs.Goes.{frames_in_hand, IsLeft, Passes, Prints, GoesFirst, updates_count}
 use Rattle.def_script_meaning.specs.HelloExchange.{IsTurned}
@@ -86,7 +85,7 @@ pub record Went (f : KeyedFn) (key : List ℕ) (h : History) (m : Meaning) (now 
   pub history : IsFirstOf end.history m.history
   pub since : IsFirstOf h end.history
   pub more : List FrameText
-  pub frames : frames_sent f (keys_under key end.history) end.history ≡ frames_sent f (keys_under key h) h ++ more
+  pub frames : frames_sent f key end.history ≡ frames_sent f key h ++ more
   pub answers : List (List ℕ)
   pub passes : Passes f more answers now.told end
   pub prints : Prints m answers now.written end.outside.written
@@ -102,7 +101,7 @@ module _ (f : KeyedFn) where
     history = first;
     since = IsFirstOf-same h;
     more = [];
-    frames = sym (append-nil (frames_sent f (keys_under key h) h));
+    frames = sym (append-nil (frames_sent f key h));
     answers = [];
     passes = Passes-none f now.told (ended now (Some key) h stop) refl outside;
     prints = Prints-none m [] now.written now.written refl;
@@ -131,8 +130,8 @@ module _ (f : KeyedFn) where
       since_of : IsFirstOf place.history end.history
       since_of = subst (IsFirstOf place.history) (sym s.history) (first-next place line)
 
-      frames_of : frames_sent f (keys_at place) end.history ≡ frames_sent f (keys_at place) place.history ++ frames_by f place result
-      frames_of = ap (frames_sent f (keys_at place)) s.history ∙ frames-next place line f
+      frames_of : frames_sent f place.key end.history ≡ frames_sent f place.key place.history ++ frames_by f place result
+      frames_of = ap (frames_sent f place.key) s.history ∙ frames-next place line f
 
       few_in_hand : updates_count (frames_by f place result) ≤ frames_in_hand end.history
       few_in_hand = subst (λ h. updates_count (frames_by f place result) ≤ frames_in_hand h) (sym s.history) (few-next place line f)
@@ -154,7 +153,7 @@ module _ (f : KeyedFn) where
               cut = [];
               parts = refl;
               exchanged = AreExchanged-none;
-              left = inr (inr (inr (refl, λ free. never c.cause c.found (no_clash-next f place line kept (subst (λ h. HasNoCollision f (keys_at place) h) s.history (subst (λ k. IsFree f k end.history) s.key free))))));
+              left = inr (inr (inr (refl, λ free. never c.cause c.found (no_clash-next f place line kept (subst (λ h. HasNoCollision f place.key h) s.history (subst (λ k. IsFree f k end.history) s.key free))))));
               most = omega (arith, few_in_hand);
               whole = λ few. absurd (omega (arith, few, status));
             };
@@ -265,7 +264,7 @@ module _ (f : KeyedFn) where
           frames =
               w.frames
               ∙ ap (λ fs. fs ++ w.more) (frames-next place line f)
-              ∙ append_assoc (frames_sent f (keys_at place) place.history) (frames_by f place result) w.more;
+              ∙ append_assoc (frames_sent f place.key place.history) (frames_by f place result) w.more;
           answers = c.answers ++ w.answers;
           passes = Passes-behind f (frames_by f place result) w.more c.answers w.answers now.told next.told end c.sent.events c.sent.adds c.sent.exchanged w.passes;
           prints = record {

@@ -12,7 +12,7 @@ use Rattle.std.proofs.lemmas.List.Elements.{All-nil, All-cons}
 use Rattle.hex.proofs.OnLiterals.{hex_on_literals}
 use Rattle.client_registry.specs.Command.{Search}
 use Rattle.client_registry.specs.Histories.{IsKept}
-use Rattle.client_registry.specs.Run.{Run, History, at_first}
+use Rattle.client_registry.specs.Run.{Run, History, From, at_first}
 use Rattle.client_registry.specs.Setup.{Setup, setup_of}
 use Rattle.keyed_fn.specs.KeyedFn.{KeyedFn, keyed_fn, IsKeyedFn}
 use Rattle.keyed_fn.specs.Toy.{toy_prf, toy_pad}
@@ -30,7 +30,7 @@ use Rattle.def_link_events.specs.declared.mark.Mark.TheVariants.{Stepped}
 use Rattle.sse_model.proofs.CollisionTest.{IsCollisionFree-from_test}
 use Rattle.sse_model.proofs.HistoryLaws.{frames_sent-in_grammar}
 use Rattle.sse_model.specs.Drawn.{IsCollisionFree}
-use Rattle.sse_model.specs.Histories.{table_of}
+use Rattle.sse_model.specs.Histories.{table_at}
 use Rattle.sse_script.specs.Shown.{DiskFault, LinkFault}
 use Rattle.script_documents.specs.LineDocument.{document}
 use Rattle.def_script_meaning.proofs.Headline.{headline}
@@ -82,7 +82,7 @@ abbrev pub place : Place
 place = record { key = key; documents = document 1 (a ∷ []) ∷ []; history = None }
 
 abbrev searching : Place
-searching = record { key = key; documents = document 1 (a ∷ []) ∷ []; history = Some (record { setup = setup; later = [] }) }
+searching = record { key = key; documents = document 1 (a ∷ []) ∷ []; history = Some (From at_first (record { setup = setup; later = [] })) }
 
 abbrev pub setting_up : List FrameText
 setting_up = frames_by toy place (SetsUp setup)
@@ -156,7 +156,7 @@ finds_row = record {
 }
 
 abbrev end : Ended
-end = ended (seen passing set_up_records (set_up_text ++ found_text)) (Some key) (Some run) (AtEnd false)
+end = ended (seen passing set_up_records (set_up_text ++ found_text)) (Some key) (Some (From at_first run)) (AtEnd false)
 
 pub greeted_row : IsGreeted 0 0 (seen [] [] []) (seen greeting [] [])
 greeted_row = record { greets = record { next = 0; least = lit≤ tt; most = lit≤ tt; events = greeting; adds = refl; each = refl }; unkept = refl; unprinted = refl }
@@ -220,10 +220,10 @@ frames = setting_up ++ asking
 replies_row : (steps toy server.at_first (Hello ∷ frames)).1 ≡ (Next 0 ∷ []) ∷ (Took 0 ∷ []) ∷ (Took 1 ∷ []) ∷ (Took 2 ∷ []) ∷ (Page true (1 ∷ []) ∷ []) ∷ []
 replies_row = simp (map.gets, set.members)
 
-free_row : IsCollisionFree (table_of toy (λ epoch. key) run) at_first run
-free_row = IsCollisionFree-from_test (table_of toy (λ epoch. key) run) at_first run refl
+free_row : IsCollisionFree (table_at toy key run) at_first run
+free_row = IsCollisionFree-from_test (table_at toy key run) at_first run refl
 
-kept_row : IsKept (Some run)
+kept_row : IsKept (Some (From at_first run))
 unfolding hex_on_literals utf8_valid_len is_utf8 chars encode
 kept_row = (meaning_is_kept script).0
 
@@ -235,7 +235,7 @@ honest_row = record {
   events = passing;
   adds = refl;
   honest = subst (λ replies. IsHonest toy server.at_first (stepped (Hello ∷ frames) replies) (steps toy server.at_first frames).0) replies_row
-      (honest_steps server.at_first (Hello ∷ frames) (tt, frames_sent-in_grammar toy (λ epoch. key) (Some run) toy_laws kept_row free_row));
+      (honest_steps server.at_first (Hello ∷ frames) (tt, frames_sent-in_grammar toy key (Some (From at_first run)) toy_laws kept_row free_row));
 }
 
 pub calm_row : IsUndisturbed 0
@@ -274,7 +274,7 @@ unfolding hex_on_literals utf8_valid_len is_utf8 chars encode
 away events turned =
     inr (inl (record { cause = LinkFault; stops = refl; away = record { events = events; adds = refl; turned = turned }; unkept = refl; unprinted = refl; same_key = refl; history = refl }))
 
-in_setup : (events : List Event) → AreCut setting_up events LinkFault → Opens toy 1 (script_lines script) (seen [] [] []) (ended (seen (greeting ++ events) set_up_records []) (Some key) (Some (record { setup = setup; later = [] })) (At LinkFault))
+in_setup : (events : List Event) → AreCut setting_up events LinkFault → Opens toy 1 (script_lines script) (seen [] [] []) (ended (seen (greeting ++ events) set_up_records []) (Some key) (Some (From at_first (record { setup = setup; later = [] }))) (At LinkFault))
 unfolding hex_on_literals utf8_valid_len is_utf8 chars encode
 in_setup events cut = inr (inr (
   seen greeting [] [],
@@ -286,7 +286,7 @@ in_setup events cut = inr (inr (
   )),
 ))
 
-in_search : (events : List Event) → AreCut asking events LinkFault → Opens toy 1 (script_lines script) (seen [] [] []) (ended (seen (greeting ++ acknowledged 0 setting_up ++ events) set_up_records set_up_text) (Some key) (Some run) (At LinkFault))
+in_search : (events : List Event) → AreCut asking events LinkFault → Opens toy 1 (script_lines script) (seen [] [] []) (ended (seen (greeting ++ acknowledged 0 setting_up ++ events) set_up_records set_up_text) (Some key) (Some (From at_first run)) (At LinkFault))
 unfolding hex_on_literals utf8_valid_len is_utf8 chars encode
 in_search events cut = inr (inr (
   seen greeting [] [],
@@ -307,7 +307,7 @@ abbrev without_record : (refused : List (List ℕ)) → Outside
 without_record refused = record { told = Some greeting; kept = record { records = Some []; refused = refused }; written = Some [] }
 
 refused_record : (refused : List (List ℕ)) → (refused ≡ []) ⊎ (refused ≡ set_up_records)
-    → Opens toy 1 (script_lines script) (seen [] [] []) (ended (without_record refused) (Some key) (Some (record { setup = setup; later = [] })) (At DiskFault))
+    → Opens toy 1 (script_lines script) (seen [] [] []) (ended (without_record refused) (Some key) (Some (From at_first (record { setup = setup; later = [] }))) (At DiskFault))
 unfolding hex_on_literals utf8_valid_len is_utf8 chars encode
 refused_record refused kept = inr (inr (
   seen greeting [] [],
@@ -334,7 +334,7 @@ abbrev cut_run : (events : List Event) (records : List (List ℕ)) (text : List 
 cut_run events records text h = Opens toy 1 (script_lines script) (seen [] [] []) (ended (seen events records text) (Some key) h (At LinkFault))
 
 abbrev set_up_alone : History
-set_up_alone = Some (record { setup = setup; later = [] })
+set_up_alone = Some (From at_first (record { setup = setup; later = [] }))
 
 after_0 : cut_run (take 0 passing) [] [] None
 after_0 = away [] (inl refl)
@@ -360,8 +360,8 @@ after_6 = in_setup _ (cut_at setting_up 2 (acknowledged 0 (take 2 setting_up)) [
 after_7 : cut_run (take 7 passing) set_up_records [] set_up_alone
 after_7 = in_setup _ (cut_at setting_up 2 (acknowledged 0 (take 2 setting_up)) (take 1 (map sent (drop 2 setting_up))) (first_frames 2 refl refl) (refl, ([], refl, inl (awaits_took 2))))
 
-after_8 : cut_run (take 8 passing) set_up_records set_up_text (Some run)
+after_8 : cut_run (take 8 passing) set_up_records set_up_text (Some (From at_first run))
 after_8 = in_search [] (cut_at asking 0 [] [] AreExchanged-none (inl refl))
 
-after_9 : cut_run (take 9 passing) set_up_records set_up_text (Some run)
+after_9 : cut_run (take 9 passing) set_up_records set_up_text (Some (From at_first run))
 after_9 = in_search _ (cut_at asking 0 [] (map sent asking) AreExchanged-none (refl, ([], refl, inl awaits_answer)))

@@ -12,7 +12,6 @@ use Rattle.sse_frames.specs.Frames.{FrameText, Hello, frame_bytes}
 use Rattle.sse_frames.specs.Replies.{ReplyText}
 use Rattle.def_link_events.specs.Events.{Event, Sent, Received}
 use Rattle.sse_model.proofs.HistoryLaws.{frames_sent-first}
-use Rattle.sse_model.specs.Epochs.{keys_under}
 use Rattle.sse_script.specs.Shown.{Cause}
 use Rattle.def_script_meaning.specs.Carries.{Outside}
 use Rattle.def_script_meaning.specs.Exchange.{Told, Adds, IsCut, as_event, bare, sent_in}
@@ -126,7 +125,7 @@ module _ (f : KeyedFn) (m : Meaning) (now : Outside) (end : Ended) (g : GoesFirs
   first_of key whole_key part whole (inl none) first = (frames_with_hello f whole_key whole, ap (λ k. frames_with_hello f k part ++ frames_with_hello f whole_key whole) (sym none))
   first_of key None part whole (inr same) first = ([], ap (λ k. frames_with_hello f k part ++ []) (sym same))
   first_of key (Some k) part whole (inr same) first =
-      let rest = frames_sent-first f (keys_under k whole) part whole first in
+      let rest = frames_sent-first f k part whole first in
       (rest.0, ap (λ frames. Hello ∷ frames) rest.1 ∙ ap (λ x. frames_with_hello f x part ++ rest.0) (sym same))
 
   -- Promise P162, also here

@@ -3,13 +3,13 @@ use Rattle.std.proofs.Common.{◌≡◌, ℕ, List, Some, None, map, take, refl,
 use Rattle.std.specs.Prelude.{Option}
 use Rattle.std.proofs.lemmas.List.{take-map}
 use Rattle.client_registry.proofs.HistoryLaws.{IsKept-first}
-use Rattle.client_registry.specs.Histories.{IsKept}
+use Rattle.client_registry.specs.Histories.{IsKept, IsWhole}
 use Rattle.client_registry.specs.Run.{History}
 use Rattle.keyed_fn.specs.KeyedFn.{KeyedFn}
 use Rattle.sse_frames.specs.Exchange.{sent_among}
 use Rattle.sse_frames.specs.Frames.{FrameText, frame_bytes}
 use Rattle.sse_model.proofs.HistoryLaws.{sent_among-session}
-use Rattle.sse_model.specs.Epochs.{keys_under}
+use Rattle.def_script_meaning.proofs.OneEpoch.{IsWhole-first}
 use Rattle.def_script_meaning.proofs.Sent.{frames_with_hello, sent_first}
 use Rattle.def_script_meaning.specs.Carries.{Outside}
 use Rattle.def_script_meaning.specs.Goes.{GoesFirst}
@@ -20,23 +20,23 @@ use Rattle.def_script_meaning.specs.Session.{session_with, simulated_with}
 use Rattle.def_leakage.proofs.Sessions.{session_is_simulated}
 
 -- all that passes under a key is what the simulator makes
-pub session_with-simulated : (f : KeyedFn) (key : Option (List ℕ)) (h : History) → IsKept h → simulated_with f key h ≡ Some (session_with f key h)
-session_with-simulated f None h kept = refl
-session_with-simulated f (Some key) h kept = session_is_simulated f (keys_under key h) h kept
+pub session_with-simulated : (f : KeyedFn) (key : Option (List ℕ)) (h : History) → IsWhole h → IsKept h → simulated_with f key h ≡ Some (session_with f key h)
+session_with-simulated f None h whole kept = refl
+session_with-simulated f (Some key) h whole kept = session_is_simulated f key h whole kept
 
 -- the frames of a session
 pub frames_among : (f : KeyedFn) (key : Option (List ℕ)) (h : History) → frames_with_hello f key h ≡ sent_among (session_with f key h)
 frames_among f None h = refl
-frames_among f (Some key) h = sym (sent_among-session f (keys_under key h) h)
+frames_among f (Some key) h = sym (sent_among-session f key h)
 
 -- of the history up to where it stopped, the command in hand included, and whatever the link replies
-pub sends_simulated : (f : KeyedFn) (m : Meaning) (now : Outside) (end : Ended) → GoesFirst f m now end → IsKept m.history → SendsSimulated f end.key end.history now.told end.outside.told
-sends_simulated f m now end g kept =
+pub sends_simulated : (f : KeyedFn) (m : Meaning) (now : Outside) (end : Ended) → GoesFirst f m now end → IsWhole m.history → IsKept m.history → SendsSimulated f end.key end.history now.told end.outside.told
+sends_simulated f m now end g whole kept =
     let first = sent_first f m now end g in record {
       events = first.events;
       adds = first.adds;
       passed = session_with f end.key end.history;
-      made = session_with-simulated f end.key end.history (IsKept-first end.history m.history g.history kept);
+      made = session_with-simulated f end.key end.history (IsWhole-first end.history m.history g.history whole) (IsKept-first end.history m.history g.history kept);
       n = first.count;
       sent =
           first.sent

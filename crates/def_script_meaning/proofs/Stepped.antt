@@ -6,8 +6,8 @@ use Rattle.std.specs.List.{AllByRecursion}
 use Rattle.std.specs.Option.{option_map_or}
 use Rattle.std.proofs.lemmas.Bool.{true≢false}
 use Rattle.client_registry.specs.Command.{Command, is_update}
-use Rattle.client_registry.specs.Histories.{IsKept, longer}
-use Rattle.client_registry.specs.Run.{History, Run}
+use Rattle.client_registry.specs.Histories.{IsKept, IsWhole, longer}
+use Rattle.client_registry.specs.Run.{History, Run, From, at_first}
 use Rattle.keyed_fn.specs.KeyedFn.{KeyedFn, IsKeyedFn}
 use Rattle.def_link_events.proofs.Honest.{IsServed-exchange, Serves-frame}
 use Rattle.def_link_events.specs.Events.{Event, Sent, Received, IsKnown, AreKnown, IsStepped, AreStepped}
@@ -25,10 +25,9 @@ use Rattle.sse_frames.specs.Exchange as texts
 use Rattle.sse_frames.specs.Exchange.{Asked, ForNext, ForTook, ForAnswer, answers_behind, asked, exchange, expected, first_answer, greeting, replied}
 use Rattle.sse_frames.specs.Frames.{FrameText, Hello, SetupBegin, SetupDict, SetupArray, SetupEnd, AddFrame, DeleteFrame, SearchFrame, InGrammar, frame_bytes}
 use Rattle.sse_frames.specs.Replies as reply
-use Rattle.sse_frames.specs.Replies.{ReplyText, Number, Clash, OutOfPlace, Took, reply_bytes}
+use Rattle.sse_frames.specs.Replies.{ReplyText, Number, Clash, OutOfPlace, reply_bytes}
 use Rattle.sse_frames.specs.SentParts.{pages_of}
 use Rattle.sse_model.proofs.ExchangeLaws.{session-exchange}
-use Rattle.sse_model.specs.Epochs.{keys_under}
 use Rattle.def_script_meaning.proofs.Headline.{AreAnswered, history_is_answered, shown_with}
 use Rattle.def_script_meaning.proofs.RejoinedSessions.{frames_behind, rest_is_answered}
 use Rattle.def_script_meaning.proofs.Honest.{IsBehindGreeting, behind_greeting, not_lacking}
@@ -241,8 +240,8 @@ module _ (f : KeyedFn) (start : Served) (events : List Event) (known : AreKnown 
       record { all = Hello ∷ frames; sent = both.0; stepped = both.1; accepted = (refl, none_refused f start.state frames shown are.replies); updates = refl }
 
   -- a server that expects the first frame of a history takes the updates of its session
-  pub session_taken : IsKeyedFn f → (key : Option (List ℕ)) (h : History) → IsKept h → IsFree f key h → Expects 0 start.state → map bare events ≡ map as_event (session_with f key h) → AreTaken start.state (frames_with f key h) events
-  session_taken laws None h kept free expects e = record { all = []; sent = nothing events e; stepped = still events e; accepted = tt; updates = refl }
+  pub session_taken : IsKeyedFn f → (key : Option (List ℕ)) (h : History) → IsWhole h → IsKept h → IsFree f key h → Expects 0 start.state → map bare events ≡ map as_event (session_with f key h) → AreTaken start.state (frames_with f key h) events
+  session_taken laws None h whole kept free expects e = record { all = []; sent = nothing events e; stepped = still events e; accepted = tt; updates = refl }
     where
       nothing : (events : List Event) → map bare events ≡ [] → AreSent [] events
       nothing [] e = refl
@@ -251,14 +250,14 @@ module _ (f : KeyedFn) (start : Served) (events : List Event) (known : AreKnown 
       still : (events : List Event) → map bare events ≡ [] → AreStepped events
       still [] e = tt
       still (event ∷ events) e = absurd (cc)
-  session_taken laws (Some key) h kept free expects e =
-      taken_behind_greeting 0 (shown_with (Some key) h) (frames_with f (Some key) h) (history_is_answered f laws (Some key) h start.state kept free expects) (e ∙ ap (map as_event) (session-exchange f (keys_under key h) h))
+  session_taken laws (Some key) h whole kept free expects e =
+      taken_behind_greeting 0 (shown_with (Some key) h) (frames_with f (Some key) h) (history_is_answered f laws (Some key) h start.state whole kept free expects) (e ∙ ap (map as_event) (session-exchange f key h))
 
   -- and one that was sent the first frames of a run those of a session that goes on with it
-  pub rejoined_taken : IsKeyedFn f → (key : List ℕ) (run : Run) → filter is_update run.later ≡ run.later → (next : ℕ) → HasTaken f key run next start.state → (more : List Command) → IsKept (longer more (Some run))
-      → IsFree f (Some key) (longer more (Some run)) → map bare events ≡ map as_event (greeting next ++ exchange (shown_behind run more) (drop next (frames_under f key (longer more (Some run)))))
-      → AreTaken start.state (drop next (frames_under f key (longer more (Some run)))) events
+  pub rejoined_taken : IsKeyedFn f → (key : List ℕ) (run : Run) → filter is_update run.later ≡ run.later → (next : ℕ) → HasTaken f key run next start.state → (more : List Command) → IsKept (longer more (Some (From at_first run)))
+      → IsFree f (Some key) (longer more (Some (From at_first run))) → map bare events ≡ map as_event (greeting next ++ exchange (shown_behind run more) (drop next (frames_under f key (longer more (Some (From at_first run))))))
+      → AreTaken start.state (drop next (frames_under f key (longer more (Some (From at_first run))))) events
   rejoined_taken laws key run updates next had more kept free e =
-      taken_behind_greeting next (shown_behind run more) (drop next (frames_under f key (longer more (Some run))))
+      taken_behind_greeting next (shown_behind run more) (drop next (frames_under f key (longer more (Some (From at_first run)))))
       (subst (λ frames. AreAnswered f start.state frames (shown_behind run more)) (sym (frames_behind f laws key run updates next start.state had next more had.within))
       (rest_is_answered f laws key run updates next start.state had more kept free)) e

@@ -10,7 +10,7 @@ use Rattle.std.proofs.lemmas.List.Elements.{All-nil, All-cons}
 use Rattle.hex.proofs.OnLiterals.{hex_on_literals}
 use Rattle.client_registry.specs.Command.{Command, Add, Delete, Search}
 use Rattle.client_registry.specs.Histories.{IsKept}
-use Rattle.client_registry.specs.Run.{Run, at_first}
+use Rattle.client_registry.specs.Run.{Run, From, at_first}
 use Rattle.def_agreement.proofs.Histories.{replies_agree}
 use Rattle.def_agreement.specs.TakenFrames.{Expects}
 use Rattle.sse_frames.specs.Exchange.{ForTook, asked}
@@ -23,7 +23,7 @@ use Rattle.def_link_events.specs.Served.{IsHonest}
 use Rattle.sse_model.proofs.CollisionTest.{IsCollisionFree-from_test}
 use Rattle.sse_model.proofs.HistoryLaws.{frames_sent-in_grammar}
 use Rattle.sse_model.specs.Drawn.{IsCollisionFree}
-use Rattle.sse_model.specs.Histories.{table_of}
+use Rattle.sse_model.specs.Histories.{table_at}
 use Rattle.sse_script.specs.Shown.{LinkFault, LabelClash}
 use Rattle.sse_script.specs.Shown.{Added, Deleted}
 use Rattle.script_documents.specs.LineDocument.{document}
@@ -55,7 +55,7 @@ run = record { setup = setup; later = commands }
 
 -- after the first n of them
 abbrev behind : ℕ → Place
-behind n = record place { history = Some (record { setup = setup; later = take n commands }) }
+behind n = record place { history = Some (From at_first (record { setup = setup; later = take n commands })) }
 
 -- What each comes to, and its frames.
 
@@ -171,7 +171,7 @@ finds_row = record {
 -- The run.
 
 abbrev end : Ended
-end = ended (seen passing records text) (Some key) (Some run) (AtEnd false)
+end = ended (seen passing records text) (Some key) (Some (From at_first run)) (AtEnd false)
 
 opens_row : Opens toy 1 (script_lines script) (seen [] [] []) end
 unfolding hex_on_literals utf8_valid_len is_utf8 chars encode
@@ -206,10 +206,10 @@ opens_row = inr (inr (
 abbrev frames : List FrameText
 frames = setting_up ++ adding ++ deleting ++ adding_again ++ asking
 
-free_row : IsCollisionFree (table_of toy (λ epoch. key) run) at_first run
-free_row = IsCollisionFree-from_test (table_of toy (λ epoch. key) run) at_first run refl
+free_row : IsCollisionFree (table_at toy key run) at_first run
+free_row = IsCollisionFree-from_test (table_at toy key run) at_first run refl
 
-kept_row : IsKept (Some run)
+kept_row : IsKept (Some (From at_first run))
 unfolding hex_on_literals utf8_valid_len is_utf8 chars encode
 kept_row = (meaning_is_kept script).0
 
@@ -224,8 +224,8 @@ honest_row = record {
   events = passing;
   adds = refl;
   honest = subst (λ replies. IsHonest toy server.at_first (stepped (Hello ∷ frames) ((Next 0 ∷ []) ∷ replies)) (steps toy server.at_first frames).0)
-      (replies_agree toy (λ epoch. key) (Some run) server.at_first toy_laws kept_row free_row expects_row)
-      (honest_steps server.at_first (Hello ∷ frames) (tt, frames_sent-in_grammar toy (λ epoch. key) (Some run) toy_laws kept_row free_row));
+      (replies_agree toy key (Some (From at_first run)) server.at_first toy_laws kept_row free_row expects_row)
+      (honest_steps server.at_first (Hello ∷ frames) (tt, frames_sent-in_grammar toy key (Some (From at_first run)) toy_laws kept_row free_row));
 }
 
 -- so what is said of such runs is said of this one
@@ -299,7 +299,7 @@ colliding = codes "key " ++ replicate 64 48 ++ codes "\ndoc 1 a\nsetup 1 1\nadd 
 abbrev in_hand : Run
 in_hand = record { setup = setup; later = Add (document 5 ((0x64 ∷ 0x61 ∷ []) ∷ (0x61 ∷ 0x63 ∷ []) ∷ [])) ∷ [] }
 
-collides_row : Opens toy 1 (script_lines colliding) (seen [] [] []) (ended (seen set_up set_up_records set_up_text) (Some key) (Some in_hand) (At (LabelClash 0 1)))
+collides_row : Opens toy 1 (script_lines colliding) (seen [] [] []) (ended (seen set_up set_up_records set_up_text) (Some key) (Some (From at_first in_hand)) (At (LabelClash 0 1)))
 unfolding hex_on_literals utf8_valid_len is_utf8 chars encode
 collides_row = inr (inr (
   seen greeting [] [],

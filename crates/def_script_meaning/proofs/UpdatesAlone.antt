@@ -13,7 +13,7 @@ use Rattle.client_registry.specs.Documents.{is_live}
 use Rattle.client_registry.specs.Histories.{IsKept, longer, shown_by}
 use Rattle.client_registry.specs.Live.{counter, is_listed, live, shown}
 use Rattle.client_registry.specs.Over.{over}
-use Rattle.client_registry.specs.Run.{Run, at_first}
+use Rattle.client_registry.specs.Run.{Run, From, at_first}
 use Rattle.client_registry.specs.Setup.{Setup}
 use Rattle.client_registry.specs.Sized.{IsSizedCommand, is_accepted}
 use Rattle.keyed_fn.specs.KeyedFn.{KeyedFn}
@@ -26,8 +26,7 @@ use Rattle.sse_frames.specs.SentParts.{array_frames, dict_frames, numbered, setu
 use Rattle.two_level.specs.Shape.{Shape}
 use Rattle.sse_model.proofs.Prefixes.{frames_by}
 use Rattle.sse_model.proofs.Updates.{frames-updates, frames_of-updates, is_no_search, next_number-updates, setup_frames-no_search}
-use Rattle.sse_model.specs.Epochs.{keys_under}
-use Rattle.sse_model.specs.Histories.{table_of}
+use Rattle.sse_model.specs.Histories.{table_at}
 use Rattle.sse_model.specs.Names.{Table}
 use Rattle.sse_model.specs.Positions.{block_positions, entry_positions, ranks_of, sealed}
 use Rattle.sse_model.specs.Wire.{frames_of, frames_of_setup, labels_in, next_number}
@@ -85,7 +84,7 @@ frames_by-alike t s past alone c same = sym (by past) ∙ ap (λ cs. frames_by t
 -- So of a run and of its updates.
 
 -- commands that keep all limits after a run's updates keep them after the run
-pub IsKept-after : (run : Run) (more : List Command) → IsKept (Some run) → IsKept (longer more (Some (updates_of run))) → IsKept (longer more (Some run))
+pub IsKept-after : (run : Run) (more : List Command) → IsKept (Some (From at_first run)) → IsKept (longer more (Some (From at_first (updates_of run)))) → IsKept (longer more (Some (From at_first run)))
 IsKept-after run more kept after =
     let s = run.setup in
     let own = filter is_update run.later in
@@ -109,14 +108,11 @@ IsKept-after run more kept after =
     )
 
 module _ (f : KeyedFn) (key : List ℕ) (run : Run) where
-  abbrev keys : ℕ → List ℕ
-  keys = keys_under key (Some run)
-
   abbrev t : Table
-  t = table_of f keys run
+  t = table_at f key run
 
   -- the frames of a run's updates are those of the run that are no search's
-  pub frames_alone : frames_under f key (Some (updates_of run)) ≡ filter is_no_search (frames_under f key (Some run))
+  pub frames_alone : frames_under f key (Some (From at_first (updates_of run))) ≡ filter is_no_search (frames_under f key (Some (From at_first run)))
   frames_alone = frames-updates t at_first run.setup run.later
 
   -- commands after the updates have the frames that they have after the run
@@ -163,10 +159,10 @@ command_updates t s past (Delete id ∷ later) = ap (λ rest. frames_by t at_fir
 command_updates t s past (Search word ∷ later) = command_updates t s (past ++ Search word ∷ []) later
 
 -- so the updates that a run sends are the frames of its updates
-pub updates_sent : (f : KeyedFn) (key : List ℕ) (run : Run) → updates_among (frames_under f key (Some run)) ≡ frames_under f key (Some (updates_of run))
+pub updates_sent : (f : KeyedFn) (key : List ℕ) (run : Run) → updates_among (frames_under f key (Some (From at_first run))) ≡ frames_under f key (Some (From at_first (updates_of run)))
 updates_sent f key run =
     let s = run.setup in
-    let table = table_of f (keys_under key (Some run)) run in
+    let table = table_at f key run in
     let ranks = ranks_of (labels_in table (block_positions at_first.epoch s)) in
     let entries = map (sealed table ranks) (entry_positions at_first.epoch s) in
     let blocks = map (sealed table ranks) (block_positions at_first.epoch s) in

@@ -6,9 +6,9 @@ use Rattle.std.specs.Option.{option_map}
 use Rattle.std.specs.Str.Parse.{digits_value}
 use Rattle.std.proofs.lemmas.Bool.{and_parts, ltb-true}
 use Rattle.std.proofs.lemmas.List.{length-map}
-use Rattle.client_registry.proofs.HistoryLaws.{IsSized-kept}
-use Rattle.client_registry.specs.Histories.{IsKept}
-use Rattle.client_registry.specs.Run.{commands_of}
+use Rattle.client_registry.proofs.HistoryLaws.{IsHistory-last}
+use Rattle.client_registry.specs.Histories.{IsKept, commands_in}
+use Rattle.client_registry.specs.Run.{History, last_run}
 use Rattle.client_registry.specs.Sized.{IsSized, run_words}
 use Rattle.sse_script.specs.Fields.{fields_of}
 use Rattle.sse_script.specs.Numbers.{number_of, key_of, is_numeral}
@@ -107,14 +107,18 @@ IsWithin-lines_in (text ∷ texts) = (IsWithin-line_in text, IsWithin-lines_in t
 -- Promise P162 (inside): A run sends and prints a prefix of its script's meaning with the answers received; ending with 0, 1 or 2, all of it.
 --   assumes: keyed function, honest link, no collision
 -- what a script means keeps the rules of every history, and has at most 32 commands for each line
-pub meaning_is_kept : (bytes : List ℕ) → IsKept (meant (script_lines bytes)).history × (length (commands_of (meant (script_lines bytes)).history) ≤ 32 * length (lines_of bytes))
+pub meaning_is_kept : (bytes : List ℕ) → IsKept (meant (script_lines bytes)).history × (commands_in (meant (script_lines bytes)).history ≤ 32 * length (lines_of bytes))
 meaning_is_kept bytes =
     let kept = kept_meant 1 (script_lines bytes) (IsWithin-lines_in (lines_of bytes)) in
     (kept.0, omega (arith, kept.1, length-map (lines_of bytes) line_in))
 
 -- and is sized, where its lines and its words can be numbered in 32 bits
-pub meaning_is_sized : (bytes : List ℕ) → 32 * length (lines_of bytes) + 1 < 2 ^ 32 → IfSome (meant (script_lines bytes)).history (λ run. length (run_words run) < 2 ^ 32)
-    → IfSome (meant (script_lines bytes)).history IsSized
+pub meaning_is_sized : (bytes : List ℕ) → 32 * length (lines_of bytes) + 1 < 2 ^ 32 → IfSome (meant (script_lines bytes)).history (λ es. length (run_words (last_run es)) < 2 ^ 32)
+    → IfSome (meant (script_lines bytes)).history (λ es. IsSized (last_run es))
 meaning_is_sized bytes few words =
     let kept = meaning_is_kept bytes in
-    IsSized-kept (meant (script_lines bytes)).history kept.0 (omega (arith, few, kept.1)) words
+    sized (meant (script_lines bytes)).history kept.0 (omega (arith, few, kept.1)) words
+  where
+    sized : (h : History) → IsKept h → commands_in h + 1 < 2 ^ 32 → IfSome h (λ es. length (run_words (last_run es)) < 2 ^ 32) → IfSome h (λ es. IsSized (last_run es))
+    sized None kept commands words = tt
+    sized (Some es) kept commands words = record { history = IsHistory-last es kept.0; commands = omega (arith, commands); frames = omega (arith, kept.1); words = words }

@@ -40,8 +40,8 @@ keys_at place = keys_under place.key place.history
 abbrev pub frames_by : KeyedFn → Place → Outcome → List FrameText
 frames_by f place (Collects d) = []
 frames_by f place (Refuses refusal) = []
-frames_by f place (SetsUp s) = frames_of_first f (keys_at place) s
-frames_by f place (Does commands shown) = frames_of_next f (keys_at place) place.history commands
+frames_by f place (SetsUp s) = frames_of_first f place.key s
+frames_by f place (Does commands shown) = frames_of_next f place.key place.history commands
 
 -- the records that it adds to those that the client keeps: of a setup one, under the mark of the key, and of each update one
 abbrev pub records_by : KeyedFn → Place → Outcome → List (List ℕ)
@@ -54,8 +54,8 @@ records_by f place (Does commands shown) = map update_record (filter is_update c
 abbrev pub collision_by : KeyedFn → Place → Outcome → Option Collision
 collision_by f place (Collects d) = None
 collision_by f place (Refuses refusal) = None
-collision_by f place (SetsUp s) = collision_of_first f (keys_at place) s
-collision_by f place (Does commands shown) = collision_of_next f (keys_at place) place.history commands
+collision_by f place (SetsUp s) = collision_of_first f place.key s
+collision_by f place (Does commands shown) = collision_of_next f place.key place.history commands
 
 abbrev pub collision_cause : Collision → Cause
 collision_cause (Labels first second) = LabelClash first second

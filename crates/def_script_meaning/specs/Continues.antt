@@ -6,7 +6,7 @@ use Rattle.client_records.specs.Records.{update_record}
 use Rattle.client_registry.specs.Command.{Command, is_update}
 use Rattle.client_registry.specs.Document.{Document}
 use Rattle.client_registry.specs.Histories.{longer}
-use Rattle.client_registry.specs.Run.{Run}
+use Rattle.client_registry.specs.Run.{Run, From, at_first}
 use Rattle.keyed_fn.specs.KeyedFn.{KeyedFn}
 use Rattle.server_core.specs.State.{ServerState}
 use Rattle.server_core.specs.Step.{steps}
@@ -14,7 +14,6 @@ use Rattle.def_agreement.specs.Agreement.{shown_behind}
 use Rattle.sse_frames.specs.Exchange.{greeting, exchange}
 use Rattle.sse_frames.specs.Frames.{FrameText}
 use Rattle.def_link_events.specs.Events.{Event}
-use Rattle.sse_model.specs.Epochs.{keys_under}
 use Rattle.sse_model.specs.Histories.{frames_of_next}
 use Rattle.sse_script.specs.Texts.{text_of}
 use Rattle.def_script_meaning.specs.Carries.{Keeps, Outside}
@@ -27,7 +26,7 @@ use Rattle.def_script_meaning.specs.Stops.{status_of, stop_text}
 
 -- a place after a run under this key
 abbrev pub at_run : (key : List ℕ) → List Document → Run → Place
-at_run key docs run = record { key = key; documents = docs; history = Some run }
+at_run key docs run = record { key = key; documents = docs; history = Some (From at_first run) }
 
 -- a session with a server that may expect an update from low to high, over these lines: the greeting, and what follows
 abbrev pub GoesOn : KeyedFn → (low high : ℕ) → Place → (number : ℕ) → List (Option Line) → (refused : Bool) → Outside → Ended → Type 0
@@ -37,7 +36,7 @@ GoesOn f low high place number lines refused now end =
 
 -- the frames of these commands after a run, under this key
 abbrev pub frames_since : KeyedFn → (key : List ℕ) → Run → List Command → List FrameText
-frames_since f key run more = frames_of_next f (keys_under key (Some run)) (Some run) more
+frames_since f key run more = frames_of_next f key (Some (From at_first run)) more
 
 -- between these two moments lines of this meaning were carried out after a run, with this status: as in a whole run (Headline),
 -- what passed being the greeting and the exchange of the frames after the run alone, and what is kept the records after the run
@@ -46,7 +45,7 @@ pub record Continued (f : KeyedFn) (before : ServerState) (key : List ℕ) (run 
   pub q : ℕ
   pub printed : last.written ≡ append_known now.written (flat_map text_of (map said m.shown) ++ take q (stop_text m.end))
   pub more : List Command
-  pub history : m.history ≡ longer more (Some run)
+  pub history : m.history ≡ longer more (Some (From at_first run))
   pub events : List Event
   pub adds : Adds now.told last.told events
   pub kept : Keeps now.kept last.kept (map update_record (filter is_update more))

@@ -5,7 +5,7 @@ use Rattle.std.specs.Io.KnownBytes.{append_known}
 use Rattle.client_registry.specs.Acceptance.{frames_needed}
 use Rattle.client_registry.specs.Command.{Command}
 use Rattle.client_registry.specs.Histories.{IsFirstOf}
-use Rattle.client_registry.specs.Run.{History}
+use Rattle.client_registry.specs.Run.{History, last_run}
 use Rattle.client_registry.specs.Setup.{Setup}
 use Rattle.keyed_fn.specs.KeyedFn.{KeyedFn}
 use Rattle.sse_frames.specs.Frames.{FrameText}
@@ -36,7 +36,7 @@ frames_of_last s (c ∷ later) = 1
 
 abbrev pub frames_in_hand : History → ℕ
 frames_in_hand None = 0
-frames_in_hand (Some run) = frames_of_last run.setup run.later
+frames_in_hand (Some es) = frames_of_last (last_run es).setup (last_run es).later
 
 -- how many of these frames are no searches: only they change a server
 abbrev pub updates_count : List FrameText → ℕ

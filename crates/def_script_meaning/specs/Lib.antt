@@ -16,3 +16,5 @@ pub mod SimulatedAfter
 pub mod Rejoins
 pub mod Joined
 pub mod SessionsInARow
+pub mod Since
+pub mod TakenEpochs

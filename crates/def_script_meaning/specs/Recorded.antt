@@ -1,6 +1,6 @@
 -- A run's records as the client keeps them: those of a history whose first frames were sent.
 use Rattle.std.specs.Prelude.{◌≡◌, ◌≢◌, ◌⊎◌, ◌≤◌, ℕ, ◌+◌, List, [], ◌++◌, length, map, take, Option, None, Some}
-use Rattle.client_records.specs.Records.{records_of}
+use Rattle.client_records.specs.Recorded.{records_of_history}
 use Rattle.client_registry.specs.Histories.{IsFirstOf}
 use Rattle.client_registry.specs.Run.{History}
 use Rattle.keyed_fn.specs.KeyFormulas.{mark_of}
@@ -15,8 +15,7 @@ use Rattle.def_script_meaning.specs.Session.{session_with}
 
 -- the records of a history under this key; before a setup there is none
 abbrev pub records_in : KeyedFn → (key : List ℕ) → History → List (List ℕ)
-records_in f key None = []
-records_in f key (Some run) = records_of (mark_of f key) run
+records_in f key h = records_of_history (mark_of f key) h
 
 -- the same where there may be no key
 abbrev pub records_with : KeyedFn → Option (List ℕ) → History → List (List ℕ)

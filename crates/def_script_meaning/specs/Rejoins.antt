@@ -4,8 +4,8 @@ use Rattle.std.specs.Prelude.{◌≡◌, ◌≢◌, ◌⊎◌, ◌<◌, ◌≤�
 use Rattle.std.specs.Io.KnownBytes.{append_known}
 use Rattle.client_records.specs.Recorded.{recorded}
 use Rattle.client_registry.specs.Command.{Command}
-use Rattle.client_registry.specs.Histories.{longer, IsFirstOf}
-use Rattle.client_registry.specs.Run.{History, Run}
+use Rattle.client_registry.specs.Histories.{longer, IsFirstOf, IsOneEpoch}
+use Rattle.client_registry.specs.Run.{History, Run, From, at_first}
 use Rattle.client_registry.specs.Sized.{update_frames}
 use Rattle.keyed_fn.specs.KeyedFn.{KeyedFn}
 use Rattle.server_core.specs.State.{ServerState}
@@ -16,7 +16,6 @@ use Rattle.sse_frames.specs.Exchange.{greeting, exchange}
 use Rattle.sse_frames.specs.Frames.{FrameText, Hello, frame_bytes}
 use Rattle.def_link_events.specs.Events.{Event}
 use Rattle.sse_model.specs.Compared.{Collision}
-use Rattle.sse_model.specs.Epochs.{keys_under}
 use Rattle.sse_model.specs.Histories.{frames_sent}
 use Rattle.sse_script.specs.Shown.{Cause, NoMemory, Resumed}
 use Rattle.sse_script.specs.Texts.{text_of}
@@ -38,7 +37,7 @@ use Rattle.def_script_meaning.specs.Stops.{At, SinkFault, status_of, stop_text}
 
 -- the frames of a history under this key
 abbrev pub frames_under : KeyedFn → (key : List ℕ) → History → List FrameText
-frames_under f key h = frames_sent f (keys_under key h) h
+frames_under f key h = frames_sent f key h
 
 -- a server that was sent the first frames of a run's updates, from a state on in which it expected a setup's first one, and that
 -- expects the update of this number next
@@ -46,12 +45,12 @@ pub record HasTaken (f : KeyedFn) (key : List ℕ) (run : Run) (next : ℕ) (sta
   pub start : ServerState
   pub expects : Expects 0 start
   pub within : next ≤ update_frames run
-  pub sent : state ≡ (steps f start (take next (frames_under f key (Some run)))).0
+  pub sent : state ≡ (steps f start (take next (frames_under f key (Some (From at_first run))))).0
   pub number : state.next ≡ next
 
 -- the frames of the run that a server lacks which expects this one
 abbrev pub lacking : KeyedFn → (key : List ℕ) → Run → (next : ℕ) → List FrameText
-lacking f key run next = drop next (frames_under f key (Some run))
+lacking f key run next = drop next (frames_under f key (Some (From at_first run)))
 
 -- The session.
 
@@ -61,7 +60,7 @@ abbrev pub IsShort : KeyedFn → List FrameText → (key : List ℕ) → Run →
 IsShort f frames key run old new cause =
     ((events : List Event) × Adds old new events × AreCut frames events cause)
     ⊎ ((new ≡ old) × (cause ≡ NoMemory))
-    ⊎ ((new ≡ old) × ((c : Collision) × (cause ≡ collision_cause c)) × (IsFree f (Some key) (Some run) → ⊥))
+    ⊎ ((new ≡ old) × ((c : Collision) × (cause ≡ collision_cause c)) × (IsFree f (Some key) (Some (From at_first run)) → ⊥))
 
 -- it ends there: nothing is printed, and no record is kept
 pub record StopsShort (f : KeyedFn) (frames : List FrameText) (key : List ℕ) (run : Run) (now : Outside) (end : Ended) : Type 0 where
@@ -71,7 +70,7 @@ pub record StopsShort (f : KeyedFn) (frames : List FrameText) (key : List ℕ) (
   pub unkept : end.outside.kept ≡ now.kept
   pub unprinted : end.outside.written ≡ now.written
   pub same_key : end.key ≡ Some key
-  pub history : end.history ≡ Some run
+  pub history : end.history ≡ Some (From at_first run)
 
 -- all of them were exchanged
 pub record HasSent (frames : List FrameText) (old new : Told) : Type 0 where
@@ -86,7 +85,7 @@ pub record StopsUntold (frames : List FrameText) (key : List ℕ) (run : Run) (n
   pub printed : TookFront now.written end.outside.written (text_of (Resumed (length frames)))
   pub unkept : end.outside.kept ≡ now.kept
   pub same_key : end.key ≡ Some key
-  pub history : end.history ≡ Some run
+  pub history : end.history ≡ Some (From at_first run)
 
 -- or the line is printed
 pub record HasCaughtUp (frames : List FrameText) (now next : Outside) : Type 0 where
@@ -105,7 +104,7 @@ CatchesUp f frames key run number lines now end =
 -- frames that it lacks
 abbrev pub Rejoins : KeyedFn → (low high : ℕ) → (key : List ℕ) → Run → (number : ℕ) → List (Option Line) → Outside → Ended → Type 0
 Rejoins f low high key run number lines now end =
-    IsTurnedAway low high key (Some run) now end
+    IsTurnedAway low high key (Some (From at_first run)) now end
     ⊎ ((greeted : Outside) × (g : IsGreeted low high now greeted) × CatchesUp f (lacking f key run g.greets.next) key run number lines greeted end)
 
 -- between these two moments lines of this meaning were carried out after a run of whose frames the server had those before this
@@ -118,7 +117,7 @@ pub record Rejoined (f : KeyedFn) (start : ServerState) (key : List ℕ) (run : 
   pub q : ℕ
   pub printed : last.written ≡ append_known now.written (text_of (Resumed (length (lacking f key run next))) ++ flat_map text_of (map said m.shown) ++ take q (stop_text m.end))
   pub more : List Command
-  pub history : m.history ≡ longer more (Some run)
+  pub history : m.history ≡ longer more (Some (From at_first run))
   pub events : List Event
   pub adds : Adds now.told last.told events
   pub passed : map bare events ≡ map as_event (greeting next ++ exchange (shown_behind run more) (drop next (frames_under f key m.history)))
@@ -133,16 +132,16 @@ pub record Rejoined (f : KeyedFn) (start : ServerState) (key : List ℕ) (run : 
 pub record IsRecordedBehind (f : KeyedFn) (key : List ℕ) (run : Run) (now : Outside) (end : Ended) : Type 0 where
   pub same_key : end.key ≡ Some key
   pub held : History
-  pub since : IsFirstOf (Some run) held
+  pub since : IsFirstOf (Some (From at_first run)) held
   pub first : IsFirstOf held end.history
   pub taken : List (List ℕ)
-  pub taken_are : records_in f key held ≡ records_in f key (Some run) ++ taken
+  pub taken_are : records_in f key held ≡ records_in f key (Some (From at_first run)) ++ taken
   pub all : List (List ℕ)
-  pub all_are : records_in f key end.history ≡ records_in f key (Some run) ++ all
+  pub all_are : records_in f key end.history ≡ records_in f key (Some (From at_first run)) ++ all
   pub kept : KeepsFirst all taken (status_of end.stop) now.kept end.outside.kept
   pub most : length all ≤ length taken + 1
   pub next : ℕ
-  pub within : next ≤ length (frames_under f key (Some run))
+  pub within : next ≤ length (frames_under f key (Some (From at_first run)))
   pub events : List Event
   pub adds : Adds now.told end.outside.told events
   pub replied : 1 < length (sent_in events) → map bare (take 2 events) ≡ map as_event (greeting next)
@@ -150,3 +149,5 @@ pub record IsRecordedBehind (f : KeyedFn) (key : List ℕ) (run : Run) (now : Ou
   pub sent : sent_in events ≡ map frame_bytes (take count (Hello ∷ drop next (frames_under f key held)))
   -- it lacks the command in hand only where values collided, the disk failed or memory was wanting
   pub whole : status_of end.stop ≢ 6 → status_of end.stop ≢ 7 → status_of end.stop ≢ 8 → held ≡ end.history
+  -- no line renews the key
+  pub one_epoch : IsOneEpoch end.history

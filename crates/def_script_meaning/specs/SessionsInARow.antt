@@ -3,7 +3,7 @@
 use Rattle.std.specs.Prelude.{◌≡◌, ℕ, List, [], ◌∷◌, ◌++◌, flat_map, Some}
 use Rattle.client_registry.specs.Command.{Command}
 use Rattle.client_registry.specs.Histories.{IsFirstOf, longer}
-use Rattle.client_registry.specs.Run.{History, Run}
+use Rattle.client_registry.specs.Run.{History, Run, From, at_first}
 use Rattle.keyed_fn.specs.KeyedFn.{KeyedFn}
 use Rattle.def_link_events.specs.Taken.{updates_among}
 use Rattle.sse_frames.specs.Exchange.{Passed, sent_among}
@@ -24,8 +24,8 @@ pub record Begins (f : KeyedFn) (key : List ℕ) (first : Run) (now last : Outsi
   pub history : History
   pub status : ℕ
   pub recorded : IsRecorded f (Some key) history status now last
-  pub least : IsFirstOf recorded.held (Some first)
-  pub most : IsFirstOf (Some first) history
+  pub least : IsFirstOf recorded.held (Some (From at_first first))
+  pub most : IsFirstOf (Some (From at_first first)) history
 
 -- a session that resumed: the commands that it left behind, the moment when it began, and its end
 pub record Session : Type 0 where
@@ -36,8 +36,8 @@ pub record Session : Type 0 where
 -- it resumed after these updates, and left those commands: all whose records were taken, and at most the one more whose record was refused
 pub record ResumesAfter (f : KeyedFn) (key : List ℕ) (updates : Run) (s : Session) : Type 0 where
   pub recorded : IsRecordedBehind f key updates s.now s.end
-  pub least : IsFirstOf recorded.held (longer s.commands (Some updates))
-  pub most : IsFirstOf (longer s.commands (Some updates)) s.end.history
+  pub least : IsFirstOf recorded.held (longer s.commands (Some (From at_first updates)))
+  pub most : IsFirstOf (longer s.commands (Some (From at_first updates))) s.end.history
 
 -- a run with the commands of a session after it
 abbrev pub with_session : Run → Session → Run
@@ -62,16 +62,16 @@ HaveParts f key earlier before [] [] = Unit {0}
 HaveParts f key earlier before [] (part ∷ parts) = ⊥
 HaveParts f key earlier before (s ∷ later) [] = ⊥
 HaveParts f key earlier before (s ∷ later) (part ∷ parts) =
-    (simulated_with f (Some key) (Some (with_session earlier s)) ≡ Some (before ++ part))
+    (simulated_with f (Some key) (Some (From at_first (with_session earlier s))) ≡ Some (before ++ part))
     × SendsFrom (updates_among (sent_among before)) (sent_among part) s.now.told s.end.outside.told
     × HaveParts f key (with_session earlier s) (before ++ part) later parts
 
 -- the simulator makes one list of the leakage of the whole history: what it makes of the first run, and then a part for each session. The first
 -- run sent the first frames of the one, and each session those of its part
 pub record AreSimulated (f : KeyedFn) (key : List ℕ) (first : Run) (now last : Outside) (sessions : List Session) : Type 0 where
-  pub begun : SendsSimulated f (Some key) (Some first) now.told last.told
+  pub begun : SendsSimulated f (Some key) (Some (From at_first first)) now.told last.told
   pub opening : List Passed
-  pub opened : simulated_with f (Some key) (Some first) ≡ Some opening
+  pub opened : simulated_with f (Some key) (Some (From at_first first)) ≡ Some opening
   pub parts : List (List Passed)
   pub each : HaveParts f key first opening sessions parts
-  pub made : simulated_with f (Some key) (Some (joined first sessions)) ≡ Some (opening ++ flat_map (λ part. part) parts)
+  pub made : simulated_with f (Some key) (Some (From at_first (joined first sessions))) ≡ Some (opening ++ flat_map (λ part. part) parts)

@@ -4,7 +4,7 @@ use Rattle.std.specs.Prelude.{◌≡◌, ◌<◌, ◌≤◌, ℕ, List, [], ◌�
 use Rattle.client_records.specs.Recorded.{without_searches}
 use Rattle.client_registry.specs.Command.{Command}
 use Rattle.client_registry.specs.Histories.{IsKept, longer}
-use Rattle.client_registry.specs.Run.{Run}
+use Rattle.client_registry.specs.Run.{Run, From, at_first}
 use Rattle.keyed_fn.specs.KeyedFn.{KeyedFn}
 use Rattle.def_link_events.specs.Events.{Event}
 use Rattle.def_link_events.specs.Taken.{updates_among}
@@ -18,14 +18,14 @@ use Rattle.def_script_meaning.specs.Session.{simulated_with}
 -- a run that keeps all limits and has these updates, whatever its searches: records tell of no search, so a session that resumes can't know
 -- which of these the earlier run was
 abbrev pub HasUpdates : (earlier updates : Run) → Type 0
-HasUpdates earlier updates = IsKept (Some earlier) × (without_searches (Some earlier) ≡ Some updates)
+HasUpdates earlier updates = IsKept (Some (From at_first earlier)) × (without_searches (Some (From at_first earlier)) ≡ Some (From at_first updates))
 
 -- the simulator makes this of an earlier run under this key, and of these commands after it
 pub record MakesAfter (f : KeyedFn) (key : List ℕ) (earlier : Run) (more : List Command) : Type 0 where
   pub before : List Passed
-  pub made_before : simulated_with f (Some key) (Some earlier) ≡ Some before
+  pub made_before : simulated_with f (Some key) (Some (From at_first earlier)) ≡ Some before
   pub own : List Passed
-  pub made : simulated_with f (Some key) (longer more (Some earlier)) ≡ Some (before ++ own)
+  pub made : simulated_with f (Some key) (longer more (Some (From at_first earlier))) ≡ Some (before ++ own)
 
 -- between these two moments a session sent the first of these frames: Hello, the updates from a number on, and then its own. More than Hello
 -- it sent only if the server had replied that it expects the update of this number
@@ -55,5 +55,5 @@ pub record IsSimulatedAfter (f : KeyedFn) (key : List ℕ) (earlier : Run) (more
 pub record ResumesSimulated (f : KeyedFn) (key : List ℕ) (updates : Run) (now : Outside) (end : Ended) : Type 0 where
   pub same_key : end.key ≡ Some key
   pub more : List Command
-  pub history : end.history ≡ longer more (Some updates)
+  pub history : end.history ≡ longer more (Some (From at_first updates))
   pub sends : (earlier : Run) → HasUpdates earlier updates → SendsSimulatedAfter f key earlier more now.told end.outside.told

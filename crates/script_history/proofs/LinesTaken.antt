@@ -22,7 +22,7 @@ use Rattle.def_script_meaning.specs.Refused.{index_refusal}
 use Rattle.client_registry.specs.Setup.{setup_with}
 use Rattle.sse_script.specs.declared.refusal.Refusal.{Refusal}
 use Rattle.sse_script.specs.declared.refusal.Refusal.TheVariants.{HistoryFull}
-use Rattle.script_history.specs.Numbered.{run_after, run_after_all}
+use Rattle.script_history.specs.Numbered.{one_epoch, run_after, run_after_all}
 use Rattle.script_history.specs.Reads.{is_full, number_refusal, numbered, read_outcome, refusal_in}
 use Rattle.script_history.specs.Stages.{IsAt, ComesTo, IsSetUp, collected_after, keys_at}
 use Rattle.script_history.specs.Turns.{hashed_at}
@@ -68,40 +68,40 @@ numbered-command h None commands shown = by (is_full (longer commands h))
 
 -- After the setup.
 
-module _ (place : Place) (run : Run) (e : place.history ≡ Some run) where
-  pub behind : (request : Request) → read_outcome place request ≡ numbered (Some run) (after_setup (Some run) request)
+module _ (place : Place) (run : Run) (e : place.history ≡ one_epoch run) where
+  pub behind : (request : Request) → read_outcome place request ≡ numbered (one_epoch run) (after_setup (one_epoch run) request)
   behind request = ap (λ h. numbered h (if is_set_up h then after_setup h request else before_setup place.documents request)) e
 
   -- a line that is refused
-  pub refused-behind : (request : Request) (refusal : Refusal) → after_setup (Some run) request ≡ Refuses refusal
-      → (Some refusal ≡ refusal_in (read_outcome place request)) × ((after (read_outcome place request) place).history ≡ Some run)
+  pub refused-behind : (request : Request) (refusal : Refusal) → after_setup (one_epoch run) request ≡ Refuses refusal
+      → (Some refusal ≡ refusal_in (read_outcome place request)) × ((after (read_outcome place request) place).history ≡ one_epoch run)
   refused-behind request refusal is =
-      let whole = behind request ∙ ap (numbered (Some run)) is in
-      subst (λ o. (Some refusal ≡ refusal_in o) × ((after o place).history ≡ Some run)) (sym whole) (refl, e)
+      let whole = behind request ∙ ap (numbered (one_epoch run)) is in
+      subst (λ o. (Some refusal ≡ refusal_in o) × ((after o place).history ≡ one_epoch run)) (sym whole) (refl, e)
 
   -- a command
-  pub command-behind : (request : Request) (r found : Option Refusal) (c : Meant) (shown : Printed) (next : Run) → after_setup (Some run) request ≡ unless r (Does (c ∷ []) shown)
-      → found ≡ option_or r (number_refusal (Some run) (c ∷ [])) → next ≡ run_after found run c
-      → (found ≡ refusal_in (read_outcome place request)) × ((after (read_outcome place request) place).history ≡ Some next)
+  pub command-behind : (request : Request) (r found : Option Refusal) (c : Meant) (shown : Printed) (next : Run) → after_setup (one_epoch run) request ≡ unless r (Does (c ∷ []) shown)
+      → found ≡ option_or r (number_refusal (one_epoch run) (c ∷ [])) → next ≡ run_after found run c
+      → (found ≡ refusal_in (read_outcome place request)) × ((after (read_outcome place request) place).history ≡ one_epoch next)
   command-behind request r found c shown next is same went =
-      let whole = behind request ∙ ap (numbered (Some run)) is ∙ numbered-command (Some run) r (c ∷ []) shown ∙ ap (λ q. unless q (Does (c ∷ []) shown)) (sym same) in
-      subst (λ o. (found ≡ refusal_in o) × ((after o place).history ≡ Some next)) (sym whole) (by found went)
+      let whole = behind request ∙ ap (numbered (one_epoch run)) is ∙ numbered-command (one_epoch run) r (c ∷ []) shown ∙ ap (λ q. unless q (Does (c ∷ []) shown)) (sym same) in
+      subst (λ o. (found ≡ refusal_in o) × ((after o place).history ≡ one_epoch next)) (sym whole) (by found went)
     where
-      by : (q : Option Refusal) → next ≡ run_after q run c → (q ≡ refusal_in (unless q (Does (c ∷ []) shown))) × ((after (unless q (Does (c ∷ []) shown)) place).history ≡ Some next)
-      by None went = (refl, ap (longer (c ∷ [])) e ∙ ap (λ r. Some r) (sym went))
-      by (Some refusal) went = (refl, e ∙ ap (λ r. Some r) (sym went))
+      by : (q : Option Refusal) → next ≡ run_after q run c → (q ≡ refusal_in (unless q (Does (c ∷ []) shown))) × ((after (unless q (Does (c ∷ []) shown)) place).history ≡ one_epoch next)
+      by None went = (refl, ap (longer (c ∷ [])) e ∙ ap one_epoch (sym went))
+      by (Some refusal) went = (refl, e ∙ ap one_epoch (sym went))
 
   -- several commands of one line
-  pub commands-behind : (request : Request) (r found : Option Refusal) (cs : List Meant) (shown : Printed) (next : Run) → after_setup (Some run) request ≡ unless r (Does cs shown)
-      → found ≡ option_or r (number_refusal (Some run) cs) → next ≡ run_after_all found run cs
-      → (found ≡ refusal_in (read_outcome place request)) × ((after (read_outcome place request) place).history ≡ Some next)
+  pub commands-behind : (request : Request) (r found : Option Refusal) (cs : List Meant) (shown : Printed) (next : Run) → after_setup (one_epoch run) request ≡ unless r (Does cs shown)
+      → found ≡ option_or r (number_refusal (one_epoch run) cs) → next ≡ run_after_all found run cs
+      → (found ≡ refusal_in (read_outcome place request)) × ((after (read_outcome place request) place).history ≡ one_epoch next)
   commands-behind request r found cs shown next is same went =
-      let whole = behind request ∙ ap (numbered (Some run)) is ∙ numbered-command (Some run) r cs shown ∙ ap (λ q. unless q (Does cs shown)) (sym same) in
-      subst (λ o. (found ≡ refusal_in o) × ((after o place).history ≡ Some next)) (sym whole) (by found went)
+      let whole = behind request ∙ ap (numbered (one_epoch run)) is ∙ numbered-command (one_epoch run) r cs shown ∙ ap (λ q. unless q (Does cs shown)) (sym same) in
+      subst (λ o. (found ≡ refusal_in o) × ((after o place).history ≡ one_epoch next)) (sym whole) (by found went)
     where
-      by : (q : Option Refusal) → next ≡ run_after_all q run cs → (q ≡ refusal_in (unless q (Does cs shown))) × ((after (unless q (Does cs shown)) place).history ≡ Some next)
-      by None went = (refl, ap (longer cs) e ∙ ap (λ r. Some r) (sym went))
-      by (Some refusal) went = (refl, e ∙ ap (λ r. Some r) (sym went))
+      by : (q : Option Refusal) → next ≡ run_after_all q run cs → (q ≡ refusal_in (unless q (Does cs shown))) × ((after (unless q (Does cs shown)) place).history ≡ one_epoch next)
+      by None went = (refl, ap (longer cs) e ∙ ap one_epoch (sym went))
+      by (Some refusal) went = (refl, e ∙ ap one_epoch (sym went))
 
 -- the fault of a query says why its line is refused, before anything else does
 pub query_says : (line : LineFault) (fault : QueryFault) (fields : List (List ℕ)) (other : Option Refusal) → fault_refusal line ≡ query_refused fault → (fault ≢ queries.NoMemory → query_refusal fields ≡ Some fault)
@@ -168,7 +168,7 @@ set_up-before place docs stage b big pad found same none is went =
     subst (λ o. ComesTo place o stage found) (sym whole) (by found stage went)
   where
     by : (q : Option Refusal) (s : Stage) → IsSetUp q docs (setup_with docs b big pad) s → ComesTo place (unless q (SetsUp (setup_with docs b big pad))) s q
-    by None (Built history) went = record { refusal = refl; stands = ap (λ r. Some r) (sym went) }
+    by None (Built history) went = record { refusal = refl; stands = ap one_epoch (sym went) }
     by None (Collecting collected) went = absurd went
     by (Some refusal) (Collecting collected) went = record { refusal = refl; stands = (went ∙ same, none) }
     by (Some refusal) (Built history) went = absurd went

@@ -3,7 +3,7 @@ use Rattle.std.specs.Prelude.{◌≡◌, ◌≤◌, List, ◌++◌, ◌∷◌, [
 use Rattle.std.specs.Option.{option_or}
 use Rattle.client_registry.specs.Command.{Command, Add, Delete, Search, is_update}
 use Rattle.client_registry.specs.Histories.{is_live_in}
-use Rattle.client_registry.specs.Run.{Run}
+use Rattle.client_registry.specs.Run.{Run, From, History, at_first}
 use Rattle.client_registry.specs.Sized.{IsSized, run_words, update_frames}
 use Rattle.leakage_history.specs.HashedRun.{run_of}
 use Rattle.leakage_history.specs.declared.fault.HistoryFault.{HistoryFault}
@@ -14,6 +14,10 @@ use Rattle.sse_script.specs.declared.refusal.Refusal.TheVariants.{AlreadyLive, U
 use Rattle.script_history.specs.Reads.{number_refusal}
 use Rattle.script_history.specs.declared.numbered_history.NumberedHistory.TheInside.{Inside}
 
+-- the history whose one epoch is this run
+abbrev pub one_epoch : Run → History
+one_epoch run = Some (From at_first run)
+
 -- the same run with one command more
 abbrev pub with_command : Run → Command → Run
 with_command run c = record { setup = run.setup; later = run.later ++ c ∷ [] }
@@ -21,13 +25,13 @@ with_command run c = record { setup = run.setup; later = run.later ++ c ∷ [] }
 -- a command isn't accepted, or its update frame has no number
 abbrev pub accept_refusal : Run → Command → Option Refusal
 accept_refusal run (Add d) =
-    if is_live_in (Some run) d.id then Some (AlreadyLive d.id) else option_or (counter_refusal (Some run) d) (frame_refusal (Some run))
-accept_refusal run (Delete id) = if not (is_live_in (Some run) id) then Some (UnknownDocument id) else frame_refusal (Some run)
+    if is_live_in (one_epoch run) d.id then Some (AlreadyLive d.id) else option_or (counter_refusal (one_epoch run) d) (frame_refusal (one_epoch run))
+accept_refusal run (Delete id) = if not (is_live_in (one_epoch run) id) then Some (UnknownDocument id) else frame_refusal (one_epoch run)
 accept_refusal run (Search word) = None
 
 -- or the history with it can't be numbered
 abbrev pub command_refusal : Run → Command → Option Refusal
-command_refusal run c = option_or (accept_refusal run c) (number_refusal (Some run) (c ∷ []))
+command_refusal run c = option_or (accept_refusal run c) (number_refusal (one_epoch run) (c ∷ []))
 
 -- the run after a command that was refused or taken
 abbrev pub run_after : Option Refusal → Run → Command → Run
@@ -48,7 +52,7 @@ fault_refusal faults.NoMemory = None
 
 -- what an update is refused for, where no fault of the history stands
 abbrev pub update_refusal : Run → Command → Option Refusal
-update_refusal run c = if is_update c then frame_refusal (Some run) else None
+update_refusal run c = if is_update c then frame_refusal (one_epoch run) else None
 
 -- what is so of a history that is numbered: it keeps all limits, its update frames are counted, and it has no more different
 -- words than are named

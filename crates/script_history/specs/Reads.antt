@@ -1,10 +1,12 @@
 -- A reading over the lines that are left of a script, from any place: the history grows, and only refusals are printed.
-use Rattle.std.specs.Prelude.{◌≡◌, ◌⊎◌, ℕ, ◌+◌, ◌-◌, ◌^◌, Bool, false, ◌||◌, nat_lt, List, [], ◌∷◌, length, Option, None, Some, IfSome, if◌then◌else◌}
+use Rattle.std.specs.Prelude.{◌≡◌, ◌⊎◌, ℕ, ◌+◌, ◌-◌, ◌^◌, ◌<◌, Bool, false, ◌||◌, nat_lt, List, [], ◌∷◌, ◌++◌, flat_map, length, Option, None, Some, IfSome, if◌then◌else◌}
 use Rattle.std.specs.Io.KnownBytes.{append_known}
 use Rattle.client_registry.specs.Command.{Command as Meant}
-use Rattle.client_registry.specs.Histories.{longer}
+use Rattle.client_registry.specs.Documents.{all_words, first_seen}
+use Rattle.client_registry.specs.Epochs.{joined}
+use Rattle.client_registry.specs.Histories.{IsKept, commands_in, longer}
 use Rattle.client_registry.specs.Run.{History}
-use Rattle.client_registry.specs.Sized.{run_words}
+use Rattle.client_registry.specs.Sized.{words_named}
 use Rattle.def_script_meaning.specs.Lines.{Line, Request, Empty, Key, Command, lines_in}
 use Rattle.def_script_meaning.specs.Outcome.{Place, Outcome, Collects, Refuses, SetsUp, Does, opened, outcome, after, is_refusal}
 use Rattle.sse_outside.specs.Fronts.{TookFront}
@@ -19,10 +21,21 @@ pub data ReadEnd : Type 0 where
   Whole : (key : List ℕ) (history : History) (refused : Bool) (next : ℕ) → ReadEnd
   Stopped : Option Cause → ReadEnd
 
--- the commands, the setup among them, or the words can't be numbered in 32 bits
+-- the different words of a history by first appearance, over all of its epochs
+abbrev pub words_in : History → List (List ℕ)
+words_in None = []
+words_in (Some es) = first_seen (joined (λ key o run. all_words run.setup.documents ++ flat_map words_named run.later) [] es)
+
+-- the commands, the setup and each renewal among them, or the words can't be numbered in 32 bits
 abbrev pub is_full : History → Bool
 is_full None = false
-is_full (Some run) = nat_lt (2 ^ 32 - 1) (length run.later + 1) || nat_lt (2 ^ 32 - 1) (length (run_words run))
+is_full (Some es) = nat_lt (2 ^ 32 - 1) (commands_in (Some es) + 1) || nat_lt (2 ^ 32 - 1) (length (words_in (Some es)))
+
+-- a history that keeps its rules, whose commands, update frames and words can each be numbered in 32 bits
+pub record IsCountable (h : History) : Type 0 where
+  pub kept : IsKept h
+  pub commands : commands_in h + 1 < 2 ^ 32
+  pub words : length (words_in h) < 2 ^ 32
 
 -- these commands after a history are refused for that
 abbrev pub number_refusal : History → List Meant → Option Refusal

@@ -2,7 +2,7 @@
 use Rattle.std.specs.Prelude.{◌≡◌, ◌⊎◌, ℕ, ◌+◌, ◌<◌, Bool, true, false, ◌||◌, List, Option, None, Some, Result, Ok, Err, option_map}
 use Rattle.std.specs.Io.KnownBytes.{append_known}
 use Rattle.client_registry.specs.Run.{History}
-use Rattle.leakage_history.specs.HashedRun.{HashedRun, run_of}
+use Rattle.leakage_history.specs.HashedRun.{HashedRun, epochs_of}
 use Rattle.script_run_texts.specs.Causes.{SourceCause}
 use Rattle.script_run_texts.specs.Stops.{stop_cause}
 use Rattle.script_run_texts.specs.declared.stop_cause.StopCause.{StopCause}
@@ -50,7 +50,7 @@ hashed_at (Built history) = Some history
 
 -- the same without the numbers under which it hashes
 abbrev pub history_at : Stage → History
-history_at stage = option_map run_of (hashed_at stage)
+history_at stage = option_map epochs_of (hashed_at stage)
 
 -- how the reading of these lines ended, under this key, where one more line would have this number
 abbrev pub end_at : (key : List ℕ) (next : ℕ) → Result Last StopCause → ReadEnd
@@ -108,10 +108,10 @@ PartsOn (End last) old new remaining = EndsPart last.at_twin old new remaining (
 
 -- how the reading of a script ended
 abbrev pub reading_end : Result ReadScript StopCause → ReadEnd
-reading_end (Ok read) = Whole read.key (option_map run_of read.history) read.refused read.next
+reading_end (Ok read) = Whole read.key (option_map epochs_of read.history) read.refused read.next
 reading_end (Err stop) = Stopped (stop_cause stop)
 
 -- and how that of the first of two did
 abbrev pub first_end : Result FirstScript StopCause → ReadEnd
-first_end (Ok first) = Whole first.script.key (option_map run_of first.script.history) first.script.refused first.script.next
+first_end (Ok first) = Whole first.script.key (option_map epochs_of first.script.history) first.script.refused first.script.next
 first_end (Err stop) = Stopped (stop_cause stop)

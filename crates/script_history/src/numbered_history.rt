@@ -7,7 +7,7 @@ ghost use Rattle.client_registry.specs.HashNumbers.{hash_numbers};
 ghost use Rattle.client_registry.specs.WordBytes.{word_bytes};
 ghost use Rattle.client_registry.specs.Sized.{IsSized, IsSizedCommand, words_named};
 ghost use Rattle.leakage_history.specs.Commands.{command_of};
-ghost use Rattle.leakage_history.specs.HashedRun.{run_of};
+ghost use Rattle.leakage_history.specs.HashedRun.{epochs_of, run_of};
 ghost use Rattle.leakage_history.specs.Refusal.{push_refusal};
 ghost use Rattle.script_history.specs.Numbered.{fault_refusal, with_command};
 ghost use Rattle.script_history.specs.Reads.{number_refusal};
@@ -97,7 +97,7 @@ impl NumberedHistory {
     /// Error: out of memory; some of the searches may be taken then.
     pub fn push_searches(&mut self, words: &[Word]) -> Result<Option<Refusal>, AllocError>
         requires some { words.now ≢ [] }
-        ensures found { IfOk result (λ found. found ≡ number_refusal (Some (run_of self.old)) (map (λ word. Search word) (map word_bytes words.now))) }
+        ensures found { IfOk result (λ found. found ≡ number_refusal (Some (epochs_of self.old)) (map (λ word. Search word) (map word_bytes words.now))) }
         ensures after { IfOk result (λ found. run_of self.new ≡ run_after_all found (run_of self.old) (map (λ word. Search word) (map word_bytes words.now))) }
         ensures keys { self.new.keys ≡ self.old.keys }
     {
@@ -116,7 +116,7 @@ impl NumberedHistory {
         requires valid { IsSizedCommand (command_of command) }
         requires few { length self.old.later + 2 < 2 ^ 32 }
         ensures taken { OnOk result (run_of self.new ≡ with_command (run_of self.old) (command_of command)) }
-        ensures numbered { OnOk result (number_refusal (Some (run_of self.old)) (command_of command ∷ []) ≡ None) }
+        ensures numbered { OnOk result (number_refusal (Some (epochs_of self.old)) (command_of command ∷ []) ≡ None) }
         ensures keys { self.new.keys ≡ self.old.keys }
     {
         // So many words aren't counted: which of them are different takes a table of 2^32 words.

@@ -13,7 +13,7 @@ ghost use Rattle.client_registry.specs.Acceptance.{size_refusal};
 ghost use Rattle.client_registry.specs.Command.{Add, Delete, Search};
 ghost use Rattle.client_registry.specs.HashNumbers.{hash_numbers};
 ghost use Rattle.client_registry.specs.Setup.{setup_with};
-ghost use Rattle.leakage_history.specs.HashedRun.{run_of};
+ghost use Rattle.leakage_history.specs.HashedRun.{epochs_of, run_of};
 ghost use Rattle.bool_search.specs.Fields.{words_of};
 ghost use Rattle.script_history.specs.Numbered.{run_after, run_after_all};
 ghost use Rattle.script_history.specs.Stages.{IsSetUp, MayStop, Takes, TakesAfter, collected_after, keys_at, read_add_refusal, read_delete_refusal, read_find_refusal, read_query_refusal};
@@ -174,7 +174,7 @@ fn add(
 fn delete(history: &mut NumberedHistory, id: u64) -> Result<Option<Refusal>, AllocError>
     ensures found { IfOk result (λ found. found ≡ read_delete_refusal (run_of history.old) id) }
     ensures after { IfOk result (λ found. run_of history.new ≡ run_after found (run_of history.old) (Delete id)) }
-    ensures may_stop { OnErr result (delete_refusal (Some (run_of history.old)) id ≡ None) }
+    ensures may_stop { OnErr result (delete_refusal (Some (epochs_of history.old)) id ≡ None) }
     ensures keys { history.new.keys ≡ history.old.keys }
 {
     match DocId::new(id) {

@@ -1,7 +1,7 @@
 -- How a session takes a command: what it comes to where the session stands, and that this is done.
 use Rattle.std.proofs.Common.{◌≡◌, ◌⊎◌, inl, inr, ℕ, true, false, List, [], ◌∷◌, ◌++◌, length, refl, sym, ap, subst, ◌∙◌}
 use Rattle.std.specs.Prelude.{Option, None, Some, Result, Ok, Err, IfOk, IfErr, option_map, if◌then◌else◌}
-use Rattle.client_core.specs.StandsFor.{with_command}
+use Rattle.client_core.specs.StandsFor.{StandsFor, with_command}
 use Rattle.client_core.specs.declared.client.Client.{Client}
 use Rattle.client_core.specs.declared.ready.Ready.{Ready}
 use Rattle.client_records.specs.Records.{setup_record}
@@ -11,7 +11,7 @@ use Rattle.client_registry.specs.Document.{Document}
 use Rattle.client_registry.specs.Documents.{words_of}
 use Rattle.client_registry.specs.Histories.{is_set_up, longer}
 use Rattle.client_registry.specs.Live.{matching_in}
-use Rattle.client_registry.specs.Run.{History, Run, at_first}
+use Rattle.client_registry.specs.Run.{Run, at_first, From}
 use Rattle.client_registry.specs.Setup.{Setup, setup_with}
 use Rattle.index_setup.proofs.BuildErrors.{size_accepted}
 use Rattle.index_setup.specs.Entries.{key_table, label_clash, place_clash}
@@ -20,7 +20,8 @@ use Rattle.index_setup.specs.declared.fault.BuildFault.{BuildFault}
 use Rattle.keyed_fn.specs.KeyFormulas.{mark_of, token_of}
 use Rattle.keyed_fn.specs.KeyedFn.{KeyedFn}
 use Rattle.sse_frames.specs.Frames.{FrameText, SearchFrame}
-use Rattle.sse_model.specs.Histories.{frames_of_next, collision_of_next}
+use Rattle.sse_model.proofs.HistoryLaws.{frames_of_next-search, collision_of_next-search}
+use Rattle.sse_model.specs.Epochs.{key_in, keys_under}
 use Rattle.sse_model.specs.Names.{table}
 use Rattle.sse_model.specs.Wire.{frames_of_setup}
 use Rattle.sse_script.specs.Shown as says
@@ -55,7 +56,7 @@ use Rattle.sse_outside.specs.declared.device_fault.DeviceFault.{DeviceFault}
 use Rattle.sse_outside.specs.declared.device_fault.DeviceFault.TheVariants as devices
 use Rattle.sse_client.specs.declared.session.Stage.{Stage}
 use Rattle.sse_client.specs.declared.session.Stage.TheVariants.{Collecting, Searching}
-use Rattle.sse_client.proofs.PlansOfUpdates.{StandsFor-search}
+use Rattle.sse_client.proofs.PlansOfUpdates.{StandsFor-longer, StandsFor-search}
 use Rattle.sse_client.proofs.DocumentCollected.{IsAnswer, IsAdded, inside}
 use Rattle.sse_client.proofs.SetupPlan.{clash_cause, no_clash-planned, IsRefusedPlan, refused_size, stopped_plan}
 
@@ -118,15 +119,6 @@ takes-doc f now id texts docs new next came (Err faults.NoMemory) place none sam
 
 -- A search.
 
--- one word is searched for with one frame, in which no values are compared
-frames-search : (f : KeyedFn) (key word : List ℕ) (h : History) → is_set_up h ≡ true → frames_of_next f (λ epoch. key) h (Search word ∷ []) ≡ SearchFrame (token_of f key word) ∷ []
-frames-search f key word None up = absurd (cc)
-frames-search f key word (Some run) up = refl
-
-no_clash-search : (f : KeyedFn) (key word : List ℕ) (h : History) → collision_of_next f (λ epoch. key) h (Search word ∷ []) ≡ None
-no_clash-search f key word None = refl
-no_clash-search f key word (Some run) = refl
-
 module _ (f : KeyedFn) (place : Place) (word : List ℕ) where
   abbrev searching : Outcome
   searching = Does (Search word ∷ []) (Finds (matching_in place.history word))
@@ -134,14 +126,15 @@ module _ (f : KeyedFn) (place : Place) (word : List ℕ) where
   comes-find : (r : Option Refusal) → is_set_up place.history ≡ true → bad_word 0 (word ∷ []) ≡ r → outcome place (Find word) ≡ unless r searching
   comes-find r up e = behind place (Find word) up ∙ ap (λ r. unless r searching) e
 
-  token_at : (key : List ℕ) → key ≡ place.key → is_set_up place.history ≡ true → SearchFrame (token_of f key word) ∷ [] ≡ frames_by f place searching
-  token_at key same up = ap (λ k. SearchFrame (token_of f k word) ∷ []) same ∙ sym (frames-search f place.key word place.history up)
+  -- one word is searched for with one frame, under the key of the last epoch
+  token_at : (key : List ℕ) → key ≡ key_in place.key place.history → is_set_up place.history ≡ true → SearchFrame (token_of f key word) ∷ [] ≡ frames_by f place searching
+  token_at key same up = ap (λ k. SearchFrame (token_of f k word) ∷ []) same ∙ sym (frames_of_next-search f place.key place.history word up)
 
   no_clash : clash_in_hand f place searching ≡ None
-  no_clash = ap (option_map collision_cause) (no_clash-search f place.key word place.history)
+  no_clash = ap (option_map collision_cause) (collision_of_next-search f place.key place.history word)
 
   module _ (old new : Told) (kept : Kept) (up : is_set_up place.history ≡ true) where
-    pub takes-find : (next : Stage) (came : LineResult) (key ids : List ℕ) → key ≡ place.key → bad_word 0 (word ∷ []) ≡ None → HasSearched old new (SearchFrame (token_of f key word)) ids
+    pub takes-find : (next : Stage) (came : LineResult) (key ids : List ℕ) → key ≡ key_in place.key place.history → bad_word 0 (word ∷ []) ≡ None → HasSearched old new (SearchFrame (token_of f key word)) ids
         → line_result_view came ≡ says.Found ids ∷ [] → refuses came ≡ false → IsAt f next (after searching place) → GoesOn f (seen old kept) (seen new kept) next came place (outcome place (Find word))
     takes-find next came key ids same good s view fine at =
         subst (GoesOn f (seen old kept) (seen new kept) next came place) (sym (comes-find None up good))
@@ -159,7 +152,7 @@ module _ (f : KeyedFn) (place : Place) (word : List ℕ) where
           stands = at;
         })
 
-    pub stops-find : (key : List ℕ) (c : says.Cause) → key ≡ place.key → bad_word 0 (word ∷ []) ≡ None → HasCut old new (SearchFrame (token_of f key word) ∷ []) c
+    pub stops-find : (key : List ℕ) (c : says.Cause) → key ≡ key_in place.key place.history → bad_word 0 (word ∷ []) ≡ None → HasCut old new (SearchFrame (token_of f key word) ∷ []) c
         → (written : Option (List ℕ)) → StopsIn f place (outcome place (Find word)) (outside_of (seen old kept) written) (outside_of (seen new kept) written) (At c)
     stops-find key c same good cut written =
         subst (λ result. StopsIn f place result (outside_of (seen old kept) written) (outside_of (seen new kept) written) (At c)) (sym (comes-find None up good))
@@ -210,11 +203,20 @@ stops_if_memory f now stage request = λ place a written. stops-memory f now pla
 pub is_up : (f : KeyedFn) (client : Client Ready) (place : Place) → IsAt f (Searching client) place → is_set_up place.history ≡ true
 is_up f client place at = ap is_set_up at.stands.1
 
+-- and has the key of the last epoch
+pub key_at : (f : KeyedFn) (client : Client Ready) (place : Place) → IsAt f (Searching client) place → client.key ≡ key_in place.key place.history
+key_at f client place at = at.key ∙ sym (ap (key_in place.key) at.stands.1)
+
 -- after a search the session stands for the history with it
 pub searching_still : (f : KeyedFn) (client : Client Ready) (place : Place) (word : List ℕ) → bad_word 0 (word ∷ []) ≡ None → IsAt f (Searching client) place → IsAt f (Searching client) (after (searching f place word) place)
 searching_still f client place word good at = record {
   key = at.key;
-  stands = (with_command at.stands.0 (Search word), ap (longer (Search word ∷ [])) at.stands.1, StandsFor-search f (keys_at place) at.stands.0 word client.state (word_passed 0 word (neither _ None good).0) at.stands.2);
+  stands = (
+    with_command at.stands.0 (Search word),
+    ap (longer (Search word ∷ [])) at.stands.1,
+    StandsFor-longer f place.key place.history (Search word ∷ []) (with_command at.stands.0 (Search word)) client.state
+        (StandsFor-search f (keys_at place) at.stands.0 word client.state (word_passed 0 word (neither _ None good).0) at.stands.2),
+  );
   hashed = at.hashed;
 }
 
@@ -256,9 +258,9 @@ stops-kept T f place result old new written frames payload same spelled no_clash
 -- A setup.
 
 -- a session that is set up stands where its history is this run
-at_ready : (f : KeyedFn) (run : Run) (stage : Stage) (place : Place) → place.history ≡ Some run → IsReady f place.key run stage → IsStage f stage place
+at_ready : (f : KeyedFn) (run : Run) (stage : Stage) (place : Place) → place.history ≡ Some (From at_first run) → IsReady f place.key run stage → IsStage f stage place
 at_ready f run (Collecting client docs) place is ready = absurd ready
-at_ready f run (Searching client) place is ready = (run, is, ready)
+at_ready f run (Searching client) place is ready = (run, is, subst (λ h. StandsFor f (keys_under place.key h) at_first run client.state) (sym is) ready)
 
 module _ (f : KeyedFn) (key : List ℕ) (docs : List Document) (b big pad : ℕ) where
   abbrev s : Setup

@@ -13,6 +13,7 @@ use Rattle.script_run_texts.specs.Stops.{journal_status}
 use Rattle.script_run_texts.specs.declared.journal_stop.JournalStop.{JournalStop}
 use Rattle.script_run_texts.specs.declared.journal_stop.JournalStop.TheVariants as journals
 use Rattle.def_script_meaning.proofs.FollowedPlaces.{follow-key}
+use Rattle.def_script_meaning.proofs.OneEpoch.{meaning_is_whole}
 use Rattle.def_script_meaning.proofs.Stepped.{AreSent-append, AreStepped-append, AreKnown-behind, AreTaken, frames_taken-append, rejoined_taken, session_taken, stepped_state}
 use Rattle.def_script_meaning.proofs.Within.{meaning_is_kept}
 use Rattle.def_script_meaning.specs.Carries.{Keeps, Outside}
@@ -150,7 +151,7 @@ module _ (f : KeyedFn) (laws : IsKeyedFn f) (old new : LinkState) (remains : rem
                 ∙ ap (λ records. file (records ++ records_with f (meaning bytes).key (meaning bytes).history)) (gives_records [] own none);
             stored =
                 stored_updates adds (frames_of f (meaning bytes))
-                (session_taken f (idle old.state) adds.events (known_added adds) (idle new.state) (served_added adds) laws (meaning bytes).key (meaning bytes).history (meaning_is_kept bytes).0 free expects
+                (session_taken f (idle old.state) adds.events (known_added adds) (idle new.state) (served_added adds) laws (meaning bytes).key (meaning bytes).history (meaning_is_whole bytes) (meaning_is_kept bytes).0 free expects
                 (ap (map bare) (sym (one_list adds did.events did.adds)) ∙ did.session));
           }
 

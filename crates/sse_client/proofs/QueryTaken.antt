@@ -15,6 +15,7 @@ use Rattle.client_registry.specs.Histories.{is_set_up, longer}
 use Rattle.client_registry.specs.Live.{in_order, matching_in}
 use Rattle.client_registry.specs.Run.{History, Run, at_first}
 use Rattle.keyed_fn.specs.KeyedFn.{KeyedFn}
+use Rattle.sse_model.specs.Epochs.{key_in}
 use Rattle.sse_model.specs.Histories.{frames_of_next}
 use Rattle.sse_script.specs.Shown as says
 use Rattle.sse_script.specs.declared.refusal.Refusal.{Refusal}
@@ -30,17 +31,17 @@ use Rattle.sse_outside.specs.Kept.{Kept}
 use Rattle.script_run_texts.specs.LineResultViews.{line_result_view, refuses}
 use Rattle.script_run_texts.specs.declared.line_result.LineResult.{LineResult}
 use Rattle.sse_client.proofs.CommandTaken.{behind, goes-refused, stops-memory}
-use Rattle.sse_client.proofs.PlansOfUpdates.{StandsFor-search}
+use Rattle.sse_client.proofs.PlansOfUpdates.{StandsFor-longer, StandsFor-search}
 use Rattle.sse_client.specs.Exchanges.{search_frames}
 use Rattle.sse_client.specs.Queried.{QueriedFor, HasQueried, StopsQuery}
 use Rattle.sse_client.specs.Stands.{IsAt, seen, GoesOn, outside_of}
 use Rattle.sse_client.specs.declared.session.Stage.{Stage}
 use Rattle.sse_client.specs.declared.session.Stage.TheVariants.{Searching}
 
--- several words are searched for with one frame each, in order
-frames-query : (f : KeyedFn) (key : List ℕ) (h : History) (words : List (List ℕ)) → is_set_up h ≡ true → frames_of_next f (λ epoch. key) h (searching words) ≡ search_frames f key words
+-- several words are searched for with one frame each, in order, under the key of the last epoch
+frames-query : (f : KeyedFn) (key : List ℕ) (h : History) (words : List (List ℕ)) → is_set_up h ≡ true → frames_of_next f key h (searching words) ≡ search_frames f (key_in key h) words
 frames-query f key None words up = absurd (cc)
-frames-query f key (Some run) words up = frames-searches f (λ epoch. key) run words
+frames-query f key (Some es) words up = frames-searches f key es words
 
 module _ (f : KeyedFn) (place : Place) (fields : List (List ℕ)) where
   abbrev querying : Outcome
@@ -49,16 +50,16 @@ module _ (f : KeyedFn) (place : Place) (fields : List (List ℕ)) where
   comes-query : (r : Option Refusal) → is_set_up place.history ≡ true → fields_refusal fields ≡ r → outcome place (Query fields) ≡ unless r querying
   comes-query r up e = behind place (Query fields) up ∙ ap (λ r. unless r querying) e
 
-  frames_at : (key : List ℕ) → key ≡ place.key → is_set_up place.history ≡ true → search_frames f key (words_of fields) ≡ frames_by f place querying
+  frames_at : (key : List ℕ) → key ≡ key_in place.key place.history → is_set_up place.history ≡ true → search_frames f key (words_of fields) ≡ frames_by f place querying
   frames_at key same up = ap (λ k. search_frames f k (words_of fields)) same ∙ sym (frames-query f place.key place.history (words_of fields) up)
 
   no_clash : clash_in_hand f place querying ≡ None
-  no_clash = ap (option_map collision_cause) (collision-searches f (keys_at place) place.history (words_of fields))
+  no_clash = ap (option_map collision_cause) (collision-searches f place.key place.history (words_of fields))
 
   keeps_none : (kept : Kept) → Keeps kept kept (records_by f place querying)
   keeps_none kept = subst (λ updates. Keeps kept kept (map update_record updates)) (sym (no_updates (words_of fields))) (Keeps-nothing kept)
 
-  module _ (old new : Told) (kept : Kept) (up : is_set_up place.history ≡ true) (key : List ℕ) (same : key ≡ place.key) where
+  module _ (old new : Told) (kept : Kept) (up : is_set_up place.history ≡ true) (key : List ℕ) (same : key ≡ key_in place.key place.history) where
     pub takes-query : (next : Stage) (came : LineResult) → HasQueried f key fields old new came → IsAt f next place → (fields_refusal fields ≡ None → IsAt f next (after querying place))
         → GoesOn f (seen old kept) (seen new kept) next came place (outcome place (Query fields))
     takes-query next came queried at still = by (fields_refusal fields) refl queried
@@ -120,7 +121,8 @@ querying_still f client place fields good at = record {
   stands = (
     record at.stands.0 { later = at.stands.0.later ++ searching (words_of fields) },
     ap (longer (searching (words_of fields))) at.stands.1,
-    StandsFor-searches f (keys_at place) at.stands.0 (words_of fields) client.state (words_are_words fields good) at.stands.2,
+    StandsFor-longer f place.key place.history (searching (words_of fields)) (record at.stands.0 { later = at.stands.0.later ++ searching (words_of fields) }) client.state
+        (StandsFor-searches f (keys_at place) at.stands.0 (words_of fields) client.state (words_are_words fields good) at.stands.2),
   );
   hashed = at.hashed;
 }

@@ -13,7 +13,7 @@ use Rattle.client_core.specs.States.{BehindState, ClientOf}
 use Rattle.client_core.specs.declared.resume_fault.ResumeFault.{ResumeFault}
 use Rattle.client_core.specs.declared.resume_fault.ResumeFault.TheVariants.{LabelClash, NoMemory, NumberClash, PeerElsewhere, PlaceClash}
 use Rattle.client_rebuild.specs.declared.last.Last.{Last}
-use Rattle.client_registry.specs.Run.{Run, at_first}
+use Rattle.client_registry.specs.Run.{From, Run, at_first}
 use Rattle.client_registry.specs.Sized.{update_frames}
 use Rattle.keyed_fn.specs.KeyedFn.{KeyedFn}
 use Rattle.script_run_texts.specs.Causes.{CommandCause, KeepCommandCause, PrintCause}
@@ -154,7 +154,7 @@ module _ (f : KeyedFn) (key : List ℕ) (run : Run) (number : ℕ) (left : Optio
   -- a run that stops before the server has all frames
   pub resumes-held : (new : Told) (cause : says.Cause) → StopsResending f key run told new cause → ResumesTo f key run number left start (outside_of (seen new kept) written) (ends.At cause)
   resumes-held new cause why = (
-    Some run,
+    Some (From at_first run),
     for_all left _ (λ texts. inl (record { cause = cause; stops = refl; why = why; unkept = refl; unprinted = refl; same_key = refl; history = refl })),
   )
 
@@ -162,7 +162,7 @@ module _ (f : KeyedFn) (key : List ℕ) (run : Run) (number : ℕ) (left : Optio
     -- before the line that says so is printed whole
     pub resumes-untold : (written' : Option (List ℕ)) (fault : DeviceFault) → TookFront written written' (text_of (says.Resumed frames)) → ResumesTo f key run number left start (outside_of (seen new kept) written') (stop_view (stop_of_sink fault))
     resumes-untold written' fault front = (
-      Some run,
+      Some (From at_first run),
       for_all left _ (λ texts. inr (inl (record { frames = frames; resent = resent; stops = sink_stop fault; printed = front; unkept = refl; same_key = refl; history = refl }))),
     )
 

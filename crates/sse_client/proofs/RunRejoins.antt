@@ -1,6 +1,6 @@
 -- A run that goes on from records: with the frames of the last command it sends all that the server lacks of the history, so that it
 -- is a session that goes on after it; and which stop its script and its records alone make.
-use Rattle.std.proofs.Common.{◌≡◌, ◌+◌, ◌-◌, ◌≤◌, ℕ, false, inl, inr, List, [], ◌∷◌, ◌++◌, drop, filter, length, map, take, Option, None, Some, refl, sym, ap, ◌∙◌, subst, arith, append_assoc, length-append}
+use Rattle.std.proofs.Common.{◌≡◌, ◌+◌, ◌-◌, ◌<◌, ◌≤◌, ◌^◌, ℕ, false, inl, inr, List, [], ◌∷◌, ◌++◌, drop, filter, length, map, take, Option, None, Some, refl, sym, ap, ◌∙◌, subst, arith, append_assoc, length-append}
 use Rattle.std.specs.Prelude.{◌⊎◌, IfSome, flat_map, option_map, slice_index_or}
 use Rattle.std.specs.Io.KnownBytes.{append_known}
 use Rattle.std.specs.List.{AllByRecursion}
@@ -21,7 +21,7 @@ use Rattle.client_registry.specs.Command.{Command, Add, Delete, Search, is_updat
 use Rattle.client_registry.specs.Histories.{IsKept, empty}
 use Rattle.sse_outside.specs.Kept.{Kept}
 use Rattle.client_registry.specs.Over.{over}
-use Rattle.client_registry.specs.Run.{Run, at_first}
+use Rattle.client_registry.specs.Run.{Run, at_first, From}
 use Rattle.client_registry.specs.Sized.{update_frames}
 use Rattle.keyed_fn.specs.KeyFormulas.{mark_of}
 use Rattle.keyed_fn.specs.KeyedFn.{KeyedFn, IsKeyedFn}
@@ -97,7 +97,7 @@ last_joined first (next ∷ lists) =
 
 module _ (f : KeyedFn) (key : List ℕ) (run : Run) (updates : filter is_update run.later ≡ run.later) where
   abbrev keys : ℕ → List ℕ
-  keys = keys_under key (Some run)
+  keys = keys_under key (Some (From at_first run))
 
   abbrev own : List FrameText
   own = last_frames f keys at_first run
@@ -106,7 +106,7 @@ module _ (f : KeyedFn) (key : List ℕ) (run : Run) (updates : filter is_update 
   lists = over (frames_by (table_of f keys run) at_first run.setup) [] run.later
 
   -- all of the history are those before the last command, and its own
-  parts : (front : List FrameText) × (frames_under f key (Some run) ≡ front ++ own)
+  parts : (front : List FrameText) × (frames_under f key (Some (From at_first run)) ≡ front ++ own)
   parts =
       let all = last_joined (frames_of_setup (table_of f keys run) at_first run.setup) lists in
       (all.0, all.1 ∙ ap (λ n. all.0 ++ slice_index_or (wire (table_of f keys run) at_first run) n []) (length-over (frames_by (table_of f keys run) at_first run.setup) [] run.later))
@@ -122,14 +122,14 @@ module _ (f : KeyedFn) (key : List ℕ) (run : Run) (updates : filter is_update 
 
   -- as many as its number tells
   pub length-lacking : (next left : ℕ) → next + left ≡ update_frames run → length (lacking f key run next) ≡ left
-  length-lacking next left is = omega (arith, length-drop next (frames_under f key (Some run)), length-frames_under f key run updates, is)
+  length-lacking next left is = omega (arith, length-drop next (frames_under f key (Some (From at_first run))), length-frames_under f key run updates, is)
 
 -- those of the last command are as many as a setup has, or one
-pub length-last_frames : (f : KeyedFn) (key : List ℕ) (run : Run) → length (last_frames f (keys_under key (Some run)) at_first run) ≡ frames_in_hand (Some run)
+pub length-last_frames : (f : KeyedFn) (key : List ℕ) (run : Run) → length (last_frames f (keys_under key (Some (From at_first run))) at_first run) ≡ frames_in_hand (Some (From at_first run))
 length-last_frames f key run = from_end (λ cs. length (last_frames f keys at_first (with_later cs)) ≡ frames_of_last run.setup cs) (length-frames_of_setup (table_of f keys run) at_first run.setup) push run.later
   where
     keys : ℕ → List ℕ
-    keys = keys_under key (Some run)
+    keys = keys_under key (Some (From at_first run))
 
     with_later : List Command → Run
     with_later cs = record { setup = run.setup; later = cs }
@@ -153,28 +153,28 @@ only_one None e = refl
 only_one (Some c) e = absurd (cc)
 
 -- there are none where the history has no collision
-pub none_again : (f : KeyedFn) (key : List ℕ) (run : Run) → IsKept (Some run) → HasNoCollision f (keys_under key (Some run)) (Some run) → collision_again f key run ≡ None
-none_again f key run = from_end (λ cs. IsKept (Some (with_later cs)) → HasNoCollision f keys (Some (with_later cs)) → collision_again f key (with_later cs) ≡ None) first push run.later
+pub none_again : (f : KeyedFn) (key : List ℕ) (run : Run) → IsKept (Some (From at_first run)) → HasNoCollision f key (Some (From at_first run)) → collision_again f key run ≡ None
+none_again f key run = from_end (λ cs. IsKept (Some (From at_first (with_later cs))) → HasNoCollision f key (Some (From at_first (with_later cs))) → collision_again f key (with_later cs) ≡ None) first push run.later
   where
     keys : ℕ → List ℕ
-    keys = keys_under key (Some run)
+    keys = keys_under key (Some (From at_first run))
 
     with_later : List Command → Run
     with_later cs = record { setup = run.setup; later = cs }
 
-    first : IsKept (Some (with_later [])) → HasNoCollision f keys (Some (with_later [])) → collision_again f key (with_later []) ≡ None
-    first kept free = collision_of_first-none f keys run.setup free
+    first : IsKept (Some (From at_first (with_later []))) → HasNoCollision f key (Some (From at_first (with_later []))) → collision_again f key (with_later []) ≡ None
+    first kept free = collision_of_first-none f key run.setup free
 
-    push : (cs : List Command) (c : Command) → (IsKept (Some (with_later cs)) → HasNoCollision f keys (Some (with_later cs)) → collision_again f key (with_later cs) ≡ None)
-        → IsKept (Some (with_later (cs ++ c ∷ []))) → HasNoCollision f keys (Some (with_later (cs ++ c ∷ []))) → collision_again f key (with_later (cs ++ c ∷ [])) ≡ None
-    push cs c before kept free = last_collision-with_command f keys at_first (with_later cs) c ∙ only_one _ (collision_of_next-none f keys (Some (with_later cs)) c kept free)
+    push : (cs : List Command) (c : Command) → (IsKept (Some (From at_first (with_later cs))) → HasNoCollision f key (Some (From at_first (with_later cs))) → collision_again f key (with_later cs) ≡ None)
+        → IsKept (Some (From at_first (with_later (cs ++ c ∷ [])))) → HasNoCollision f key (Some (From at_first (with_later (cs ++ c ∷ [])))) → collision_again f key (with_later (cs ++ c ∷ [])) ≡ None
+    push cs c before kept free = last_collision-with_command f keys at_first (with_later cs) c ∙ only_one _ (collision_of_next-none f key (Some (From at_first (with_later cs))) c kept free)
 
 no_collision : (o : Option Collision) (c : Collision) → o ≡ Some c → o ≡ None → ⊥
 no_collision o c some none = cc
 
 -- The session.
 
-module _ (f : KeyedFn) (key : List ℕ) (run : Run) (updates : filter is_update run.later ≡ run.later) (kept : IsKept (Some run)) (number : ℕ) (lines : List (Option Line)) (now : Outside) (end : Ended) where
+module _ (f : KeyedFn) (key : List ℕ) (run : Run) (updates : filter is_update run.later ≡ run.later) (kept : IsKept (Some (From at_first run))) (number : ℕ) (lines : List (Option Line)) (now : Outside) (end : Ended) where
   abbrev low : ℕ
   low = first_of_last f key run
 
@@ -296,7 +296,7 @@ lines_within : (bytes key : List ℕ) (number : ℕ) (lines : List (Option Line)
 lines_within bytes key number lines found = within_behind 1 (script_lines bytes) key number lines found (IsWithin-lines_in (lines_of bytes))
 
 -- and the place after a history that keeps all limits keeps them
-kept_at_run : (key : List ℕ) (run : Run) → IsKept (Some run) → IsKeptAt (length run.later) (at_run key [] run)
+kept_at_run : (key : List ℕ) (run : Run) → IsKept (Some (From at_first run)) → IsKeptAt (length run.later) (at_run key [] run)
 kept_at_run key run kept = record { documents = (IsKeptAt-opened 0 key).documents; history = kept; few = omega arith }
 
 -- what such records and such a script make: no search stands among the commands, and the lines behind the key line go on with a history
@@ -368,7 +368,7 @@ module _ (f : KeyedFn) (laws : IsKeyedFn f) (bytes : List ℕ) (now last : Outsi
             | inr (inr (inl named)) ↦ absurd (disk (is ∙ ap status_of (stop ∙ ap (λ c. At c) named)))
             | inr (inr (inr named)) ↦ absurd (memory (is ∙ ap status_of (stop ∙ ap (λ c. At c) named)))
           ]
-      | inr (inr (run, restores, goes)) ↦ absurd (open_not_bad (mark_of f key) payloads (Some run) n (of_told f key now.kept payloads told _ restores.1) bad)
+      | inr (inr (run, restores, goes)) ↦ absurd (open_not_bad (mark_of f key) payloads (Some (From at_first run)) n (refl, of_told f key now.kept payloads told _ restores.1) bad)
     ];
     wrong_key = λ key number lines payloads found told elsewhere source disk memory. elim (behind_key key number lines found) [
       | inl reading ↦ absurd (elim (reading_status reading) [ inl e ↦ source e | inr e ↦ memory e ])
@@ -380,7 +380,7 @@ module _ (f : KeyedFn) (laws : IsKeyedFn f) (bytes : List ℕ) (now last : Outsi
             | inr (inr (inl named)) ↦ absurd (disk (is ∙ ap status_of (stop ∙ ap (λ c. At c) named)))
             | inr (inr (inr named)) ↦ absurd (memory (is ∙ ap status_of (stop ∙ ap (λ c. At c) named)))
           ]
-      | inr (inr (run, restores, goes)) ↦ absurd (open_not_elsewhere (mark_of f key) payloads (Some run) (of_told f key now.kept payloads told _ restores.1) elsewhere)
+      | inr (inr (run, restores, goes)) ↦ absurd (open_not_elsewhere (mark_of f key) payloads (Some (From at_first run)) (refl, of_told f key now.kept payloads told _ restores.1) elsewhere)
     ];
   }
 
@@ -455,8 +455,11 @@ module _ (f : KeyedFn) (laws : IsKeyedFn f) (bytes : List ℕ) (now last : Outsi
     abbrev kept_at : IsKeptAt (length has.run.later) (at_run has.key [] has.run)
     kept_at = kept_at_run has.key has.run has.opens.kept
 
-    near : update_frames has.run ≤ first_of_last f has.key has.run + frames_in_hand (Some has.run)
+    near : update_frames has.run ≤ first_of_last f has.key has.run + frames_in_hand (Some (From at_first has.run))
     near = omega (arith, length-last_frames f has.key has.run)
+
+    numbered : update_frames has.run < 2 ^ 32
+    numbered = omega (arith, has.opens.kept.1)
 
     -- it goes on after that history, but where a device failed or memory was wanting before
     goes_or_not : (((status ≡ 3) ⊎ (status ≡ 6) ⊎ (status ≡ 7)) × (end.history ≡ empty)) ⊎ GoesOnFrom f has.key has.run has.number has.lines now end
@@ -466,8 +469,8 @@ module _ (f : KeyedFn) (laws : IsKeyedFn f) (bytes : List ℕ) (now last : Outsi
           let stop : end.stop ≡ At cause = ap (λ (e : Ended). e.stop) ends in
           let none : end.history ≡ empty = ap (λ (e : Ended). e.history) ends in
           elim (why_unrestored f has.key now.kept has.payloads has.told cause why) [
-            | inl (m, named, bad) ↦ absurd (open_not_bad (mark_of f has.key) has.payloads (Some has.run) m has.opens bad)
-            | inr (inl (named, elsewhere)) ↦ absurd (open_not_elsewhere (mark_of f has.key) has.payloads (Some has.run) has.opens elsewhere)
+            | inl (m, named, bad) ↦ absurd (open_not_bad (mark_of f has.key) has.payloads (Some (From at_first has.run)) m (refl, has.opens) bad)
+            | inr (inl (named, elsewhere)) ↦ absurd (open_not_elsewhere (mark_of f has.key) has.payloads (Some (From at_first has.run)) (refl, has.opens) elsewhere)
             | inr (inr (inl named)) ↦ inl (inr (inl (is ∙ ap status_of (stop ∙ ap (λ c. At c) named))), none)
             | inr (inr (inr named)) ↦ inl (inr (inr (is ∙ ap status_of (stop ∙ ap (λ c. At c) named))), none)
           ]
@@ -486,7 +489,7 @@ module _ (f : KeyedFn) (laws : IsKeyedFn f) (bytes : List ℕ) (now last : Outsi
         | inr goes ↦
             subst (λ n. n ≤ 7) (sym is)
             (rejoined_status f laws has.key has.run updates has.next can.before has.taken (length has.run.later) has.number has.lines within kept_at
-            (first_of_last f has.key has.run) (update_frames has.run) has.opens.kept.1 has.within.0 has.within.1 near now end
+            (first_of_last f has.key has.run) (update_frames has.run) numbered has.within.0 has.within.1 near now end
             (rejoins f has.key has.run updates has.opens.kept has.number has.lines now end goes) can.state over_link free)
       ]
 
@@ -495,7 +498,7 @@ module _ (f : KeyedFn) (laws : IsKeyedFn f) (bytes : List ℕ) (now last : Outsi
         | inl early ↦ subst (λ h. LeavesServer f end.key h can.state) (sym early.1) (unset end.key)
         | inr goes ↦
             rejoined_leaves f laws has.key has.run updates has.next can.before has.taken (length has.run.later) has.number has.lines within kept_at
-            (first_of_last f has.key has.run) (update_frames has.run) has.opens.kept.1 has.within.0 has.within.1 near now end
+            (first_of_last f has.key has.run) (update_frames has.run) numbered has.within.0 has.within.1 near now end
             (rejoins f has.key has.run updates has.opens.kept has.number has.lines now end goes) can.state over_link free
       ]
         where
@@ -512,7 +515,7 @@ module _ (f : KeyedFn) (laws : IsKeyedFn f) (bytes : List ℕ) (now last : Outsi
             | inr goes ↦
                 subst (λ n. Rejoined f has.taken.start has.key has.run has.next m now last n can.state) (sym is)
                 (rejoined f laws has.key has.run updates has.next can.before has.taken (length has.run.later) has.number has.lines within kept_at
-                (first_of_last f has.key has.run) (update_frames has.run) has.opens.kept.1 has.within.0 has.within.1 near now end
+                (first_of_last f has.key has.run) (update_frames has.run) numbered has.within.0 has.within.1 near now end
                 (rejoins f has.key has.run updates has.opens.kept has.number has.lines now end goes) can.state over_link last ends
                 (subst (λ k. IsFree f k m.history) (follow-key (at_run has.key [] has.run) has.number has.lines false) free) (subst IsUndisturbed is calm))
           ]
@@ -545,10 +548,10 @@ module _ (f : KeyedFn) (laws : IsKeyedFn f) (bytes : List ℕ) (now last : Outsi
 --     isn't honest: P182. No call makes both runs. A first run over a journal that has records.
 -- what a run left that nothing disturbed, over records of which there were none, is what one supposes that goes on under its key
 pub can_go_on : (f : KeyedFn) (laws : IsKeyedFn f) (start between state : ServerState) (script bytes key : List ℕ) (run : Run) (now last now' last' : Outside) (status number : ℕ) (lines : List (Option Line))
-    → Headline f start (meaning script) now last status between → (meaning script).key ≡ Some key → (meaning script).history ≡ Some run → now.kept.records ≡ Some [] → Expects 0 start
-    → IsFree f (Some key) (Some run) → now'.kept.records ≡ last.kept.records → key_line 1 (script_lines bytes) ≡ Keyed key number lines → IsOverHonest f between now'.told last'.told state → CanGoOn f bytes now' last'
+    → Headline f start (meaning script) now last status between → (meaning script).key ≡ Some key → (meaning script).history ≡ Some (From at_first run) → now.kept.records ≡ Some [] → Expects 0 start
+    → IsFree f (Some key) (Some (From at_first run)) → now'.kept.records ≡ last.kept.records → key_line 1 (script_lines bytes) ≡ Keyed key number lines → IsOverHonest f between now'.told last'.told state → CanGoOn f bytes now' last'
 can_go_on f laws start between state script bytes key run now last now' last' status number lines headline key_is run_is none expects free same found honest =
-    let kept : IsKept (Some run) = subst IsKept run_is (meaning_is_kept script).0 in
+    let kept : IsKept (Some (From at_first run)) = subst IsKept run_is (meaning_is_kept script).0 in
     let alone : update_frames (updates_of run) ≡ update_frames run = count_alone f key run in
     record {
       before = between;
@@ -557,7 +560,7 @@ can_go_on f laws start between state script bytes key run now last now' last' st
         number = number;
         lines = lines;
         found = found;
-        payloads = records_in f key (Some run);
+        payloads = records_in f key (Some (From at_first run));
         told = same ∙ ap (λ (k : Kept). k.records) headline.kept ∙ (λ i. option_map (λ told. told ++ records_with f (key_is i) (run_is i)) (none i));
         run = updates_of run;
         opens = opened_by f key run laws kept;
@@ -578,17 +581,17 @@ within_left f key run state left = let most = left.most in (omega (arith, most, 
 -- Promise P167, also here
 -- what a run left whose records were all taken, is what one supposes that goes on under its key: whatever stopped it, over an honest link
 pub can_resume : (f : KeyedFn) → IsKeyedFn f → (bytes key : List ℕ) (number : ℕ) (lines : List (Option Line)) (run : Run) (kept : Kept) (state : ServerState)
-    → kept.records ≡ Some (records_in f key (Some run)) → IsKept (Some run) → LeavesServer f (Some key) (Some run) state → key_line 1 (script_lines bytes) ≡ Keyed key number lines → CanResume f bytes kept state
+    → kept.records ≡ Some (records_in f key (Some (From at_first run))) → IsKept (Some (From at_first run)) → LeavesServer f (Some key) (Some (From at_first run)) state → key_line 1 (script_lines bytes) ≡ Keyed key number lines → CanResume f bytes kept state
 can_resume f laws bytes key number lines run kept state told is_kept left found = record {
   key = key;
   number = number;
   lines = lines;
   found = found;
-  payloads = records_in f key (Some run);
+  payloads = records_in f key (Some (From at_first run));
   told = told;
   run = updates_of run;
   opens = opened_by f key run laws is_kept;
-  next = left.next;
-  taken = left.taken;
-  within = within_left f key run state left;
+  next = left.1.next;
+  taken = left.1.taken;
+  within = within_left f key run state left.1;
 }

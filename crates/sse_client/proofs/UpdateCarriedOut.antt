@@ -20,6 +20,7 @@ use Rattle.client_registry.specs.Histories.{longer}
 use Rattle.client_registry.specs.Run.{Run, at_first}
 use Rattle.keyed_fn.specs.KeyedFn.{KeyedFn}
 use Rattle.sse_frames.specs.Frames.{FrameText, frame_bytes}
+use Rattle.sse_model.specs.Epochs.{key_in}
 use Rattle.sse_model.specs.Histories.{frames_of_next}
 use Rattle.sse_script.specs.Shown as says
 use Rattle.sse_script.specs.Shown.{Cause}
@@ -47,7 +48,7 @@ use Rattle.sse_client.specs.declared.session.Stage.TheVariants.{Searching}
 use Rattle.sse_client.specs.declared.update_answer.UpdateAnswer.{UpdateAnswer}
 use Rattle.sse_client.specs.declared.update_answer.UpdateAnswer.TheVariants as answers
 use Rattle.sse_client.proofs.CommandTaken.{goes-refused, stops-kept, stops-memory}
-use Rattle.sse_client.proofs.PlansOfUpdates.{IsPlanFor, frames-at, plan-add-at, plan-delete-at, refuses-delete}
+use Rattle.sse_client.proofs.PlansOfUpdates.{IsPlanFor, StandsFor-longer, frames-at, plan-add-at, plan-delete-at, refuses-delete}
 
 -- Plans.
 
@@ -106,10 +107,10 @@ module _ (f : KeyedFn) (place : Place) (client : Client Ready) (at : IsAt f (Sea
 
   -- the key of its place is the prepared one
   pub at_master : (master : List ℕ) → master ≡ client.key → keys_at place at_first.epoch ≡ master
-  at_master master prepared = sym (prepared ∙ at.key)
+  at_master master prepared = ap (key_in place.key) at.stands.1 ∙ sym (prepared ∙ at.key)
 
   -- the frame of a plan at this place
-  pub frame_at : (c : Command) (bytes : List ℕ) → bytes ∷ [] ≡ map frame_bytes (frames_next f (keys_at place) at_first run c) → bytes ∷ [] ≡ map frame_bytes (frames_of_next f (keys_at place) place.history (c ∷ []))
+  pub frame_at : (c : Command) (bytes : List ℕ) → bytes ∷ [] ≡ map frame_bytes (frames_next f (keys_at place) at_first run c) → bytes ∷ [] ≡ map frame_bytes (frames_of_next f place.key place.history (c ∷ []))
   frame_at c bytes is = is ∙ ap (map frame_bytes) (sym (frames-at f place run at.stands.1 c))
 
   module _ (r : Result PlannedUpdate CommandFault) where
@@ -145,7 +146,7 @@ numbered-next f keys run (kinds.Delete id) state s = (ap Some (sym s.number), tt
 
 module _ (f : KeyedFn) (place : Place) (client : Client Ready) (at : IsAt f (Searching client) place) (u : Update) (c : Command) (is : command_of_update u ≡ c) where
   abbrev next_frames : List FrameText
-  next_frames = frames_of_next f (keys_at place) place.history (c ∷ [])
+  next_frames = frames_of_next f place.key place.history (c ∷ [])
 
   pub numbered-at : AreNumbered client.state.frames next_frames
   numbered-at =
@@ -171,7 +172,7 @@ module _ (f : KeyedFn) (place : Place) (refusal : Option Refusal) (c : Command) 
     payload = update_record (command_of_update planned.update)
 
     -- an update whose record was kept and whose frame was exchanged is done
-    pub goes-updated : (ready : Client Ready) (came : LineResult) → Keeps old.kept new.kept (payload ∷ []) → HasExchanged old.told new.told [] (frames_of_next f (keys_at place) place.history (c ∷ []))
+    pub goes-updated : (ready : Client Ready) (came : LineResult) → Keeps old.kept new.kept (payload ∷ []) → HasExchanged old.told new.told [] (frames_of_next f place.key place.history (c ∷ []))
         → line_result_view came ≡ with_answers [] (shown ∷ []) → refuses came ≡ false → ready.key ≡ client.key → ready.state.registry.keys ≡ client.state.registry.keys → StandsFor f (keys_at place) at_first (with_command at.stands.0 c) ready.state
         → GoesOn f old new (Searching ready) came place (unless refusal updating)
     goes-updated ready came kept x view fine keyed hashes stands =
@@ -182,15 +183,19 @@ module _ (f : KeyedFn) (place : Place) (refusal : Option Refusal) (c : Command) 
           sent = record { events = x.events; adds = x.adds; exchanged = x.exchanged; no_clash = plan.no_clash };
           shown = view;
           refuses = fine;
-          stands = record { key = keyed ∙ at.key; stands = (with_command at.stands.0 c, ap (longer (c ∷ [])) at.stands.1, stands); hashed = hashes ∙ at.hashed };
+          stands = record {
+            key = keyed ∙ at.key;
+            stands = (with_command at.stands.0 c, ap (longer (c ∷ [])) at.stands.1, StandsFor-longer f place.key place.history (c ∷ []) (with_command at.stands.0 c) ready.state stands);
+            hashed = hashes ∙ at.hashed;
+          };
         })
 
     -- one whose record was refused, or whose exchange was cut, stops the run
-    pub stops-updated : (T : Type 0) (stop : CommandStop) → SendsKept {T = T} payload old new (frames_of_next f (keys_at place) place.history (c ∷ [])) (Err stop) → (written : Option (List ℕ))
+    pub stops-updated : (T : Type 0) (stop : CommandStop) → SendsKept {T = T} payload old new (frames_of_next f place.key place.history (c ∷ [])) (Err stop) → (written : Option (List ℕ))
         → StopsIn f place (unless refusal updating) (outside_of old written) (outside_of new written) (At (command_cause stop))
     stops-updated T stop sends written =
         subst (λ result. StopsIn f place result (outside_of old written) (outside_of new written) (At (command_cause stop))) (sym (accepted-is none))
-        (stops-kept T f place updating old new written (frames_of_next f (keys_at place) place.history (c ∷ [])) payload refl (records_of_update planned.update c plan.command) plan.no_clash stop sends)
+        (stops-kept T f place updating old new written (frames_of_next f place.key place.history (c ∷ [])) payload refl (records_of_update planned.update c plan.command) plan.no_clash stop sends)
 
   -- a refused one is refused
   pub goes-refused_update : (now : Seen) (client : Client Ready) (came : LineResult) (why : Refusal) → IsAt f (Searching client) place → refusal ≡ Some why → line_result_view came ≡ says.Refused why ∷ [] → refuses came ≡ true

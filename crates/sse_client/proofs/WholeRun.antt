@@ -11,6 +11,7 @@ use Rattle.def_script_meaning.proofs.Recorded.{recorded}
 use Rattle.def_script_meaning.specs.Recorded.{IsRecorded, KeepsFirst, records_with}
 use Rattle.def_script_meaning.specs.Joined.{LeavesServer}
 use Rattle.def_script_meaning.specs.Lines.{script_lines}
+use Rattle.def_script_meaning.proofs.OneEpoch.{meaning_is_whole}
 use Rattle.def_script_meaning.proofs.Simulated.{sends_simulated}
 use Rattle.def_script_meaning.proofs.RunGoes.{goes}
 use Rattle.def_script_meaning.proofs.Within.{meaning_is_kept}
@@ -86,7 +87,7 @@ module _ (f : KeyedFn) (laws : IsKeyedFn f) (bytes : List ℕ) (now last : Outsi
     (same_told : last.told ≡ end.outside.told) (same_kept : last.kept ≡ end.outside.kept) (printed : EndsLine end.stop end.outside.written last.written status sink.faults sink'.faults sink.shortages sink'.shortages)
     (is : status ≡ status_of end.stop) where
   sends : SendsSimulated f end.key end.history now.told last.told
-  sends = subst (SendsSimulated f end.key end.history now.told) (sym same_told) (sends_simulated f (meaning bytes) now end (goes f bytes now end opening) (meaning_is_kept bytes).0)
+  sends = subst (SendsSimulated f end.key end.history now.told) (sym same_told) (sends_simulated f (meaning bytes) now end (goes f bytes now end opening) (meaning_is_whole bytes) (meaning_is_kept bytes).0)
 
   takes_records : IsRecorded f end.key end.history status now last
   takes_records =

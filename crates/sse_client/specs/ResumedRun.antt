@@ -6,7 +6,7 @@ use Rattle.client_core.specs.Resumes.{IsWithin, first_of_last, last_collision}
 use Rattle.client_records.specs.Openings as records
 use Rattle.client_records.specs.Openings.{OpensElsewhere, OpensNowhere}
 use Rattle.client_registry.specs.Histories.{IsKept, empty}
-use Rattle.client_registry.specs.Run.{History, Run, at_first}
+use Rattle.client_registry.specs.Run.{History, Run, at_first, From}
 use Rattle.client_registry.specs.Sized.{update_frames}
 use Rattle.keyed_fn.specs.KeyFormulas.{mark_of}
 use Rattle.keyed_fn.specs.KeyedFn.{KeyedFn}
@@ -32,7 +32,7 @@ use Rattle.sse_client.specs.KeyLines.{KeyLine, Keyed, Missing, key_line}
 
 -- they open to this history under this key, where they are told
 abbrev pub Restores : KeyedFn → (key : List ℕ) → Kept → Run → Type 0
-Restores f key kept run = IsKept (Some run) × IfSome kept.records (λ payloads. records.Opens (mark_of f key) payloads run)
+Restores f key kept run = IsKept (Some (From at_first run)) × IfSome kept.records (λ payloads. records.Opens (mark_of f key) payloads run)
 
 -- the records of a journal make no history under this key: one isn't a record that can stand behind those before it, which are this
 -- key's; or the first is that of a setup under another key. Or they couldn't be read
@@ -48,11 +48,11 @@ IsUnrestored _ _ _ _ = ⊥
 
 -- those of the history's last command, for a server that expects this update
 abbrev pub frames_lacking : KeyedFn → (key : List ℕ) → Run → (next : ℕ) → List FrameText
-frames_lacking f key run next = drop (next - first_of_last f key run) (last_frames f (keys_under key (Some run)) at_first run)
+frames_lacking f key run next = drop (next - first_of_last f key run) (last_frames f (keys_under key (Some (From at_first run))) at_first run)
 
 -- two values of the last command that have to differ and are equal
 abbrev pub collision_again : KeyedFn → (key : List ℕ) → Run → Option Collision
-collision_again f key run = last_collision f (keys_under key (Some run)) at_first run
+collision_again f key run = last_collision f (keys_under key (Some (From at_first run))) at_first run
 
 -- a session is opened with a server that expects this update, of which the history's last command has the frame, or the one behind it
 pub record IsFound (f : KeyedFn) (key : List ℕ) (run : Run) (next : ℕ) (old new : Told) : Type 0 where
@@ -92,7 +92,7 @@ pub record IsHeldUp (f : KeyedFn) (key : List ℕ) (run : Run) (now : Outside) (
   pub unkept : end.outside.kept ≡ now.kept
   pub unprinted : end.outside.written ≡ now.written
   pub same_key : end.key ≡ Some key
-  pub history : end.history ≡ Some run
+  pub history : end.history ≡ Some (From at_first run)
 
 -- the server has them all, and a proper front of the line that says so is printed
 pub record IsUntold (f : KeyedFn) (key : List ℕ) (run : Run) (now : Outside) (end : Ended) : Type 0 where
@@ -102,7 +102,7 @@ pub record IsUntold (f : KeyedFn) (key : List ℕ) (run : Run) (now : Outside) (
   pub printed : TookFront now.written end.outside.written (text_of (Resumed frames))
   pub unkept : end.outside.kept ≡ now.kept
   pub same_key : end.key ≡ Some key
-  pub history : end.history ≡ Some run
+  pub history : end.history ≡ Some (From at_first run)
 
 -- the server has them all, and the line is printed
 pub record HasResumed (f : KeyedFn) (key : List ℕ) (run : Run) (now next : Outside) : Type 0 where

@@ -4,7 +4,7 @@ use Rattle.client_core.specs.StandsFor.{StandsFor}
 use Rattle.client_registry.specs.Acceptance.{size_refusal}
 use Rattle.client_registry.specs.Histories.{is_set_up}
 use Rattle.client_registry.specs.Live.{in_order}
-use Rattle.client_registry.specs.Run.{History, Run, at_first}
+use Rattle.client_registry.specs.Run.{History, Run, at_first, From}
 use Rattle.client_registry.specs.Setup.{setup_with}
 use Rattle.keyed_fn.specs.KeyedFn.{KeyedFn}
 use Rattle.sse_script.specs.Shown.{Cause, BadWords, NoMemory}
@@ -33,12 +33,12 @@ use Rattle.script_run_texts.specs.declared.stop_cause.StopCause.TheVariants as s
 -- a session that is set up stands for this run
 abbrev pub IsReady : KeyedFn → List ℕ → Run → Stage → Type 0
 IsReady f key run (Collecting client docs) = ⊥
-IsReady f key run (Searching client) = StandsFor f (keys_under key (Some run)) at_first run client.state
+IsReady f key run (Searching client) = StandsFor f (keys_under key (Some (From at_first run))) at_first run client.state
 
 -- a session collects the documents of a place that isn't set up, and after the setup it stands for the history of the place
 abbrev pub IsStage : KeyedFn → Stage → Place → Type 0
 IsStage f (Collecting client docs) place = (docs.documents ≡ place.documents) × (is_set_up place.history ≡ false)
-IsStage f (Searching client) place = (run : Run) × (place.history ≡ Some run) × StandsFor f (keys_at place) at_first run client.state
+IsStage f (Searching client) place = (run : Run) × (place.history ≡ Some (From at_first run)) × StandsFor f (keys_at place) at_first run client.state
 
 -- a session stands at a place of its script, under its key, and hashes under numbers that are made of that key
 pub record IsAt (f : KeyedFn) (stage : Stage) (place : Place) : Type 0 where

@@ -10,7 +10,7 @@ use Rattle.sse_frames.specs.Frames.{IsFrame, frame_bytes}
 use Rattle.sse_model.specs.Histories.{frames_of_next, collision_of_next}
 use Rattle.sse_script.specs.Shown.{Cause}
 use Rattle.sse_script.specs.declared.refusal.Refusal.{Refusal}
-use Rattle.def_script_meaning.specs.Carries.{collision_cause, keys_at}
+use Rattle.def_script_meaning.specs.Carries.{collision_cause}
 use Rattle.def_script_meaning.specs.Outcome.{Place}
 use Rattle.script_run_texts.specs.Stops.{command_cause}
 use Rattle.script_run_texts.specs.declared.command_stop.CommandStop.{CommandStop}
@@ -20,12 +20,12 @@ use Rattle.sse_client.specs.declared.update_answer.UpdateAnswer.TheVariants as a
 
 -- two equal values of a command at a place, as the cause that is printed
 abbrev pub clash_of : KeyedFn → Place → Command → Option Cause
-clash_of f place c = option_map collision_cause (collision_of_next f (keys_at place) place.history (c ∷ []))
+clash_of f place c = option_map collision_cause (collision_of_next f place.key place.history (c ∷ []))
 
 -- a plan is of this command, without equal values, and has its frame
 pub record IsPlanOf (f : KeyedFn) (place : Place) (c : Command) (planned : PlannedUpdate) : Type 0 where
   pub command : command_of_update planned.update ≡ c
-  pub frame : planned.frame ∷ [] ≡ map frame_bytes (frames_of_next f (keys_at place) place.history (c ∷ []))
+  pub frame : planned.frame ∷ [] ≡ map frame_bytes (frames_of_next f place.key place.history (c ∷ []))
   pub no_clash : clash_of f place c ≡ None
 
 -- of a command that is refused for this reason, or for none, and has two equal values with this printed cause, or none: it is

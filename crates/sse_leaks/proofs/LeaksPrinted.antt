@@ -6,7 +6,7 @@ use Rattle.std.specs.Io.KnownBytes.{append_known}
 use Rattle.std.proofs.lemmas.List.{length-append}
 use Rattle.client_registry.proofs.OverLaws.{length-over}
 use Rattle.client_registry.specs.Over.{over}
-use Rattle.client_registry.specs.Run.{History, Run, at_first}
+use Rattle.client_registry.specs.Run.{History, Epochs, Run, From, at_first}
 use Rattle.script_history.proofs.Ended.{nothing_more}
 use Rattle.script_history.proofs.ReadingGoesOn.{first-reading}
 use Rattle.script_history.specs.Endings.{EndsIn, StopsTelling, ending, seen_of, stop_for}
@@ -20,7 +20,7 @@ use Rattle.def_leakage.specs.CommandLeaks.{leak, leak_by, leak_of_setup}
 use Rattle.sse_script.specs.Shown.{BadLine, NoMemory}
 use Rattle.sse_script.specs.TextLines.{lines_left}
 use Rattle.sse_simulator.specs.Leaks.{Leak}
-use Rattle.sse_leaks.specs.LeakReport.{GoesOn, HasPrintedLeaks, IsPrintedSo, history_lines, leak_lines}
+use Rattle.sse_leaks.specs.LeakReport.{GoesOn, HasPrintedLeaks, IsPrintedSo, history_lines}
 
 -- Lines.
 
@@ -29,11 +29,11 @@ pub length-leak : (run : Run) → length (leak at_first run) ≡ length run.late
 length-leak run = omega (arith, length-over (leak_by at_first run.setup) [] run.later)
 
 -- there is a line
-pub some_line : (run : Run) → 0 < length (history_lines run)
+pub some_line : (run : Run) → 0 < length (history_lines (From at_first run))
 some_line run =
     let first = leak_of_setup at_first.epoch run.setup in
     let rest = flat_map (λ e. text_of_leak e.0 e.1) (enumerate_from 1 (over (leak_by at_first run.setup) [] run.later)) in
-    let whole : length (history_lines run) ≡ length (text_of_leak 0 first) + length rest = length-append (text_of_leak 0 first) rest in
+    let whole : length (history_lines (From at_first run)) ≡ length (text_of_leak 0 first) + length rest = length-append (text_of_leak 0 first) rest in
     omega (arith, by first, whole)
   where
     by : (first : Leak) → 0 < length (text_of_leak 0 first)
@@ -44,7 +44,7 @@ some_line run =
         omega (arith, whole, two)
 
 -- nothing of them was printed
-pub none_told : (run : Run) (written : Option (List ℕ)) (stop : Stop) → stop ≡ At NoMemory → StopsTelling (history_lines run) written written stop
+pub none_told : (run : Run) (written : Option (List ℕ)) (stop : Stop) → stop ≡ At NoMemory → StopsTelling (history_lines (From at_first run)) written written stop
 none_told run written stop is = record {
   printed = record { n = 0; short = some_line run; taken = nothing_more written };
   stops = inr is;
@@ -53,9 +53,9 @@ none_told run written stop is = record {
 -- How it goes on after a reading.
 
 -- where there is a history
-pub goes_told : (key : List ℕ) (h : History) (run : Run) (refused : Bool) (next : ℕ) (now last : Option (List ℕ)) (stop : Stop) → h ≡ Some run
-    → ((last ≡ append_known now (history_lines run)) × (stop ≡ AtEnd refused)) ⊎ StopsTelling (history_lines run) now last stop → GoesOn (Whole key h refused next) now last stop
-goes_told key h run refused next now last stop is told = subst (λ o. GoesOn (Whole key o refused next) now last stop) (sym is) told
+pub goes_told : (key : List ℕ) (h : History) (es : Epochs) (refused : Bool) (next : ℕ) (now last : Option (List ℕ)) (stop : Stop) → h ≡ Some es
+    → ((last ≡ append_known now (history_lines es)) × (stop ≡ AtEnd refused)) ⊎ StopsTelling (history_lines es) now last stop → GoesOn (Whole key h refused next) now last stop
+goes_told key h es refused next now last stop is told = subst (λ o. GoesOn (Whole key o refused next) now last stop) (sym is) told
 
 -- and where there is none
 pub goes_without : (key : List ℕ) (h : History) (refused : Bool) (next : ℕ) (now last : Option (List ℕ)) (stop : Stop) → h ≡ None → (last ≡ now) × (stop ≡ At (BadLine next)) → GoesOn (Whole key h refused next) now last stop

@@ -1,13 +1,12 @@
 -- What is told of a script, where no device failed and memory wasn't wanting, is what the script means.
 use Rattle.std.proofs.Common.{◌≡◌, ◌≢◌, inl, inr, ℕ, ◌+◌, List, [], ◌++◌, length, Option, None, Some, refl, sym, ap, subst, ◌∙◌, append_assoc}
-use Rattle.std.specs.Prelude.{filter, flat_map, map, IfSome}
+use Rattle.std.specs.Prelude.{filter, flat_map, map}
 use Rattle.std.specs.Io.KnownBytes.{append_known}
 use Rattle.std.proofs.lemmas.List.{append-nil}
 use Rattle.client_registry.specs.Run.{History}
-use Rattle.client_registry.specs.Sized.{IsSized}
 use Rattle.script_history.proofs.MeaningLaws.{reads-meaning}
 use Rattle.script_history.specs.Meant.{IsCalm, end_of, is_refused_line}
-use Rattle.script_history.specs.Reads.{ReadEnd, Whole}
+use Rattle.script_history.specs.Reads.{IsCountable, ReadEnd, Whole}
 use Rattle.script_history.specs.Reads.{Stopped as NotRead}
 use Rattle.def_script_meaning.specs.Lines.{script_lines}
 use Rattle.def_script_meaning.specs.Meaning.{meaning}
@@ -47,23 +46,23 @@ module _ (stop : Stop) (sink : stop ≢ SinkFault) (source : stop ≢ At SourceF
   -- what follows the reading is what the meaning has
   follows : (key : Option (List ℕ)) (h : History) (next : ℕ) (end : Stop) (between before : Option (List ℕ)) → GoesOn (end_of key h next end) between before stop
       → (stop ≡ stop_at h next end) × (before ≡ append_known between (lines_at end h))
-  follows (Some key) (Some run) next (AtEnd refused) between before (inl told) = (told.1, told.0)
-  follows (Some key) (Some run) next (AtEnd refused) between before (inr short) = absurd (elim short.stops [ inl e ↦ sink e | inr e ↦ memory e ])
+  follows (Some key) (Some es) next (AtEnd refused) between before (inl told) = (told.1, told.0)
+  follows (Some key) (Some es) next (AtEnd refused) between before (inr short) = absurd (elim short.stops [ inl e ↦ sink e | inr e ↦ memory e ])
   follows (Some key) None next (AtEnd refused) between before goes = (goes.1, goes.0 ∙ known-nil between)
   follows None h next (AtEnd refused) between before goes = absurd (sink goes.1)
   follows (Some key) h next SinkFault between before goes = absurd (sink goes.1)
   follows None h next SinkFault between before goes = absurd (sink goes.1)
-  follows (Some key) (Some run) next (At cause) between before goes = (goes.1, goes.0 ∙ known-nil between)
+  follows (Some key) (Some es) next (At cause) between before goes = (goes.1, goes.0 ∙ known-nil between)
   follows (Some key) None next (At cause) between before goes = (goes.1, goes.0 ∙ known-nil between)
-  follows None (Some run) next (At cause) between before goes = (goes.1, goes.0 ∙ known-nil between)
+  follows None (Some es) next (At cause) between before goes = (goes.1, goes.0 ∙ known-nil between)
   follows None None next (At cause) between before goes = (goes.1, goes.0 ∙ known-nil between)
 
   -- Promise P164, also here
-  pub told-meaning : (bytes : List ℕ) (now before : Option (List ℕ)) → IsPrintedSo bytes now before stop → IfSome (meaning bytes).history IsSized → IsPrintedAs (meaning bytes) (length (script_lines bytes) + 1) now before stop
-  told-meaning bytes now before told sized =
+  pub told-meaning : (bytes : List ℕ) (now before : Option (List ℕ)) → IsPrintedSo bytes now before stop → IsCountable (meaning bytes).history → IsPrintedAs (meaning bytes) (length (script_lines bytes) + 1) now before stop
+  told-meaning bytes now before told countable =
       let m = meaning bytes in
       let next = length (script_lines bytes) + 1 in
-      let read = reads-meaning bytes now told.between told.end told.reads (calm told.end told.between before told.goes_on) sized in
+      let read = reads-meaning bytes now told.between told.end told.reads (calm told.end told.between before told.goes_on) countable in
       let rest = follows m.key m.history next m.end told.between before (subst (λ end. GoesOn end told.between before stop) read.ends told.goes_on) in
       record {
         stop_is = rest.0;

@@ -1,5 +1,5 @@
 -- The words that a command line gives the program: its name only, other words, or nothing, if there was no memory to read them in.
-use Rattle.std.specs.Prelude.{ℕ, ◌<◌, ◌≤◌, length}
+use Rattle.std.specs.Prelude.{◌<◌, ◌≤◌, length}
 use Rattle.sse_leaks.specs.declared.program.CommandLine.{CommandLine}
 use Rattle.sse_leaks.specs.declared.program.CommandLine.TheVariants.{Words, NoText, NoMemory}
 

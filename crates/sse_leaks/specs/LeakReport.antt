@@ -2,7 +2,7 @@
 use Rattle.std.specs.Prelude.{◌≡◌, ◌⊎◌, ℕ, List, [], ◌++◌, filter, flat_map, map, Option, None, Some}
 use Rattle.std.specs.Io.KnownBytes.{append_known}
 use Rattle.std.specs.List.{enumerate_from}
-use Rattle.client_registry.specs.Run.{History, Run, at_first}
+use Rattle.client_registry.specs.Run.{History, Epochs}
 use Rattle.script_history.specs.Endings.{EndsIn, Seen, StopsTelling, stop_for}
 use Rattle.script_history.specs.Meant.{is_refused_line}
 use Rattle.script_history.specs.Reads.{ReadEnd, Whole, ReadsFirst}
@@ -12,7 +12,7 @@ use Rattle.def_script_meaning.specs.Lines.{script_lines}
 use Rattle.def_script_meaning.specs.Meaning.{Meaning}
 use Rattle.def_script_meaning.specs.Outcome.{said}
 use Rattle.def_script_meaning.specs.Stops.{Stop, AtEnd, SinkFault, At, status_of}
-use Rattle.def_leakage.specs.CommandLeaks.{leak}
+use Rattle.def_leakage.specs.Histories.{leak_in}
 use Rattle.sse_script.specs.Shown.{BadLine}
 use Rattle.sse_script.specs.Texts.{text_of}
 use Rattle.sse_simulator.specs.Leaks.{Leak}
@@ -22,14 +22,14 @@ abbrev pub leak_lines : List Leak → List ℕ
 leak_lines leaks = flat_map (λ e. text_of_leak e.0 e.1) (enumerate_from 0 leaks)
 
 -- of what a history leaks
-abbrev pub history_lines : Run → List ℕ
-history_lines run = leak_lines (leak at_first run)
+abbrev pub history_lines : Epochs → List ℕ
+history_lines es = leak_lines (leak_in (Some es))
 
 -- how it goes on after a script's reading that ended so: what its history leaks is told, and so is whether a command was refused;
 -- a script without a setup lacks a line behind its last one; and what stopped the reading stops all
 abbrev pub GoesOn : ReadEnd → (now last : Option (List ℕ)) → Stop → Type 0
-GoesOn (Whole key (Some run) refused next) now last stop =
-    ((last ≡ append_known now (history_lines run)) × (stop ≡ AtEnd refused)) ⊎ StopsTelling (history_lines run) now last stop
+GoesOn (Whole key (Some es) refused next) now last stop =
+    ((last ≡ append_known now (history_lines es)) × (stop ≡ AtEnd refused)) ⊎ StopsTelling (history_lines es) now last stop
 GoesOn (Whole key None refused next) now last stop = (last ≡ now) × (stop ≡ At (BadLine next))
 GoesOn (NotRead cause) now last stop = (last ≡ now) × (stop ≡ stop_for cause)
 
@@ -52,14 +52,14 @@ pub record HasPrintedLeaks (bytes : List ℕ) (now last : Seen) (status : ℕ) :
 
 -- of a history all lines, where its script is read to the end
 abbrev pub lines_at : Stop → History → List ℕ
-lines_at (AtEnd refused) (Some run) = history_lines run
+lines_at (AtEnd refused) (Some es) = history_lines es
 lines_at (AtEnd refused) None = []
 lines_at SinkFault h = []
 lines_at (At cause) h = []
 
 -- a script without a setup lacks the line of this number
 abbrev pub stop_at : History → (next : ℕ) → Stop → Stop
-stop_at (Some run) next stop = stop
+stop_at (Some es) next stop = stop
 stop_at None next (AtEnd refused) = At (BadLine next)
 stop_at None next SinkFault = SinkFault
 stop_at None next (At cause) = At cause

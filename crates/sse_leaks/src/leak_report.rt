@@ -2,7 +2,7 @@ ghost use Rattle.std.specs.Prelude.{◌≡◌, ◌≢◌, ◌≤◌, ◌<◌, �
 ghost use Rattle.std.specs.Io.KnownBytes.{append_known, IsAtEnd};
 ghost use Rattle.client_registry.specs.Acceptance.{size_refusal};
 ghost use Rattle.client_registry.specs.Sized.{IsSized};
-ghost use Rattle.leakage_history.specs.HashedRun.{run_of};
+ghost use Rattle.leakage_history.specs.HashedRun.{epochs_of, run_of};
 ghost use Rattle.script_history.specs.Endings.{StopsTelling, ending, seen_of, stop_for};
 ghost use Rattle.script_history.specs.Turns.{reading_end};
 ghost use Rattle.leakage_texts.specs.LeakTexts.{text_of_leak};
@@ -95,8 +95,8 @@ fn tell_read<W: Sink>(alloc: Global, sink: &mut W, read: ReadScript) -> Result<b
 fn print_leaks<W: Sink>(alloc: Global, sink: &mut W, history: &History) -> Result<(), StopCause>
     requires setup { size_refusal history.now.setup ≡ None }
     requires numbered { length history.now.later + 1 < 2 ^ 32 }
-    ensures all { OnOk result (W.written sink.new ≡ append_known (W.written sink.old) (history_lines (run_of history.now))) }
-    ensures stops { IfErr result (λ stop. StopsTelling (history_lines (run_of history.now)) (W.written sink.old) (W.written sink.new) (stop_for (stop_cause stop))) }
+    ensures all { OnOk result (W.written sink.new ≡ append_known (W.written sink.old) (history_lines (epochs_of history.now))) }
+    ensures stops { IfErr result (λ stop. StopsTelling (history_lines (epochs_of history.now)) (W.written sink.old) (W.written sink.new) (stop_for (stop_cause stop))) }
     ensures sink { KeepsSink (W.faults sink.old) (W.faults sink.new) (W.shortages sink.old) (W.shortages sink.new) result }
 {
     let text = leaks_text(alloc, history)?;
@@ -108,7 +108,7 @@ fn print_leaks<W: Sink>(alloc: Global, sink: &mut W, history: &History) -> Resul
 fn leaks_text(alloc: Global, history: &History) -> Result<String, AllocError>
     requires setup { size_refusal history.now.setup ≡ None }
     requires numbered { length history.now.later + 1 < 2 ^ 32 }
-    ensures { IfOk result (λ text. string_bytes text ≡ history_lines (run_of history.now)) }
+    ensures { IfOk result (λ text. string_bytes text ≡ history_lines (epochs_of history.now)) }
 {
     let leaks = leak(alloc, history)?;
     lines_of(alloc, leaks.as_slice())

@@ -1,7 +1,7 @@
 -- Two scripts, each part of what is done with them.
 use Rattle.std.proofs.Common.{◌≡◌, ◌≤◌, inr, ℕ, ◌+◌, Bool, true, false, List, [], Option, None, Some, refl, sym, ap, subst, ◌∙◌, arith}
 use Rattle.std.specs.Prelude.{IfErr, IfOk, IfSome, IsErrAnd, Result, Ok, Err}
-use Rattle.client_registry.specs.Run.{Run, at_first}
+use Rattle.client_registry.specs.Run.{Run, Epochs, at_first}
 use Rattle.client_registry.specs.Sized.{run_words}
 use Rattle.leakage_draws.specs.SheetOf.{IsSheetOf}
 use Rattle.script_history.proofs.ReadingGoesOn.{elsewhere-steady, first-reading}
@@ -40,10 +40,10 @@ compared-same t run other moved (Err e) same values counts = tt
 
 -- The second script.
 
-pub reads-behind : (f : KeyedFn) (key : List ℕ) (run : Run) (refused : Bool) (number : ℕ) (left : Option (List (List ℕ))) (now between last : Option (List ℕ)) (end : ReadEnd) (stop : Stop)
-    → ReadsFirstFrom (number + 1) left now between end → GoesOnBehind f key run refused end between last stop → IfSome left (λ lines. ReadsBehind f key run refused number lines now last stop)
-reads-behind f key run refused number None now between last end stop reads goes = tt
-reads-behind f key run refused number (Some lines) now between last end stop reads goes = record { end = end; between = between; reads = reads; goes_on = goes }
+pub reads-behind : (f : KeyedFn) (key : List ℕ) (es : Epochs) (refused : Bool) (number : ℕ) (left : Option (List (List ℕ))) (now between last : Option (List ℕ)) (end : ReadEnd) (stop : Stop)
+    → ReadsFirstFrom (number + 1) left now between end → GoesOnBehind f key es refused end between last stop → IfSome left (λ lines. ReadsBehind f key es refused number lines now last stop)
+reads-behind f key es refused number None now between last end stop reads goes = tt
+reads-behind f key es refused number (Some lines) now between last end stop reads goes = record { end = end; between = between; reads = reads; goes_on = goes }
 
 -- the counts of the devices, where the first step went well and the second isn't for the source
 pub kept-source : (before now : ℕ) (r : Result Bool StopCause) → now ≡ before → IfErr r IsElsewhere → KeepsSource SourceCause before now r

@@ -2,7 +2,7 @@
 use Rattle.std.specs.Prelude.{◌≡◌, ◌⊎◌, ℕ, ◌+◌, Bool, true, false, ◌||◌, List, [], ◌∷◌, ◌++◌, codes, decimal, Option, None, Some}
 use Rattle.std.specs.Io.KnownBytes.{append_known}
 use Rattle.std.specs.List.{concat}
-use Rattle.client_registry.specs.Run.{Run, at_first}
+use Rattle.client_registry.specs.Run.{Epochs}
 use Rattle.script_history.specs.Endings.{EndsIn, Seen, StopsTelling, stop_for}
 use Rattle.script_history.specs.Reads.{ReadEnd, Whole, ReadsFirst}
 use Rattle.script_history.specs.Reads.{Stopped as NotRead}
@@ -10,8 +10,7 @@ use Rattle.script_history.specs.TwoScripts.{before_twin, behind_twin}
 use Rattle.keyed_fn.specs.KeyedFn.{KeyedFn}
 use Rattle.def_script_meaning.specs.Lines.{lines_in}
 use Rattle.def_script_meaning.specs.Stops.{Stop, AtEnd, At, status_of}
-use Rattle.sse_model.specs.Histories.{table_of}
-use Rattle.def_relabelling.specs.Comparison.{Comparison, LeakTheSame, LeaksDiffer, IsComparison}
+use Rattle.def_relabelling.specs.Comparison.{Comparison, LeakTheSame, LeaksDiffer, IsComparisonIn}
 use Rattle.sse_script.specs.Shown.{BadLine, NoMemory}
 use Rattle.sse_script.specs.TextLines.{lines_of}
 
@@ -29,33 +28,33 @@ abbrev pub differs : Comparison → Bool
 differs (LeakTheSame sums) = false
 differs (LeaksDiffer k) = true
 
--- two runs are compared under the first one's key, and the line of what comes of it is printed, or a proper front of it; that they
+-- two histories are compared under the first one's key, and the line of what comes of it is printed, or a proper front of it; that they
 -- differ counts as a refusal
-pub record IsCompared (f : KeyedFn) (key : List ℕ) (run other : Run) (refused : Bool) (now last : Option (List ℕ)) (stop : Stop) : Type 0 where
+pub record IsCompared (f : KeyedFn) (key : List ℕ) (es other : Epochs) (refused : Bool) (now last : Option (List ℕ)) (stop : Stop) : Type 0 where
   pub comparison : Comparison
-  pub comes : IsComparison (table_of f (λ epoch. key) run) at_first run other comparison
+  pub comes : IsComparisonIn f key es other comparison
   pub told : ((last ≡ append_known now (text_of_comparison comparison)) × (stop ≡ AtEnd (refused || differs comparison)))
       ⊎ StopsTelling (text_of_comparison comparison) now last stop
 
--- how it goes on after the second script's reading that ended so, behind a first one of this key and run: the two are compared, or
+-- how it goes on after the second script's reading that ended so, behind a first one of this key and history: the two are compared, or
 -- memory is wanting for that; a script without a setup lacks a line behind its last one; and what stopped the reading stops all
-abbrev pub GoesOnBehind : KeyedFn → (key : List ℕ) → Run → (refused : Bool) → ReadEnd → (now last : Option (List ℕ)) → Stop → Type 0
-GoesOnBehind f key run refused (Whole own (Some other) also next) now last stop =
-    IsCompared f key run other (refused || also) now last stop ⊎ ((last ≡ now) × (stop ≡ At NoMemory))
-GoesOnBehind f key run refused (Whole own None also next) now last stop = (last ≡ now) × (stop ≡ At (BadLine next))
-GoesOnBehind f key run refused (NotRead cause) now last stop = (last ≡ now) × (stop ≡ stop_for cause)
+abbrev pub GoesOnBehind : KeyedFn → (key : List ℕ) → Epochs → (refused : Bool) → ReadEnd → (now last : Option (List ℕ)) → Stop → Type 0
+GoesOnBehind f key es refused (Whole own (Some other) also next) now last stop =
+    IsCompared f key es other (refused || also) now last stop ⊎ ((last ≡ now) × (stop ≡ At NoMemory))
+GoesOnBehind f key es refused (Whole own None also next) now last stop = (last ≡ now) × (stop ≡ At (BadLine next))
+GoesOnBehind f key es refused (NotRead cause) now last stop = (last ≡ now) × (stop ≡ stop_for cause)
 
 -- the second script is read, whose lines are these, behind the line `twin` of this number
-pub record ReadsBehind (f : KeyedFn) (key : List ℕ) (run : Run) (refused : Bool) (twin : ℕ) (behind : List (List ℕ)) (now last : Option (List ℕ)) (stop : Stop) : Type 0 where
+pub record ReadsBehind (f : KeyedFn) (key : List ℕ) (es : Epochs) (refused : Bool) (twin : ℕ) (behind : List (List ℕ)) (now last : Option (List ℕ)) (stop : Stop) : Type 0 where
   pub end : ReadEnd
   pub between : Option (List ℕ)
   pub reads : ReadsFirst (twin + 1) (lines_in behind) now between end
-  pub goes_on : GoesOnBehind f key run refused end between last stop
+  pub goes_on : GoesOnBehind f key es refused end between last stop
 
 -- how it goes on after the first script's reading that ended so: with the lines behind a line `twin`; where there is none, or no
 -- setup, the bad line is that behind the script's last one
 abbrev pub GoesOnFirst : KeyedFn → (behind : Option (List (List ℕ))) → ReadEnd → (now last : Option (List ℕ)) → Stop → Type 0
-GoesOnFirst f (Some behind) (Whole key (Some run) refused next) now last stop = ReadsBehind f key run refused next behind now last stop
+GoesOnFirst f (Some behind) (Whole key (Some es) refused next) now last stop = ReadsBehind f key es refused next behind now last stop
 GoesOnFirst f (Some behind) (Whole key None refused next) now last stop = (last ≡ now) × (stop ≡ At (BadLine next))
 GoesOnFirst f None (Whole key history refused next) now last stop = (last ≡ now) × (stop ≡ At (BadLine next))
 GoesOnFirst f behind (NotRead cause) now last stop = (last ≡ now) × (stop ≡ stop_for cause)

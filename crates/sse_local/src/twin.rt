@@ -1,7 +1,7 @@
 ghost use Rattle.std.specs.Prelude.{◌≡◌, ◌≢◌, ◌≤◌, ◌⊎◌, ◌+◌, ◌^◌, ℕ, List, None, Ok, Option, Some, IfErr, IfOk, IfSome, OnErr, OnOk, ◌||◌, true};
 ghost use Rattle.std.specs.Io.KnownBytes.{IsAtEnd};
 ghost use Rattle.client_registry.specs.Sized.{IsSized};
-ghost use Rattle.leakage_history.specs.HashedRun.{run_of};
+ghost use Rattle.leakage_history.specs.HashedRun.{epochs_of, run_of};
 ghost use Rattle.script_history.specs.Endings.{ending, seen_of};
 ghost use Rattle.script_history.specs.Turns.{IsElsewhere, first_end, reading_end};
 ghost use Rattle.keyed_fn.specs.KeyedFn.{keyed_fn};
@@ -139,7 +139,7 @@ fn read_second<K: Keyed, S: Source, W: Sink>(
 ) -> Result<bool, StopCause>
     requires few { input.old.number + bytes_to_come input.old.pending (S.handed_out source.old) ≤ 2 ^ 63 }
     requires sized { IsSized (run_of first.history) }
-    ensures goes_on { IfSome (lines_left input.old.pending (S.remaining source.old)) (λ lines. ReadsBehind (keyed_fn K.prf K.pad) first.key (run_of first.history) first.refused input.old.number lines (W.written sink.old) (W.written sink.new) (ending result)) }
+    ensures goes_on { IfSome (lines_left input.old.pending (S.remaining source.old)) (λ lines. ReadsBehind (keyed_fn K.prf K.pad) first.key (epochs_of first.history) first.refused input.old.number lines (W.written sink.old) (W.written sink.new) (ending result)) }
     ensures at_end { OnOk result (IsAtEnd (S.remaining source.new)) }
     ensures source { KeepsSource SourceCause (S.faults source.old) (S.faults source.new) result }
     ensures sink { KeepsSink (W.faults sink.old) (W.faults sink.new) (W.shortages sink.old) (W.shortages sink.new) result }
@@ -160,7 +160,7 @@ fn compare_read<K: Keyed, W: Sink>(
 ) -> Result<bool, StopCause>
     requires sized { IsSized (run_of first.now.history) }
     requires sized_too { IfSome second.history (λ h. IsSized (run_of h)) }
-    ensures goes_on { GoesOnBehind (keyed_fn K.prf K.pad) first.now.key (run_of first.now.history) first.now.refused (reading_end (Ok second)) (W.written sink.old) (W.written sink.new) (ending result) }
+    ensures goes_on { GoesOnBehind (keyed_fn K.prf K.pad) first.now.key (epochs_of first.now.history) first.now.refused (reading_end (Ok second)) (W.written sink.old) (W.written sink.new) (ending result) }
     ensures sink { KeepsSink (W.faults sink.old) (W.faults sink.new) (W.shortages sink.old) (W.shortages sink.new) result }
     ensures elsewhere { IfErr result IsElsewhere }
 {
@@ -187,7 +187,7 @@ fn print_comparison<K: Keyed, W: Sink>(
 ) -> Result<bool, StopCause>
     requires sized { IsSized (run_of first.now.history) }
     requires sized_too { IsSized (run_of other.now) }
-    ensures compares { IsCompared (keyed_fn K.prf K.pad) first.now.key (run_of first.now.history) (run_of other.now) (first.now.refused || refused) (W.written sink.old) (W.written sink.new) (ending result)
+    ensures compares { IsCompared (keyed_fn K.prf K.pad) first.now.key (epochs_of first.now.history) (epochs_of other.now) (first.now.refused || refused) (W.written sink.old) (W.written sink.new) (ending result)
         ⊎ ((W.written sink.new ≡ W.written sink.old) × (ending result ≡ At NoMemory)) }
     ensures sink { KeepsSink (W.faults sink.old) (W.faults sink.new) (W.shortages sink.old) (W.shortages sink.new) result }
     ensures elsewhere { IfErr result IsElsewhere }

@@ -2,7 +2,7 @@ use Rattle.std.proofs.Common.{◌≡◌, ◌+◌, refl, sym, ap, ◌∙◌, subs
 use Rattle.std.specs.Prelude.{IfSome, option_map}
 use Rattle.keyed_fn.specs.KeyFormulas.{plain_key}
 use Rattle.keyed_fn.specs.KeyedFn.{keyed_fn}
-use Rattle.leakage_history.specs.HashedRun.{run_of}
+use Rattle.leakage_history.specs.HashedRun.{epochs_of}
 use Rattle.word_keys.specs.HashNumbers.{numbers_of_key}
 use Rattle.def_script_meaning.specs.Outcome.{opened}
 use Rattle.script_history.specs.Reads.{Whole, ReadsFirstFrom}
@@ -19,8 +19,8 @@ returns-in-Ok-clause-reads g c =
     let read = c.first_script.result.script in
     let last = c.in-Ok.last.progress in
     let number = c.read_lines.new.input.number in
-    let same : Whole key (history_at last.stage) last.refused number ≡ Whole read.key (option_map run_of read.history) read.refused read.next =
-    sym ((λ i. Whole (c.first_script.ensures.key i) (option_map run_of (c.first_script.ensures.history i)) (c.first_script.ensures.refused i) (c.first_script.ensures.next i)) ∙ ap (Whole key (history_at last.stage) last.refused) c.number.ensures) in
+    let same : Whole key (history_at last.stage) last.refused number ≡ Whole read.key (option_map epochs_of read.history) read.refused read.next =
+    sym ((λ i. Whole (c.first_script.ensures.key i) (option_map epochs_of (c.first_script.ensures.history i)) (c.first_script.ensures.refused i) (c.first_script.ensures.next i)) ∙ ap (Whole key (history_at last.stage) last.refused) c.number.ensures) in
     subst (λ end. ReadsFirstFrom (c.args.input.now.number + 1) (first_left (lines_left c.args.input.now.pending (g.S.Source.remaining c.args.source.now))) (g.W.Sink.written c.args.sink.now) (g.W.Sink.written c.read_lines.new.sink) end) same
     (c.in_ok-key.ensures.key (g.W.Sink.written c.args.sink.now) (g.W.Sink.written c.read_lines.new.sink) (Whole key (history_at last.stage) last.refused number) (c.in-Ok.ensures.reads (opened key) (c.new.ensures.none, refl)))
 

@@ -1,6 +1,6 @@
 use Rattle.std.proofs.Common.{◌+◌, refl, subst}
 use Rattle.std.specs.Prelude.{if◌then◌else◌, option_map}
-use Rattle.leakage_history.specs.HashedRun.{run_of}
+use Rattle.leakage_history.specs.HashedRun.{epochs_of}
 use Rattle.script_run_texts.specs.Stops.{stop_cause}
 use Rattle.sse_script.specs.TextLines.{lines_left}
 use Rattle.script_history.proofs.WholeScripts.{at_line, whole-ended, whole-stopped}
@@ -10,7 +10,7 @@ use Rattle.script_history.proofs.script_reader.read_history.Goals as goal
 pub returns-then-at_twin-clause-reads : goal.returns-then-at_twin-clause-reads
 returns-then-at_twin-clause-reads g c =
     let script = c.in-Ok.first.script in
-    let end = Whole script.key (option_map run_of script.history) script.refused script.next in
+    let end = Whole script.key (option_map epochs_of script.history) script.refused script.next in
     let left = lines_left c.args.input.now.pending (g.S.Source.remaining c.args.source.now) in
     let written = g.W.Sink.written c.args.sink.now in
     let last = g.W.Sink.written c.read_first.new.sink in
@@ -20,7 +20,7 @@ returns-then-at_twin-clause-reads g c =
 pub returns-else-at_twin-clause-reads : goal.returns-else-at_twin-clause-reads
 returns-else-at_twin-clause-reads g c =
     let script = c.in-Ok.first.script in
-    let end = Whole script.key (option_map run_of script.history) script.refused script.next in
+    let end = Whole script.key (option_map epochs_of script.history) script.refused script.next in
     let left = lines_left c.args.input.now.pending (g.S.Source.remaining c.args.source.now) in
     let written = g.W.Sink.written c.args.sink.now in
     let last = g.W.Sink.written c.read_first.new.sink in

@@ -16,6 +16,7 @@ use Rattle.sse_script.specs.Views.{line_view}
 use Rattle.sse_script.specs.declared.line.Line.{Line}
 use Rattle.sse_script.specs.declared.refusal.Refusal.TheVariants.{SetUpAlready}
 use Rattle.script_history.proofs.LinesTaken.{IfOk-both, command-behind, commands-behind, of_own, refused-behind, stops_any}
+use Rattle.script_history.specs.Numbered.{one_epoch}
 use Rattle.script_history.specs.Stages.{MayStop, TakesAfter}
 use Rattle.script_history.specs.declared.stage.Stage.TheVariants.{Built}
 use Rattle.script_history.proofs.taken_line.command_of_line.Goals as goal
@@ -33,7 +34,7 @@ returns-in-Add-clause-takes c =
     let own = requests.AddLine c.in-Add.id c.in-Add.words in
     let d = document c.in-Add.id c.in-Add.words in
     IfOk-both c.add.result _ _ _ (λ found same went. of_own (λ q. TakesAfter run q next found) (line_read (line_view c.args.line)) own (ap (λ (line : Line). line_read (line_view line)) c.in-Add.is)
-    (λ place at. command-behind place run at own (add_refusal (Some run) d) found (Add d) (Says (Added c.in-Add.id)) next refl same went)) c.add.ensures.found c.add.ensures.after
+    (λ place at. command-behind place run at own (add_refusal (one_epoch run) d) found (Add d) (Says (Added c.in-Add.id)) next refl same went)) c.add.ensures.found c.add.ensures.after
 
 pub returns-in-Add-clause-may_stop : goal.returns-in-Add-clause-may_stop
 returns-in-Add-clause-may_stop c = subst (λ (line : Line). OnErr c.add.result (MayStop (Built c.args.history.now) (line_view line))) (sym c.in-Add.is) c.add.ensures.may_stop
@@ -44,7 +45,7 @@ returns-in-Del-clause-takes c =
     let next = run_of c.delete.new.history in
     let own = requests.Del c.in-Del.id in
     IfOk-both c.delete.result _ _ _ (λ found same went. of_own (λ q. TakesAfter run q next found) (line_read (line_view c.args.line)) own (ap (λ (line : Line). line_read (line_view line)) c.in-Del.is)
-    (λ place at. command-behind place run at own (delete_refusal (Some run) c.in-Del.id) found (Delete c.in-Del.id) (Says (Deleted c.in-Del.id)) next refl same went)) c.delete.ensures.found c.delete.ensures.after
+    (λ place at. command-behind place run at own (delete_refusal (one_epoch run) c.in-Del.id) found (Delete c.in-Del.id) (Says (Deleted c.in-Del.id)) next refl same went)) c.delete.ensures.found c.delete.ensures.after
 
 pub returns-in-Del-clause-may_stop : goal.returns-in-Del-clause-may_stop
 returns-in-Del-clause-may_stop c = subst (λ (line : Line). OnErr c.delete.result (MayStop (Built c.args.history.now) (line_view line))) (sym c.in-Del.is) c.delete.ensures.may_stop
@@ -56,7 +57,7 @@ returns-in-Find-clause-takes c =
     let word = c.in-Find.word.now in
     let own = requests.Find word in
     IfOk-both c.find.result _ _ _ (λ found same went. of_own (λ q. TakesAfter run q next found) (line_read (line_view c.args.line)) own (ap (λ (line : Line). line_read (line_view line)) c.in-Find.is)
-    (λ place at. command-behind place run at own (bad_word 0 (word ∷ [])) found (Search word) (Finds (matching_in (Some run) word)) next refl same went)) c.find.ensures.found c.find.ensures.after
+    (λ place at. command-behind place run at own (bad_word 0 (word ∷ [])) found (Search word) (Finds (matching_in (one_epoch run) word)) next refl same went)) c.find.ensures.found c.find.ensures.after
 
 pub returns-in-Find-clause-may_stop : goal.returns-in-Find-clause-may_stop
 returns-in-Find-clause-may_stop c = subst (λ (line : Line). OnErr c.find.result (MayStop (Built c.args.history.now) (line_view line))) (sym c.in-Find.is) c.find.ensures.may_stop
@@ -68,7 +69,7 @@ returns-in-Query-clause-takes c =
     let fields = c.in-Query.fields in
     let own = requests.Query fields in
     IfOk-both c.query.result _ _ _ (λ found same went. of_own (λ q. TakesAfter run q next found) (line_read (line_view c.args.line)) own (ap (λ (line : Line). line_read (line_view line)) c.in-Query.is)
-    (λ place at. commands-behind place run at own (fields_refusal fields) found (map (λ word. Search word) (words_of fields)) (Matches fields (map (matching_in (Some run)) (words_of fields))) next refl same went)) c.query.ensures.found c.query.ensures.after
+    (λ place at. commands-behind place run at own (fields_refusal fields) found (map (λ word. Search word) (words_of fields)) (Matches fields (map (matching_in (one_epoch run)) (words_of fields))) next refl same went)) c.query.ensures.found c.query.ensures.after
 
 pub returns-in-Query-clause-may_stop : goal.returns-in-Query-clause-may_stop
 returns-in-Query-clause-may_stop c = subst (λ (line : Line). OnErr c.query.result (MayStop (Built c.args.history.now) (line_view line))) (sym c.in-Query.is) (stops_any c.query.result)

@@ -1,5 +1,4 @@
-use Rattle.std.proofs.Common.{◌≡◌, map, length, sym, ap, ◌∙◌, arith}
-use Rattle.std.specs.Prelude.{Some}
+use Rattle.std.proofs.Common.{map, length, sym, ap, ◌∙◌, arith}
 use Rattle.std.specs.Option.{option_and_then}
 use Rattle.bool_search.specs.LineRefusals.{query_refused}
 use Rattle.client_registry.specs.WordBytes.{word_bytes}

@@ -13,7 +13,7 @@ use Rattle.def_script_meaning.specs.Lines as requests
 use Rattle.def_script_meaning.specs.Outcome.{outcome}
 use Rattle.sse_client.specs.Exchanges.{HasSearched, HasCut}
 use Rattle.sse_client.specs.Stands.{IsAt, seen, GoesOn, MayStop}
-use Rattle.sse_client.proofs.CommandTaken.{takes-find, stops-find, takes-bad_word, takes-not_set_up, stops-bad_word, is_up, searching_still}
+use Rattle.sse_client.proofs.CommandTaken.{takes-find, stops-find, takes-bad_word, takes-not_set_up, stops-bad_word, is_up, key_at, searching_still}
 use Rattle.sse_script.specs.Lines as lines
 use Rattle.sse_client.proofs.session.find.Goals as goal
 use Rattle.sse_client.proofs.session.find.Goals.{in-Ok+in-Ok-search, in-Err+in-Ok-refusal_of}
@@ -35,7 +35,7 @@ returns-in-Err-search-clause-stops g c =
     let same : token_of f c.in-Searching.client.key (word_bytes c.in-Ok.word) ≡ token_of f key c.args.field.now = λ i. token_of f (keyed i) (c.in-Ok.ensures.word i) in
     λ kept place a written.
     let here : IsAt f (Searching c.in-Searching.client) place = subst (λ (s : Stage). IsAt f s place) c.in-Searching.is a in
-    stops-find f place c.args.field.now old new kept (is_up f c.in-Searching.client place here) key (peer_cause stop) a.key c.in-Ok.ensures.good
+    stops-find f place c.args.field.now old new kept (is_up f c.in-Searching.client place here) key (peer_cause stop) (sym keyed ∙ key_at f c.in-Searching.client place here) c.in-Ok.ensures.good
     (subst (λ token. HasCut old new (SearchFrame token ∷ []) (peer_cause stop)) same c.in-Err-search.ensures.stopped) written
 
 pub returns-in-Err-refusal_of-clause-stops : goal.returns-in-Err-refusal_of-clause-stops
@@ -62,7 +62,7 @@ returns-after-word_of-clause-takes g c = λ kept place a.
           let one : HasSearched old (g.L.Link.transcript w.search.new.link) (SearchFrame (token_of f c.in-Searching.client.key (word_bytes w.in-Ok.word))) ids = w.in-Ok-search.ensures.found in
           let there : HasSearched old new (SearchFrame (token_of f c.in-Searching.client.key (word_bytes w.in-Ok.word))) ids =
           subst (λ link. HasSearched old (g.L.Link.transcript link) (SearchFrame (token_of f c.in-Searching.client.key (word_bytes w.in-Ok.word))) ids) (sym w.link-is) one in
-          takes-find f place c.args.field.now old new kept (is_up f c.in-Searching.client place here) next c.match-word_of.outcome key ids a.key w.in-Ok.ensures.good
+          takes-find f place c.args.field.now old new kept (is_up f c.in-Searching.client place here) next c.match-word_of.outcome key ids (sym keyed ∙ key_at f c.in-Searching.client place here) w.in-Ok.ensures.good
           (subst (λ token. HasSearched old new (SearchFrame token) ids) same there) (ap line_result_view w.outcome-is) (ap refuses w.outcome-is)
           (searching_still f c.in-Searching.client place c.args.field.now w.in-Ok.ensures.good here)
       | in-Err+in-Ok-refusal_of w ↦

@@ -2,7 +2,7 @@ use Rattle.std.proofs.Common.{inl, [], refl, sym, ap, subst, ◌∙◌}
 use Rattle.client_core.specs.Owes.{AreNumbered}
 use Rattle.client_core.specs.StandsFor.{StandsFor}
 use Rattle.client_core.specs.declared.ready.Ready.{Ready}
-use Rattle.client_registry.specs.Run.{Run, at_first}
+use Rattle.client_registry.specs.Run.{Run, at_first, From}
 use Rattle.client_registry.specs.Setup.{setup_with}
 use Rattle.keyed_fn.specs.KeyedFn.{keyed_fn}
 use Rattle.sse_model.specs.Epochs.{keys_under}
@@ -26,7 +26,7 @@ returns-in-Err-clause-sends g c = λ frames planned numbered. (refl, c.in-Err.en
 pub returns-clause-stands : goal.returns-clause-stands
 returns-clause-stands g c = λ f.
     let run : Run = record { setup = setup_with c.args.setup.planned.docs.documents c.args.setup.planned.b c.args.setup.planned.big c.args.setup.planned.pad; later = [] } in
-    let keys = keys_under c.args.setup.client.key (Some run) in
+    let keys = keys_under c.args.setup.client.key (Some (From at_first run)) in
     subst (StandsFor f keys at_first run) (sym c.in_ok-ready.ensures.ready) (c.commit-behind.ensures.stands f keys)
 
 pub returns-in_err-ready-clause-sends : goal.returns-in_err-ready-clause-sends

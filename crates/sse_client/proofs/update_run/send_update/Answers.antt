@@ -30,7 +30,7 @@ returns-in_err-ready-in-Ok-Planned-clause-stops g c =
     (λ f place refusal update shown at plan written.
     let p : IsUpdatePlan f place refusal update (Ok (Planned planned)) = subst (IsUpdatePlan f place refusal update) (c.in-Ok-Planned.is ∙ ap (λ answer. Ok answer) c.in-Ok-Planned.field-0-is) plan in
     let commits : CanCarryOut client.state planned = subst (λ r. IfPlanned r (CanCarryOut client.state)) (c.in-Ok-Planned.is ∙ ap (λ answer. Ok answer) c.in-Ok-Planned.field-0-is) c.requires.commits in
-    let frames : List FrameText = frames_of_next f (keys_at place) place.history (update ∷ []) in
+    let frames : List FrameText = frames_of_next f place.key place.history (update ∷ []) in
     let numbered : AreNumbered (first_number c.commit-behind.result.state) frames = subst (λ n. AreNumbered n frames) (sym (c.commit-behind.ensures.first ∙ commits.commits.next)) (numbered-at f place client at planned.update update p.1.command) in
     stops-updated f place refusal update shown client at planned p.0 p.1 old new (Unit {0}) (Exchange stop) (c.in-Ok.ensures.kept, c.in_err-ready-in-Ok-Planned.ensures.sends frames (c.commit-behind.ensures.owed ∙ p.1.frame) numbered) written)
 
@@ -44,7 +44,7 @@ returns-in_ok-ready-in-Ok-Planned-clause-goes_on g c = λ f place refusal update
     let run = at.stands.0 in
     let p : IsUpdatePlan f place refusal update (Ok (Planned planned)) = subst (IsUpdatePlan f place refusal update) (c.in-Ok-Planned.is ∙ ap (λ answer. Ok answer) c.in-Ok-Planned.field-0-is) plan in
     let commits : CanCarryOut client.state planned = subst (λ r. IfPlanned r (CanCarryOut client.state)) (c.in-Ok-Planned.is ∙ ap (λ answer. Ok answer) c.in-Ok-Planned.field-0-is) c.requires.commits in
-    let frames : List FrameText = frames_of_next f (keys_at place) place.history (update ∷ []) in
+    let frames : List FrameText = frames_of_next f place.key place.history (update ∷ []) in
     let numbered : AreNumbered (first_number c.commit-behind.result.state) frames = subst (λ n. AreNumbered n frames) (sym (c.commit-behind.ensures.first ∙ commits.commits.next)) (numbered-at f place client at planned.update update p.1.command) in
     let stands : StandsFor f (keys_at place) at_first (with_command run update) ready.state = subst (StandsFor f (keys_at place) at_first (with_command run update)) (sym c.in_ok-ready-in-Ok-Planned.ensures.ready)
     (subst (λ d. StandsFor f (keys_at place) at_first (with_command run d) c.commit-behind.result.state.ready) p.1.command (c.commit-behind.ensures.stands f (keys_at place) at_first run at.stands.2)) in

@@ -1,10 +1,9 @@
-use Rattle.std.proofs.Common.{◌≡◌, ap, refl, subst, ◌∙◌, arith}
+use Rattle.std.proofs.Common.{ap, subst, ◌∙◌, arith}
 use Rattle.script_run_texts.specs.Causes.{SinkCause, SourceCause}
 use Rattle.script_run_texts.specs.Stops.{stop_cause, stop_status}
 use Rattle.sse_outside.specs.Causes.{Rose}
-use Rattle.def_script_meaning.specs.Stops.{AtEnd}
 use Rattle.script_history.specs.Endings.{stop_for}
-use Rattle.script_history.proofs.Ended.{ends_told, ends_whole, source_same, status_told}
+use Rattle.script_history.proofs.Ended.{ends_told, source_same, status_told}
 use Rattle.sse_leaks.proofs.LeaksPrinted.{has_told}
 use Rattle.sse_leaks.proofs.leak_report.leaks_run.Goals as goal
 

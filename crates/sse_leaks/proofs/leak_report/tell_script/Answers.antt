@@ -1,4 +1,3 @@
-use Rattle.std.proofs.Common.{refl}
 use Rattle.script_run_texts.specs.declared.stop_cause.StopCause.TheVariants as stops
 use Rattle.sse_leaks.proofs.LeaksPrinted.{none_read, told-stopped, told_so}
 use Rattle.sse_leaks.proofs.leak_report.tell_script.Goals as goal

@@ -1,4 +1,4 @@
-use Rattle.leakage_history.specs.HashedRun.{run_of}
+use Rattle.leakage_history.specs.HashedRun.{epochs_of}
 use Rattle.script_history.specs.Endings.{ending}
 use Rattle.script_history.specs.Turns.{reading_end}
 use Rattle.keyed_fn.specs.KeyedFn.{keyed_fn}
@@ -9,7 +9,7 @@ use Rattle.sse_local.proofs.twin.read_second.Goals as goal
 
 pub returns-in-Ok-clause-goes_on : goal.returns-in-Ok-clause-goes_on
 returns-in-Ok-clause-goes_on g c =
-    reads-behind (keyed_fn g.K.Keyed.prf g.K.Keyed.pad) c.args.first.key (run_of c.args.first.history) c.args.first.refused c.args.input.now.number (lines_left c.args.input.now.pending (g.S.Source.remaining c.args.source.now)) (g.W.Sink.written c.args.sink.now)
+    reads-behind (keyed_fn g.K.Keyed.prf g.K.Keyed.pad) c.args.first.key (epochs_of c.args.first.history) c.args.first.refused c.args.input.now.number (lines_left c.args.input.now.pending (g.S.Source.remaining c.args.source.now)) (g.W.Sink.written c.args.sink.now)
     (g.W.Sink.written c.read_history.new.sink) (g.W.Sink.written c.compare_read.new.sink) (reading_end (Ok c.in-Ok.second)) (ending c.compare_read.result) c.in-Ok.ensures.reads c.compare_read.ensures.goes_on
 
 pub returns-in-Ok-clause-source : goal.returns-in-Ok-clause-source
