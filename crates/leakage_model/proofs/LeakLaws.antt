@@ -11,7 +11,7 @@ use Rattle.client_registry.specs.Command.{Command, Add, Delete, Search}
 use Rattle.client_registry.specs.Document.{Document}
 use Rattle.client_registry.specs.Documents.{is_live}
 use Rattle.client_registry.specs.Live.{after, live}
-use Rattle.client_registry.specs.Run.{at_first}
+use Rattle.client_registry.specs.Run.{Offsets}
 use Rattle.client_registry.specs.Setup.{Setup, setup_of}
 use Rattle.client_registry.specs.Sized.{is_accepted}
 use Rattle.client_registry.specs.WordBytes.{word_bytes}
@@ -28,25 +28,25 @@ use Rattle.leakage_model.specs.WordFacts.{WordFacts, added_leak, deleted_leak, l
 pub told : (es : List (Word × WordFacts)) (bs : List ℕ) (o : Option WordFacts) → o ≡ lookup (λ k. bytes_eq bs (word_bytes k)) es → unwrap_or o unnamed ≡ facts_in es bs
 told es bs o found = ap (λ m. unwrap_or m unnamed) found
 
-module _ (s : Setup) (past : List Command) (word : List ℕ) where
-  pub added-word_facts : (id : ℕ) → added_leak id (word_facts s past word) ≡ word_added at_first s past id word
+module _ (o : Offsets) (s : Setup) (past : List Command) (word : List ℕ) where
+  pub added-word_facts : (id : ℕ) → added_leak id (word_facts o s past word) ≡ word_added o s past id word
   added-word_facts id = λ i. record {
-    sent = if lists-listed_leaks s word past id i then sent_at (number-listed_leaks s word past id i) else NewEntry;
-    seen = seen_by id (first_search at_first past word);
+    sent = if lists-listed_leaks o s word past id i then sent_at (number-listed_leaks o s word past id i) else NewEntry;
+    seen = seen_by id (first_search o past word);
   }
 
-  pub deleted-word_facts : (id : ℕ) → deleted_leak id (word_facts s past word) ≡ word_deleted at_first s past id word
+  pub deleted-word_facts : (id : ℕ) → deleted_leak id (word_facts o s past word) ≡ word_deleted o s past id word
   deleted-word_facts id = λ i. record {
-    sent = sent_at (number-listed_leaks s word past id i);
-    seen = seen_by id (first_search at_first past word);
+    sent = sent_at (number-listed_leaks o s word past id i);
+    seen = seen_by id (first_search o past word);
   }
 
-  pub search-word_facts : search_leak (word_facts s past word) ≡ leak_by at_first s past (Search word)
-  search-word_facts = ap (SearchLeak (first_search at_first past word) (home s word) (listed_leaks s past word)) (found-listed_leaks s word past)
+  pub search-word_facts : search_leak (word_facts o s past word) ≡ leak_by o s past (Search word)
+  search-word_facts = ap (SearchLeak (first_search o past word) (home s word) (listed_leaks o s past word)) (found-listed_leaks o s word past)
 
 -- a setup's number of dummies changes nothing of a word
-pub word_facts-setup : (s : Setup) (docs : List Document) (shape : Shape) → docs ≡ s.documents → shape ≡ s.shape → (word : List ℕ) → word_facts (setup_of docs shape.b shape.big) [] word ≡ word_facts s [] word
-word_facts-setup s docs shape same alike word = λ i. word_facts (setup_of (same i) (alike i).b (alike i).big) [] word
+pub word_facts-setup : (o : Offsets) (s : Setup) (docs : List Document) (shape : Shape) → docs ≡ s.documents → shape ≡ s.shape → (word : List ℕ) → word_facts o (setup_of docs shape.b shape.big) [] word ≡ word_facts o s [] word
+word_facts-setup o s docs shape same alike word = λ i. word_facts o (setup_of (same i) (alike i).b (alike i).big) [] word
 
 -- live documents have different identifiers after an accepted command too
 same_id : (docs : List Document) (id : ℕ) → is_live docs id ≡ among id (map (λ d. d.id) docs)

@@ -6,3 +6,4 @@ pub mod BesideLaws
 pub mod LeakLaws
 pub mod SetupLaws
 pub mod ListLaws
+pub mod EpochLeaks

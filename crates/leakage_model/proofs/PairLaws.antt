@@ -1,5 +1,5 @@
 -- What is told of a pair, and of all pairs of a word, after one command more.
-use Rattle.std.proofs.Common.{◌≡◌, ℕ, ◌+◌, Bool, true, false, cond, not, ◌&&◌, ◌||◌, List, [], ◌∷◌, ◌++◌, length, map, filter, find, refl, sym, ap, ◌∙◌, arith, append_assoc, eqb-true, Some, None}
+use Rattle.std.proofs.Common.{◌≡◌, ℕ, ◌+◌, Bool, true, false, cond, not, ◌&&◌, ◌||◌, List, [], ◌∷◌, ◌++◌, length, map, filter, find, refl, sym, ap, ◌∙◌, append_assoc, eqb-true, Some, None}
 use Rattle.std.specs.Prelude.{Option, flat_map, if◌then◌else◌, option_map, ◌==◌}
 use Rattle.std.specs.List.{list_any}
 use Rattle.std.specs.Option.{option_or, option_and_then}
@@ -15,7 +15,7 @@ use Rattle.client_registry.specs.Command.{Command, Add, Delete, Search}
 use Rattle.client_registry.specs.Documents.{has_word}
 use Rattle.client_registry.specs.Live.{holds_pair, adds_pair, is_listed, is_live_with, shown}
 use Rattle.client_registry.specs.Over.{over}
-use Rattle.client_registry.specs.Run.{at_first}
+use Rattle.client_registry.specs.Run.{Offsets}
 use Rattle.client_registry.specs.Setup.{Setup}
 use Rattle.def_leakage.proofs.ListedPairs.{ids, ids-listed_pairs}
 use Rattle.def_leakage.proofs.Places.{earliest-push}
@@ -66,20 +66,20 @@ and-false false = refl
 
 -- What is listed.
 
-module _ (s : Setup) (word : List ℕ) where
+module _ (o : Offsets) (s : Setup) (word : List ℕ) where
   abbrev pairs : List Command → List (ℕ × Origin)
-  pairs past = listed_pairs at_first s past word
+  pairs past = listed_pairs o s past word
 
   abbrev pub pair : List Command → ℕ × Origin → ListedLeak
-  pair past p = pair_leak at_first s past word p
+  pair past p = pair_leak o s past word p
 
   -- the pairs after one command more
-  pub listed_pairs-push : (past : List Command) (c : Command) → pairs (past ++ c ∷ []) ≡ pairs past ++ listed_by at_first s word past c
+  pub listed_pairs-push : (past : List Command) (c : Command) → pairs (past ++ c ∷ []) ≡ pairs past ++ listed_by o s word past c
   listed_pairs-push past c =
-      ap (λ rest. listed_in_setup at_first s word ++ flat_map (λ ps. ps) rest) (over-append (listed_by at_first s word) [] past (c ∷ []))
-      ∙ ap (λ rest. listed_in_setup at_first s word ++ rest) (flat_map-append (λ ps. ps) (over (listed_by at_first s word) [] past) (listed_by at_first s word past c ∷ []))
-      ∙ ap (λ rest. listed_in_setup at_first s word ++ (flat_map (λ ps. ps) (over (listed_by at_first s word) [] past) ++ rest)) (append-nil (listed_by at_first s word past c))
-      ∙ sym (append_assoc (listed_in_setup at_first s word) (flat_map (λ ps. ps) (over (listed_by at_first s word) [] past)) (listed_by at_first s word past c))
+      ap (λ rest. listed_in_setup o s word ++ flat_map (λ ps. ps) rest) (over-append (listed_by o s word) [] past (c ∷ []))
+      ∙ ap (λ rest. listed_in_setup o s word ++ rest) (flat_map-append (λ ps. ps) (over (listed_by o s word) [] past) (listed_by o s word past c ∷ []))
+      ∙ ap (λ rest. listed_in_setup o s word ++ (flat_map (λ ps. ps) (over (listed_by o s word) [] past) ++ rest)) (append-nil (listed_by o s word past c))
+      ∙ sym (append_assoc (listed_in_setup o s word) (flat_map (λ ps. ps) (over (listed_by o s word) [] past)) (listed_by o s word past c))
 
   among-firsts : (id : ℕ) (ps : List (ℕ × Origin)) → list_any (λ p. id == p.0) ps ≡ among id (ids ps)
   among-firsts id [] = refl
@@ -87,9 +87,9 @@ module _ (s : Setup) (word : List ℕ) where
 
   -- a pair is among them where it is listed
   pub any-pairs : (past : List Command) (id : ℕ) → list_any (λ p. id == p.0) (pairs past) ≡ is_listed s past word id
-  any-pairs past id = among-firsts id (pairs past) ∙ ap (among id) (ids-listed_pairs at_first s word past) ∙ sym (is_listed-lists s word id past)
+  any-pairs past id = among-firsts id (pairs past) ∙ ap (among id) (ids-listed_pairs o s word past) ∙ sym (is_listed-lists s word id past)
 
-  pub lists-listed_leaks : (past : List Command) (id : ℕ) → lists id (listed_leaks s past word) ≡ is_listed s past word id
+  pub lists-listed_leaks : (past : List Command) (id : ℕ) → lists id (listed_leaks o s past word) ≡ is_listed s past word id
   lists-listed_leaks past id = any-map (λ p. id == p.id) (pair past) (pairs past) ∙ any-pairs past id
 
   -- What is live.
@@ -106,19 +106,19 @@ module _ (s : Setup) (word : List ℕ) where
       by false h = h
 
   -- what a search finds are those that aren't revoked
-  pub found-listed_leaks : (past : List Command) → map (λ p. p.id) (filter (λ p. not p.revoked) (listed_leaks s past word)) ≡ shown s past word
-  found-listed_leaks past = still_live past (pairs past) ∙ ap (filter (is_live_with s past word)) (ids-listed_pairs at_first s word past)
+  pub found-listed_leaks : (past : List Command) → map (λ p. p.id) (filter (λ p. not p.revoked) (listed_leaks o s past word)) ≡ shown s past word
+  found-listed_leaks past = still_live past (pairs past) ∙ ap (filter (is_live_with s past word)) (ids-listed_pairs o s word past)
 
   -- What was sent.
 
   -- where the number was sent, after one command more
-  pub number_origin-push : (past : List Command) (c : Command) (id k : ℕ) → k ≡ length past + 1
-      → number_origin at_first s (past ++ c ∷ []) word id
-      ≡ option_or (number_origin at_first s past word id) (option_map (origin k) (place_where (sends_number s word id past c) word (update_words s past c)))
+  pub number_origin-push : (past : List Command) (c : Command) (id k : ℕ) → k ≡ o.command + 1 + length past
+      → number_origin o s (past ++ c ∷ []) word id
+      ≡ option_or (number_origin o s past word id) (option_map (origin k) (place_where (sends_number s word id past c) word (update_words s past c)))
   number_origin-push past c id k e =
-      earliest-push at_first (λ before x. place_where (sends_number s word id before x) word (update_words s before x)) past c
-      ∙ ap (λ n. option_or (number_origin at_first s past word id) (option_map (origin n) (place_where (sends_number s word id past c) word (update_words s past c))))
-      (let same : at_first.command + 1 + length past ≡ k = omega (arith, e) in same)
+      earliest-push o (λ before x. place_where (sends_number s word id before x) word (update_words s before x)) past c
+      ∙ ap (λ n. option_or (number_origin o s past word id) (option_map (origin n) (place_where (sends_number s word id past c) word (update_words s past c))))
+      (sym e)
 
   -- a number that is sent is that of a listed pair
   sends_listed : (past : List Command) (c : Command) (id : ℕ) → is_listed s past word id ≡ false → sends_number s word id past c ≡ false
@@ -130,37 +130,37 @@ module _ (s : Setup) (word : List ℕ) where
       by false is = and-false (other == id)
   sends_listed past (Search other) id none = refl
 
-  pub unlisted_number : (past : List Command) (id : ℕ) → is_listed s past word id ≡ false → number_origin at_first s past word id ≡ None
-  unlisted_number past id = from_end (λ xs. is_listed s xs word id ≡ false → number_origin at_first s xs word id ≡ None) (λ _. refl) push past
+  pub unlisted_number : (past : List Command) (id : ℕ) → is_listed s past word id ≡ false → number_origin o s past word id ≡ None
+  unlisted_number past id = from_end (λ xs. is_listed s xs word id ≡ false → number_origin o s xs word id ≡ None) (λ _. refl) push past
     where
-      push : (xs : List Command) (c : Command) → (is_listed s xs word id ≡ false → number_origin at_first s xs word id ≡ None) → is_listed s (xs ++ c ∷ []) word id ≡ false
-          → number_origin at_first s (xs ++ c ∷ []) word id ≡ None
+      push : (xs : List Command) (c : Command) → (is_listed s xs word id ≡ false → number_origin o s xs word id ≡ None) → is_listed s (xs ++ c ∷ []) word id ≡ false
+          → number_origin o s (xs ++ c ∷ []) word id ≡ None
       push xs c had none =
           let held = holds_pair s.documents word id in
           let parts = or_parts held (list_any (adds_pair word id) (xs ++ c ∷ [])) none in
           let added = or_parts (list_any (adds_pair word id) xs) (adds_pair word id c || false) (sym (list_any-append (adds_pair word id) xs (c ∷ [])) ∙ parts.1) in
           let before : is_listed s xs word id ≡ false = or_from held (list_any (adds_pair word id) xs) parts.0 added.0 in
-          number_origin-push xs c id (length xs + 1) refl
-          ∙ (λ i. option_or (had before i) (option_map (origin (length xs + 1)) (place_where (sends_listed xs c id before i) word (update_words s xs c))))
+          number_origin-push xs c id (o.command + 1 + length xs) refl
+          ∙ (λ i. option_or (had before i) (option_map (origin (o.command + 1 + length xs)) (place_where (sends_listed xs c id before i) word (update_words s xs c))))
 
   number_found : (past : List Command) (id : ℕ) (ps : List (ℕ × Origin))
-      → number_among id (map (pair past) ps) ≡ (if list_any (λ p. id == p.0) ps then number_origin at_first s past word id else None)
+      → number_among id (map (pair past) ps) ≡ (if list_any (λ p. id == p.0) ps then number_origin o s past word id else None)
   number_found past id [] = refl
   number_found past id (p ∷ ps) = by (id == p.0) refl (number_found past id ps)
     where
-      by : (b : Bool) → (id == p.0) ≡ b → number_among id (map (pair past) ps) ≡ (if list_any (λ q. id == q.0) ps then number_origin at_first s past word id else None)
+      by : (b : Bool) → (id == p.0) ≡ b → number_among id (map (pair past) ps) ≡ (if list_any (λ q. id == q.0) ps then number_origin o s past word id else None)
           → option_and_then (λ (q : ListedLeak). q.number) (cond b (Some (pair past p)) (find (λ q. id == q.id) (map (pair past) ps)))
-          ≡ (if b || list_any (λ q. id == q.0) ps then number_origin at_first s past word id else None)
-      by true is h = ap (number_origin at_first s past word) (sym (eqb-true id p.0 is))
+          ≡ (if b || list_any (λ q. id == q.0) ps then number_origin o s past word id else None)
+      by true is h = ap (number_origin o s past word) (sym (eqb-true id p.0 is))
       by false is h = h
 
   -- the number of a pair is found among the pairs
-  pub number-listed_leaks : (past : List Command) (id : ℕ) → number_among id (listed_leaks s past word) ≡ number_origin at_first s past word id
+  pub number-listed_leaks : (past : List Command) (id : ℕ) → number_among id (listed_leaks o s past word) ≡ number_origin o s past word id
   number-listed_leaks past id =
       number_found past id (pairs past)
-      ∙ ap (λ b. if b then number_origin at_first s past word id else None) (any-pairs past id)
+      ∙ ap (λ b. if b then number_origin o s past word id else None) (any-pairs past id)
       ∙ by (is_listed s past word id) refl
     where
-      by : (b : Bool) → is_listed s past word id ≡ b → (if b then number_origin at_first s past word id else None) ≡ number_origin at_first s past word id
+      by : (b : Bool) → is_listed s past word id ≡ b → (if b then number_origin o s past word id else None) ≡ number_origin o s past word id
       by true is = refl
       by false is = sym (unlisted_number past id is)

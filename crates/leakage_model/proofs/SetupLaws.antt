@@ -15,7 +15,7 @@ use Rattle.client_registry.specs.Acceptance.{blocks_of}
 use Rattle.client_registry.specs.Document.{Document}
 use Rattle.client_registry.specs.Documents.{has_word, ids_with}
 use Rattle.client_registry.specs.Live.{holds_pair}
-use Rattle.client_registry.specs.Run.{at_first}
+use Rattle.client_registry.specs.Run.{Offsets}
 use Rattle.client_registry.specs.Setup.{Setup, setup_list, setup_words}
 use Rattle.def_leakage.specs.Firsts.{origin, place_of}
 use Rattle.def_leakage.specs.CommandLeaks.{home, listed_in_setup, pair_leak}
@@ -23,29 +23,30 @@ use Rattle.sse_model.specs.Positions.{word_blocks}
 use Rattle.sse_simulator.specs.Leaks.{Home, ListedLeak}
 use Rattle.leakage_model.specs.WordFacts.{WordFacts, listed_leaks, lists, new_pair, placed_at, sent_among, set_up_with, unnamed, word_facts}
 
--- the pairs of a word that these identifiers list, in the order of the documents, from this place on
-abbrev pub setup_pairs_from : ℕ → List ℕ → List ListedLeak
-setup_pairs_from n ids = map (λ item. new_pair item.1 (origin 0 item.0)) (enumerate_from n ids)
+-- the pairs of a word that these identifiers list, in the order of the documents, from this place on, where the setup is the command of
+-- this number
+abbrev pub setup_pairs_from : (first : ℕ) → ℕ → List ℕ → List ListedLeak
+setup_pairs_from first n ids = map (λ item. new_pair item.1 (origin first item.0)) (enumerate_from n ids)
 
-abbrev pub setup_pairs : List ℕ → List ListedLeak
-setup_pairs ids = setup_pairs_from 0 ids
+abbrev pub setup_pairs : (first : ℕ) → List ℕ → List ListedLeak
+setup_pairs first ids = setup_pairs_from first 0 ids
 
 -- what is told of a word that these documents list
-abbrev pub told_of : Setup → List Document → List ℕ → WordFacts
-told_of s docs word = record { search = None; home = home s word; listed = setup_pairs (ids_with docs word) }
+abbrev pub told_of : (first : ℕ) → Setup → List Document → List ℕ → WordFacts
+told_of first s docs word = record { search = None; home = home s word; listed = setup_pairs first (ids_with docs word) }
 
-pairs-push : (n : ℕ) (ids : List ℕ) (id : ℕ) → setup_pairs_from n (ids ++ id ∷ []) ≡ setup_pairs_from n ids ++ new_pair id (origin 0 (n + length ids)) ∷ []
-pairs-push n [] id = ap (λ k. new_pair id (origin 0 k) ∷ []) (let same : n ≡ n + 0 = omega arith in same)
-pairs-push n (x ∷ ids) id =
-    ap (λ rest. new_pair x (origin 0 n) ∷ rest) (pairs-push (n + 1) ids id ∙ ap (λ k. setup_pairs_from (n + 1) ids ++ new_pair id (origin 0 k) ∷ []) (let same : n + 1 + length ids ≡ n + suc (length ids) = omega arith in same))
+pairs-push : (first n : ℕ) (ids : List ℕ) (id : ℕ) → setup_pairs_from first n (ids ++ id ∷ []) ≡ setup_pairs_from first n ids ++ new_pair id (origin first (n + length ids)) ∷ []
+pairs-push first n [] id = ap (λ k. new_pair id (origin first k) ∷ []) (let same : n ≡ n + 0 = omega arith in same)
+pairs-push first n (x ∷ ids) id =
+    ap (λ rest. new_pair x (origin first n) ∷ rest) (pairs-push first (n + 1) ids id ∙ ap (λ k. setup_pairs_from first (n + 1) ids ++ new_pair id (origin first k) ∷ []) (let same : n + 1 + length ids ≡ n + suc (length ids) = omega arith in same))
 
-length-pairs : (n : ℕ) (ids : List ℕ) → length (setup_pairs_from n ids) ≡ length ids
-length-pairs n [] = refl
-length-pairs n (x ∷ ids) = ap (λ k. suc k) (length-pairs (n + 1) ids)
+length-pairs : (first n : ℕ) (ids : List ℕ) → length (setup_pairs_from first n ids) ≡ length ids
+length-pairs first n [] = refl
+length-pairs first n (x ∷ ids) = ap (λ k. suc k) (length-pairs first (n + 1) ids)
 
-lists-pairs : (id n : ℕ) (ids : List ℕ) → lists id (setup_pairs_from n ids) ≡ among id ids
-lists-pairs id n [] = refl
-lists-pairs id n (x ∷ ids) = λ i. nat_eq_equiv.symm id x i || lists-pairs id (n + 1) ids i
+lists-pairs : (first id n : ℕ) (ids : List ℕ) → lists id (setup_pairs_from first n ids) ≡ among id ids
+lists-pairs first id n [] = refl
+lists-pairs first id n (x ∷ ids) = λ i. nat_eq_equiv.symm id x i || lists-pairs first id (n + 1) ids i
 
 ids_with-push : (docs : List Document) (d : Document) (word : List ℕ) → ids_with (docs ++ d ∷ []) word ≡ ids_with docs word ++ (if has_word word d then d.id ∷ [] else [])
 ids_with-push docs d word =
@@ -68,28 +69,28 @@ not_with (d ∷ docs) word id none =
     by false own rest = rest
 
 -- one document more, whose identifier is new
-pub told_of-push : (s : Setup) (docs : List Document) (d : Document) (word : List ℕ) → among d.id (map (λ x. x.id) docs) ≡ false
-    → (if has_word word d then set_up_with d.id (told_of s docs word) else told_of s docs word) ≡ told_of s (docs ++ d ∷ []) word
-told_of-push s docs d word new =
-    by (has_word word d) ∙ ap (λ ids. record { search = None; home = home s word; listed = setup_pairs ids }) (sym (ids_with-push docs d word))
+pub told_of-push : (first : ℕ) (s : Setup) (docs : List Document) (d : Document) (word : List ℕ) → among d.id (map (λ x. x.id) docs) ≡ false
+    → (if has_word word d then set_up_with first d.id (told_of first s docs word) else told_of first s docs word) ≡ told_of first s (docs ++ d ∷ []) word
+told_of-push first s docs d word new =
+    by (has_word word d) ∙ ap (λ ids. record { search = None; home = home s word; listed = setup_pairs first ids }) (sym (ids_with-push docs d word))
   where
-    none : lists d.id (setup_pairs (ids_with docs word)) ≡ false
-    none = lists-pairs d.id 0 (ids_with docs word) ∙ not_with docs word d.id new
+    none : lists d.id (setup_pairs first (ids_with docs word)) ≡ false
+    none = lists-pairs first d.id 0 (ids_with docs word) ∙ not_with docs word d.id new
 
-    by : (b : Bool) → (if b then set_up_with d.id (told_of s docs word) else told_of s docs word) ≡ record { search = None; home = home s word; listed = setup_pairs (ids_with docs word ++ (if b then d.id ∷ [] else [])) }
+    by : (b : Bool) → (if b then set_up_with first d.id (told_of first s docs word) else told_of first s docs word) ≡ record { search = None; home = home s word; listed = setup_pairs first (ids_with docs word ++ (if b then d.id ∷ [] else [])) }
     by true = λ i. record {
       search = None;
       home = home s word;
       listed =
-          (ap (λ b. if b then sent_among d.id (origin 0 (length (setup_pairs (ids_with docs word)))) false (setup_pairs (ids_with docs word)) else setup_pairs (ids_with docs word) ++ new_pair d.id (origin 0 (length (setup_pairs (ids_with docs word)))) ∷ []) none
-          ∙ ap (λ n. setup_pairs (ids_with docs word) ++ new_pair d.id (origin 0 n) ∷ []) (length-pairs 0 (ids_with docs word) ∙ (let same : length (ids_with docs word) ≡ 0 + length (ids_with docs word) = omega arith in same))
-          ∙ sym (pairs-push 0 (ids_with docs word) d.id)) i;
+          (ap (λ b. if b then sent_among d.id (origin first (length (setup_pairs first (ids_with docs word)))) false (setup_pairs first (ids_with docs word)) else setup_pairs first (ids_with docs word) ++ new_pair d.id (origin first (length (setup_pairs first (ids_with docs word)))) ∷ []) none
+          ∙ ap (λ n. setup_pairs first (ids_with docs word) ++ new_pair d.id (origin first n) ∷ []) (length-pairs first 0 (ids_with docs word) ∙ (let same : length (ids_with docs word) ≡ 0 + length (ids_with docs word) = omega arith in same))
+          ∙ sym (pairs-push first 0 (ids_with docs word) d.id)) i;
     }
-    by false = ap (λ ids. record { search = None; home = home s word; listed = setup_pairs ids }) (sym (append-nil (ids_with docs word)))
+    by false = ap (λ ids. record { search = None; home = home s word; listed = setup_pairs first ids }) (sym (append-nil (ids_with docs word)))
 
 -- no more pairs than documents
-pub few_pairs : (s : Setup) (docs : List Document) (word : List ℕ) → length (told_of s docs word).listed ≤ length docs
-few_pairs s docs word = omega (arith, length-pairs 0 (ids_with docs word), length-map (filter (has_word word) docs) (λ d. d.id), few docs)
+pub few_pairs : (first : ℕ) (s : Setup) (docs : List Document) (word : List ℕ) → length (told_of first s docs word).listed ≤ length docs
+few_pairs first s docs word = omega (arith, length-pairs first 0 (ids_with docs word), length-map (filter (has_word word) docs) (λ d. d.id), few docs)
   where
     few : (ds : List Document) → length (filter (has_word word) ds) ≤ length ds
     few [] = omega arith
@@ -100,22 +101,22 @@ few_pairs s docs word = omega (arith, length-pairs 0 (ids_with docs word), lengt
         by false h = omega (arith, h)
 
 -- all documents of a setup
-pub told_of-all : (s : Setup) (word : List ℕ) → told_of s s.documents word ≡ word_facts s [] word
-told_of-all s word = λ i. record { search = None; home = home s word; listed = sym listed i }
+pub told_of-all : (o : Offsets) (s : Setup) (word : List ℕ) → told_of o.command s s.documents word ≡ word_facts o s [] word
+told_of-all o s word = λ i. record { search = None; home = home s word; listed = sym listed i }
   where
     each : (n : ℕ) (ids : List ℕ) → ((id : ℕ) → among id ids ≡ true → holds_pair s.documents word id ≡ true)
-        → map (pair_leak at_first s [] word) (map (λ (item : ℕ × ℕ). (item.1, origin 0 item.0)) (enumerate_from n ids)) ≡ setup_pairs_from n ids
+        → map (pair_leak o s [] word) (map (λ (item : ℕ × ℕ). (item.1, origin o.command item.0)) (enumerate_from n ids)) ≡ setup_pairs_from o.command n ids
     each n [] held = refl
     each n (id ∷ ids) held =
         let own : holds_pair s.documents word id ≡ true = held id (ap (λ b. b || among id ids) (nat_eq_equiv.refl id)) in
-        λ i. record { id = id; origin = origin 0 n; number = None; revoked = not (own i) } ∷ each (n + 1) ids (λ other there. held other (later (id == other) (among other ids) there)) i
+        λ i. record { id = id; origin = origin o.command n; number = None; revoked = not (own i) } ∷ each (n + 1) ids (λ other there. held other (later (id == other) (among other ids) there)) i
       where
         later : (a b : Bool) → b ≡ true → (a || b) ≡ true
         later true b h = refl
         later false b h = h
 
-    listed : listed_leaks s [] word ≡ setup_pairs (setup_list s word)
-    listed = ap (map (pair_leak at_first s [] word)) (append-nil (listed_in_setup at_first s word)) ∙ each 0 (setup_list s word) (λ id there. sym (among-ids_with s.documents word id) ∙ there)
+    listed : listed_leaks o s [] word ≡ setup_pairs o.command (setup_list s word)
+    listed = ap (map (pair_leak o s [] word)) (append-nil (listed_in_setup o s word)) ∙ each 0 (setup_list s word) (λ id there. sym (among-ids_with s.documents word id) ∙ there)
 
 -- the identifier of a document is none of those before it
 pub new_id : (docs : List Document) (i : ℕ) (d : Document) → IsDistinct (λ x y. x == y) (map (λ x. x.id) docs) → i < length docs → get_or docs i d ≡ d → among d.id (map (λ x. x.id) (take i docs)) ≡ false

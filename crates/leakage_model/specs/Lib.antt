@@ -1,3 +1,4 @@
+pub mod EpochRuns
 pub mod WordFacts
 pub mod Pairs
 pub mod PairsView

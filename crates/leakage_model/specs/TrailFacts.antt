@@ -9,6 +9,7 @@ use Rattle.client_registry.specs.Document.{Document}
 use Rattle.client_registry.specs.HashNumbers.{hash_numbers}
 use Rattle.client_registry.specs.Live.{live}
 use Rattle.client_registry.specs.Registered.{Represents}
+use Rattle.client_registry.specs.Run.{Offsets}
 use Rattle.client_registry.specs.Setup.{Setup, setup_of}
 use Rattle.client_registry.specs.WordBytes.{word_bytes}
 use Rattle.client_registry.specs.declared.word.Word.{Word}
@@ -22,16 +23,16 @@ use Rattle.leakage_model.specs.declared.trail.Trail.{Trail}
 abbrev pub facts_in : List (Word × WordFacts) → List ℕ → WordFacts
 facts_in entries word = unwrap_or (lookup (λ w. bytes_eq word (word_bytes w)) entries) unnamed
 
--- these entries tell of each word what a server can know of it after a setup and these commands
-abbrev pub Tells : List (Word × WordFacts) → Setup → List Command → Type 0
-Tells entries s past = (word : List ℕ) → facts_in entries word ≡ word_facts s past word
+-- these entries tell of each word what a server can know of it after a setup and these commands, where their run begins
+abbrev pub Tells : List (Word × WordFacts) → Offsets → Setup → List Command → Type 0
+Tells entries o s past = (word : List ℕ) → facts_in entries word ≡ word_facts o s past word
 
--- a trail is that of a setup and these commands after it
-pub record Follows (t : Trail) (s : Setup) (past : List Command) : Type 0 where
-  pub words : Tells t.words.entries s past
+-- a trail is that of a setup and these commands after it, where their run begins
+pub record Follows (t : Trail) (o : Offsets) (s : Setup) (past : List Command) : Type 0 where
+  pub words : Tells t.words.entries o s past
   pub registry : Represents t.registry s past
-  -- the number of the next command, the setup being command 0
-  pub next : t.next ≡ length past + 1
+  -- the number of the next command
+  pub next : t.next ≡ o.command + 1 + length past
   -- live documents have different identifiers
   pub apart : AreApart (map (λ d. d.id) (live s.documents past))
 

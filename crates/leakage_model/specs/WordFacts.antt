@@ -3,7 +3,7 @@ use Rattle.std.specs.Prelude.{ℕ, Bool, true, false, ◌==◌, List, [], ◌∷
 use Rattle.std.specs.List.{list_any}
 use Rattle.std.specs.Option.{option_or, option_and_then}
 use Rattle.client_registry.specs.Command.{Command}
-use Rattle.client_registry.specs.Run.{at_first}
+use Rattle.client_registry.specs.Run.{Offsets}
 use Rattle.client_registry.specs.Setup.{Setup}
 use Rattle.def_leakage.specs.Firsts.{first_search, origin}
 use Rattle.def_leakage.specs.CommandLeaks.{home, listed_pairs, pair_leak, sent_at, seen_by}
@@ -22,15 +22,15 @@ abbrev pub unnamed : WordFacts
 unnamed = record { search = None; home = None; listed = [] }
 
 -- the pairs of a word after a setup and these commands
-abbrev pub listed_leaks : Setup → List Command → List ℕ → List ListedLeak
-listed_leaks s past word = map (pair_leak at_first s past word) (listed_pairs at_first s past word)
+abbrev pub listed_leaks : Offsets → Setup → List Command → List ℕ → List ListedLeak
+listed_leaks o s past word = map (pair_leak o s past word) (listed_pairs o s past word)
 
--- of a word after a setup and these commands
-abbrev pub word_facts : Setup → List Command → List ℕ → WordFacts
-word_facts s past word = record {
-  search = first_search at_first past word;
+-- of a word after a setup and these commands, where their run begins
+abbrev pub word_facts : Offsets → Setup → List Command → List ℕ → WordFacts
+word_facts o s past word = record {
+  search = first_search o past word;
   home = home s word;
-  listed = listed_leaks s past word;
+  listed = listed_leaks o s past word;
 }
 
 -- whether one of these pairs has the identifier
@@ -69,9 +69,9 @@ deleted_at id there f = record { search = f.search; home = f.home; listed = sent
 abbrev pub searched_by : ℕ → WordFacts → WordFacts
 searched_by command f = record { search = option_or f.search (Some command); home = f.home; listed = f.listed }
 
--- after a document of the setup with this identifier, which holds the word
-abbrev pub set_up_with : ℕ → WordFacts → WordFacts
-set_up_with id f = record { search = f.search; home = f.home; listed = listed_with id (origin 0 (length f.listed)) f.listed }
+-- after a document with this identifier, which holds the word, of a setup that is the command of this number
+abbrev pub set_up_with : (first : ℕ) → ℕ → WordFacts → WordFacts
+set_up_with first id f = record { search = f.search; home = f.home; listed = listed_with id (origin first (length f.listed)) f.listed }
 
 -- What an addition with this identifier shows of the word, and what a deletion of it.
 abbrev pub added_leak : ℕ → WordFacts → WordLeak

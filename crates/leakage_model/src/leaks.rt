@@ -1,19 +1,22 @@
-ghost use Rattle.std.specs.Prelude.{◌≡◌, ◌+◌, ◌<◌, ◌^◌, ◌++◌, ◌∷◌, [], ℕ, All, IfOk, List, None, OnOk, length, map, true};
+ghost use Rattle.std.specs.Prelude.{◌≡◌, ◌+◌, ◌<◌, ◌^◌, ◌++◌, ◌∷◌, [], ℕ, All, IfOk, List, None, OnOk, Some, length, map, sum_by, true};
 ghost use Rattle.client_registry.specs.Acceptance.{size_refusal};
 ghost use Rattle.client_registry.specs.Command.{Command as Meant, Delete as deletes, Search as searches};
+ghost use Rattle.client_registry.specs.Histories.{IsWhole};
 ghost use Rattle.client_registry.specs.IdNumber.{id_number};
 ghost use Rattle.client_registry.specs.Numbered.{words_by_number};
 ghost use Rattle.client_registry.specs.Over.{over};
 ghost use Rattle.client_registry.specs.Registered.{facts, known_words};
-ghost use Rattle.client_registry.specs.Run.{at_first};
+ghost use Rattle.client_registry.specs.Run.{Epochs, Offsets, at_first};
 ghost use Rattle.client_registry.specs.Setup.{Setup};
 ghost use Rattle.client_registry.specs.WordBytes.{word_bytes};
 ghost use Rattle.leakage_history.specs.Commands.{command_of};
-ghost use Rattle.leakage_history.specs.HashedRun.{run_of};
+ghost use Rattle.leakage_history.specs.HashedRun.{HashedRun, run_of};
 ghost use Rattle.leakage_history.specs.Refusal.{is_accepted_by};
+ghost use Rattle.leakage_model.specs.EpochRuns.{runs_of};
 ghost use Rattle.leakage_model.specs.TrailFacts.{Follows};
 ghost use Rattle.leakage_frames.specs.Views.{leak_view, word_view};
 ghost use Rattle.def_leakage.specs.CommandLeaks as leakage;
+ghost use Rattle.def_leakage.specs.Histories.{leak_in};
 ghost use Rattle.sse_simulator.specs.Leaks.{DeleteLeak};
 
 use crate::setup_size::size_of_setup;
@@ -27,7 +30,7 @@ use std::alloc::{AllocError, Global};
 /// What the setup of a history leaks.
 fn setup_leak(history: &History) -> Leak
     requires { size_refusal history.now.setup ≡ None }
-    ensures { leak_view result ≡ leakage.leak_of_setup 0 history.now.setup }
+    ensures { (epoch : ℕ) → leak_view result ≡ leakage.leak_of_setup epoch history.now.setup }
 {
     let size = size_of_setup(history);
     Leak::Setup {
@@ -42,7 +45,7 @@ impl Trail {
     // Promise P43, also here; clauses: ensures
     /// What the next command would leak.
     pub fn leak(&self, alloc: Global, command: &Command) -> Result<Leak, AllocError>
-        ensures { (s : Setup) (past : List Meant) → Follows self.now s past → IfOk result (λ leak. leak_view leak ≡ leakage.leak_by at_first s past (command_of command.now)) }
+        ensures { (o : Offsets) (s : Setup) (past : List Meant) → Follows self.now o s past → IfOk result (λ leak. leak_view leak ≡ leakage.leak_by o s past (command_of command.now)) }
     {
         match command {
             Command::Add(doc) => {
@@ -64,7 +67,7 @@ impl Trail {
         words: &[Word],
         id: DocId,
     ) -> Result<Items<WordLeak>, AllocError>
-        ensures { (s : Setup) (past : List Meant) → Follows self.now s past → IfOk result (λ leaks. map word_view leaks ≡ map (leakage.word_added at_first s past (id_number id)) (map word_bytes words.now)) }
+        ensures { (o : Offsets) (s : Setup) (past : List Meant) → Follows self.now o s past → IfOk result (λ leaks. map word_view leaks ≡ map (leakage.word_added o s past (id_number id)) (map word_bytes words.now)) }
     {
         let mut leaks = Items::new(alloc);
         for word in words {
@@ -75,7 +78,7 @@ impl Trail {
 
     /// What a deletion of this identifier would show of each word of its live document.
     fn document_deleted(&self, alloc: Global, id: DocId) -> Result<Items<WordLeak>, AllocError>
-        ensures { (s : Setup) (past : List Meant) → Follows self.now s past → IfOk result (λ leaks. DeleteLeak (map word_view leaks) ≡ leakage.leak_by at_first s past (deletes (id_number id))) }
+        ensures { (o : Offsets) (s : Setup) (past : List Meant) → Follows self.now o s past → IfOk result (λ leaks. DeleteLeak (map word_view leaks) ≡ leakage.leak_by o s past (deletes (id_number id))) }
     {
         match self.registry.get(id) {
             Some(doc) => self.words_deleted(alloc, doc.numbers, id),
@@ -91,7 +94,7 @@ impl Trail {
         id: DocId,
     ) -> Result<Items<WordLeak>, AllocError>
         requires { All (λ n. n < length (known_words self.now.registry)) numbers.now }
-        ensures { (s : Setup) (past : List Meant) → Follows self.now s past → IfOk result (λ leaks. map word_view leaks ≡ map (leakage.word_deleted at_first s past (id_number id)) (words_by_number (known_words self.now.registry) numbers.now)) }
+        ensures { (o : Offsets) (s : Setup) (past : List Meant) → Follows self.now o s past → IfOk result (λ leaks. map word_view leaks ≡ map (leakage.word_deleted o s past (id_number id)) (words_by_number (known_words self.now.registry) numbers.now)) }
     {
         let mut leaks = Items::new(alloc);
         for number in numbers {
@@ -103,7 +106,7 @@ impl Trail {
 
     /// What a search of this word would show.
     fn search_leak(&self, alloc: Global, word: &Word) -> Result<Leak, AllocError>
-        ensures { (s : Setup) (past : List Meant) → Follows self.now s past → IfOk result (λ leak. leak_view leak ≡ leakage.leak_by at_first s past (searches (word_bytes word.now))) }
+        ensures { (o : Offsets) (s : Setup) (past : List Meant) → Follows self.now o s past → IfOk result (λ leak. leak_view leak ≡ leakage.leak_by o s past (searches (word_bytes word.now))) }
     {
         match self.words.get(word) {
             Some(trail) => trail.search_leak(alloc),
@@ -126,8 +129,8 @@ fn leak_next(
 ) -> Result<(), AllocError>
     requires accepted { is_accepted_by (facts trail.old.registry) (command_of command.now) ≡ true }
     requires numbered { trail.old.next + 1 < 2 ^ 32 }
-    ensures leaked { OnOk result ((s : Setup) (past : List Meant) → Follows trail.old s past → map leak_view leaks.new ≡ map leak_view leaks.old ++ leakage.leak_by at_first s past (command_of command.now) ∷ []) }
-    ensures follows { OnOk result ((s : Setup) (past : List Meant) → Follows trail.old s past → Follows trail.new s (past ++ command_of command.now ∷ [])) }
+    ensures leaked { OnOk result ((o : Offsets) (s : Setup) (past : List Meant) → Follows trail.old o s past → map leak_view leaks.new ≡ map leak_view leaks.old ++ leakage.leak_by o s past (command_of command.now) ∷ []) }
+    ensures follows { OnOk result ((o : Offsets) (s : Setup) (past : List Meant) → Follows trail.old o s past → Follows trail.new o s (past ++ command_of command.now ∷ [])) }
 {
     let leak = trail.leak(alloc, command)?;
     leaks.push(leak)?;
@@ -135,16 +138,17 @@ fn leak_next(
     Ok(())
 }
 
-/// Appends what each command after the setup leaks. The trail is that of the setup alone.
+/// Appends what each command after the setup leaks. The setup is command number `first`, and the trail is that of the setup alone.
 fn leak_commands(
     alloc: Global,
     history: &History,
     leaks: &mut Items<Leak>,
     trail: &mut Trail,
+    first: u32,
 ) -> Result<(), AllocError>
-    requires begun { Follows trail.old history.now.setup [] }
-    requires numbered { length history.now.later + 1 < 2 ^ 32 }
-    ensures { OnOk result (map leak_view leaks.new ≡ map leak_view leaks.old ++ over (leakage.leak_by at_first history.now.setup) [] history.now.later) }
+    requires begun { (o : Offsets) → o.command ≡ first → Follows trail.old o history.now.setup [] }
+    requires numbered { first + length history.now.later + 1 < 2 ^ 32 }
+    ensures { OnOk result ((o : Offsets) → o.command ≡ first → map leak_view leaks.new ≡ map leak_view leaks.old ++ over (leakage.leak_by o history.now.setup) [] history.now.later) }
 {
     for command in history.commands() {
         leak_next(alloc, leaks, trail, command)?;
@@ -152,18 +156,23 @@ fn leak_commands(
     Ok(())
 }
 
-/// Appends what the setup and each command after it leak.
-fn leak_into(alloc: Global, history: &History, leaks: &mut Items<Leak>) -> Result<(), AllocError>
+/// Appends what the setup and each command after it leak. The setup is command number `first`.
+fn leak_into(
+    alloc: Global,
+    history: &History,
+    leaks: &mut Items<Leak>,
+    first: u32,
+) -> Result<(), AllocError>
     requires sized { size_refusal history.now.setup ≡ None }
-    requires numbered { length history.now.later + 1 < 2 ^ 32 }
-    ensures { OnOk result (map leak_view leaks.new ≡ map leak_view leaks.old ++ leakage.leak at_first (run_of history.now)) }
+    requires numbered { first + length history.now.later + 1 < 2 ^ 32 }
+    ensures { OnOk result ((o : Offsets) → o.command ≡ first → map leak_view leaks.new ≡ map leak_view leaks.old ++ leakage.leak o (run_of history.now)) }
 {
     leaks.push(setup_leak(history))?;
     if history.commands().is_empty() {
         return Ok(());
     }
-    let mut trail = Trail::begin(alloc, history)?;
-    let leaked = leak_commands(alloc, history, leaks, &mut trail);
+    let mut trail = Trail::begin_at(alloc, history, first)?;
+    let leaked = leak_commands(alloc, history, leaks, &mut trail, first);
     drop(trail);
     leaked
 }
@@ -182,8 +191,53 @@ pub fn leak(alloc: Global, history: &History) -> Result<Items<Leak>, AllocError>
     requires numbered { length history.now.later + 1 < 2 ^ 32 }
     ensures { IfOk result (λ leaks. map leak_view leaks ≡ leakage.leak at_first (run_of history.now)) }
 {
+    leak_from(alloc, history, 0)
+}
+
+// Promise P42, also here; clauses: ensures
+/// What each command of an epoch leaks, if the epoch's setup is command number `first` of its history.
+///
+/// Error: where there is no memory.
+pub fn leak_from(alloc: Global, history: &History, first: u32) -> Result<Items<Leak>, AllocError>
+    requires sized { size_refusal history.now.setup ≡ None }
+    requires numbered { first + length history.now.later + 1 < 2 ^ 32 }
+    ensures { IfOk result (λ leaks. (o : Offsets) → o.command ≡ first → map leak_view leaks ≡ leakage.leak o (run_of history.now)) }
+{
     let mut leaks = Items::new(alloc);
-    match leak_into(alloc, history, &mut leaks) {
+    match leak_into(alloc, history, &mut leaks, first) {
+        Ok(()) => Ok(leaks),
+        Err(error) => {
+            drop(leaks);
+            Err(error)
+        }
+    }
+}
+
+/// Appends what each command of these epochs leaks.
+fn leak_each(alloc: Global, epochs: &[History], leaks: &mut Items<Leak>) -> Result<(), AllocError>
+    requires sized { All (λ (h : HashedRun). size_refusal h.setup ≡ None) epochs.now }
+    requires numbered { sum_by (λ (h : HashedRun). length h.later + 1) epochs.now < 2 ^ 32 }
+    ensures { OnOk result ((es : Epochs) → IsWhole (Some es) → runs_of es ≡ map run_of epochs.now → map leak_view leaks.new ≡ map leak_view leaks.old ++ leak_in (Some es)) }
+{
+    let mut first: u32 = 0;
+    for history in epochs {
+        leak_into(alloc, history, leaks, first)?;
+        first += history.len() as u32;
+    }
+    Ok(())
+}
+
+// Promise P42, also here; clauses: ensures
+/// What each command of a history leaks, given its epochs in turn. A renewal of the key leaks what a setup does.
+///
+/// Error: where there is no memory.
+pub fn leak_epochs(alloc: Global, epochs: &[History]) -> Result<Items<Leak>, AllocError>
+    requires sized { All (λ (h : HashedRun). size_refusal h.setup ≡ None) epochs.now }
+    requires numbered { sum_by (λ (h : HashedRun). length h.later + 1) epochs.now < 2 ^ 32 }
+    ensures { IfOk result (λ leaks. (es : Epochs) → IsWhole (Some es) → runs_of es ≡ map run_of epochs.now → map leak_view leaks ≡ leak_in (Some es)) }
+{
+    let mut leaks = Items::new(alloc);
+    match leak_each(alloc, epochs, &mut leaks) {
         Ok(()) => Ok(leaks),
         Err(error) => {
             drop(leaks);

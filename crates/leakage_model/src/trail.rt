@@ -4,7 +4,7 @@ ghost use Rattle.client_registry.specs.Command.{Command as Meant};
 ghost use Rattle.client_registry.specs.IdNumber.{id_number};
 ghost use Rattle.client_registry.specs.Live.{is_listed};
 ghost use Rattle.client_registry.specs.Registered.{Represents, facts};
-ghost use Rattle.client_registry.specs.Run.{at_first};
+ghost use Rattle.client_registry.specs.Run.{Offsets, at_first};
 ghost use Rattle.client_registry.specs.Setup.{Setup};
 ghost use Rattle.client_registry.specs.WordBytes.{word_bytes};
 ghost use Rattle.leakage_history.specs.Commands.{command_of};
@@ -29,7 +29,7 @@ use std::alloc::{AllocError, Global};
 pub struct Trail {
     pub(crate) words: Table,
     pub(crate) registry: Registry,
-    /// The number of the next command, the setup being command 0.
+    /// The number of the next command.
     pub(crate) next: u32,
 }
 
@@ -40,19 +40,31 @@ impl Trail {
     /// The trail of the setup of a history alone, which has an index. Its tables hash under the keys of the history.
     pub fn begin(alloc: Global, history: &History) -> Result<Trail, AllocError>
         requires { size_refusal history.now.setup ≡ None }
-        ensures follows { IfOk result (λ trail. Follows trail history.now.setup []) }
+        ensures follows { IfOk result (λ trail. Follows trail at_first history.now.setup []) }
+        ensures hashed { IfOk result (λ trail. HashesUnder trail history.now.keys) }
+    {
+        Trail::begin_at(alloc, history, 0)
+    }
+
+    // Promise P59, also here; clauses: hashed
+    // Promise P43, also here; clauses: follows
+    /// The same for an epoch whose setup is command number `first` of its history.
+    pub fn begin_at(alloc: Global, history: &History, first: u32) -> Result<Trail, AllocError>
+        requires sized { size_refusal history.now.setup ≡ None }
+        requires numbered { first + 1 < 2 ^ 32 }
+        ensures follows { IfOk result (λ trail. (o : Offsets) → o.command ≡ first → Follows trail o history.now.setup []) }
         ensures hashed { IfOk result (λ trail. HashesUnder trail history.now.keys) }
     {
         let size = size_of_setup(history);
         let docs = history.docs();
         let mut words = IndexMap::with_hasher(alloc, history.keys());
         place_words(&mut words, docs, size.shape)?;
-        set_up_documents(&mut words, docs, size.shape)?;
+        set_up_documents(&mut words, docs, size.shape, first)?;
         let registry = history.begun_registry(alloc)?;
         Ok(Trail {
             words,
             registry,
-            next: 1,
+            next: first + 1,
         })
     }
 
@@ -61,7 +73,7 @@ impl Trail {
     pub fn take(&mut self, command: &Command) -> Result<(), AllocError>
         requires accepted { is_accepted_by (facts self.old.registry) (command_of command.now) ≡ true }
         requires numbered { self.old.next + 1 < 2 ^ 32 }
-        ensures { (s : Setup) (past : List Meant) → Follows self.old s past → OnOk result (Follows self.new s (past ++ command_of command.now ∷ [])) }
+        ensures { (o : Offsets) (s : Setup) (past : List Meant) → Follows self.old o s past → OnOk result (Follows self.new o s (past ++ command_of command.now ∷ [])) }
     {
         take(&mut self.words, &self.registry, command, self.next)?;
         register(&mut self.registry, command)?;
@@ -72,7 +84,7 @@ impl Trail {
     // Promise P43, also here; clauses: ensures
     /// The first search of a word, where there was one.
     pub fn first_search(&self, word: &Word) -> Option<u32>
-        ensures { (s : Setup) (past : List Meant) → Follows self.now s past → result ≡ first_search at_first past (word_bytes word.now) }
+        ensures { (o : Offsets) (s : Setup) (past : List Meant) → Follows self.now o s past → result ≡ first_search o past (word_bytes word.now) }
     {
         self.words.get(word)?.first_search()
     }
@@ -80,7 +92,7 @@ impl Trail {
     // Promise P43, also here; clauses: ensures
     /// Whether the pair of a word and an identifier was ever listed.
     pub fn is_listed(&self, word: &Word, id: DocId) -> bool
-        ensures { (s : Setup) (past : List Meant) → Follows self.now s past → result ≡ is_listed s past (word_bytes word.now) (id_number id) }
+        ensures { (o : Offsets) (s : Setup) (past : List Meant) → Follows self.now o s past → result ≡ is_listed s past (word_bytes word.now) (id_number id) }
     {
         match self.words.get(word) {
             Some(trail) => trail.is_listed(id),
@@ -91,7 +103,7 @@ impl Trail {
     // Promise P43, also here; clauses: ensures
     /// Where the revocation number of a pair was first sent, where it was.
     pub fn number_origin(&self, word: &Word, id: DocId) -> Option<Origin>
-        ensures { (s : Setup) (past : List Meant) → Follows self.now s past → option_map origin_view result ≡ number_origin at_first s past (word_bytes word.now) (id_number id) }
+        ensures { (o : Offsets) (s : Setup) (past : List Meant) → Follows self.now o s past → option_map origin_view result ≡ number_origin o s past (word_bytes word.now) (id_number id) }
     {
         match self.words.get(word) {
             Some(trail) => trail.number_origin(id),
@@ -102,14 +114,14 @@ impl Trail {
     // Promise P43, also here; clauses: ensures
     /// What the commands so far make live, list and count.
     pub fn registry(&self) -> &Registry
-        ensures { (s : Setup) (past : List Meant) → Follows self.now s past → Represents result.now s past }
+        ensures { (o : Offsets) (s : Setup) (past : List Meant) → Follows self.now o s past → Represents result.now s past }
     {
         &self.registry
     }
 
     /// What an addition of a document with this identifier and this word would show of the word.
     pub(crate) fn word_added(&self, word: &Word, id: DocId) -> WordLeak
-        ensures { (s : Setup) (past : List Meant) → Follows self.now s past → word_view result ≡ word_added at_first s past (id_number id) (word_bytes word.now) }
+        ensures { (o : Offsets) (s : Setup) (past : List Meant) → Follows self.now o s past → word_view result ≡ word_added o s past (id_number id) (word_bytes word.now) }
     {
         match self.words.get(word) {
             Some(trail) => trail.added_leak(id),
@@ -122,7 +134,7 @@ impl Trail {
 
     /// What a deletion of the document with this identifier, which holds this word, would show of the word.
     pub(crate) fn word_deleted(&self, word: &Word, id: DocId) -> WordLeak
-        ensures { (s : Setup) (past : List Meant) → Follows self.now s past → word_view result ≡ word_deleted at_first s past (id_number id) (word_bytes word.now) }
+        ensures { (o : Offsets) (s : Setup) (past : List Meant) → Follows self.now o s past → word_view result ≡ word_deleted o s past (id_number id) (word_bytes word.now) }
     {
         match self.words.get(word) {
             Some(trail) => trail.deleted_leak(id),

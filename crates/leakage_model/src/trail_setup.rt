@@ -5,6 +5,7 @@ ghost use Rattle.client_registry.specs.Acceptance.{blocks_of};
 ghost use Rattle.client_registry.specs.Document.{Document};
 ghost use Rattle.client_registry.specs.Documents.{IsCollected};
 ghost use Rattle.client_registry.specs.IdNumber.{id_number};
+ghost use Rattle.client_registry.specs.Run.{Offsets};
 ghost use Rattle.client_registry.specs.Setup.{setup_of};
 ghost use Rattle.client_registry.specs.WordBytes.{word_bytes};
 ghost use Rattle.leakage_model.specs.TrailFacts.{ChangesAt, ChangesEach, IsPlaced, Tells, facts_in};
@@ -61,43 +62,44 @@ pub(crate) fn place_words(words: &mut Table, docs: &Docs, shape: Shape) -> Resul
     Ok(())
 }
 
-/// A document of the setup with this identifier holds the word.
-fn set_up_word(words: &mut Table, word: &Word, id: DocId) -> Result<(), AllocError>
+/// A document of the setup with this identifier holds the word. The setup is the command of this number.
+fn set_up_word(words: &mut Table, word: &Word, id: DocId, command: u32) -> Result<(), AllocError>
     requires { length (facts_in words.old.entries (word_bytes word.now)).listed < 2 ^ 32 }
-    ensures held { OnOk result (ChangesAt words.old.entries words.new.entries (word_bytes word.now) (set_up_with (id_number id))) }
+    ensures held { OnOk result (ChangesAt words.old.entries words.new.entries (word_bytes word.now) (set_up_with command (id_number id))) }
     ensures hasher { OnOk result (hasher_of words.new ≡ hasher_of words.old) }
 {
     let place = place_in(words, word)?;
     let trail = &mut words[place];
-    trail.set_up(id)
+    trail.set_up(id, command)
 }
 
-/// The setup holds the document at this place.
-fn set_up_document(words: &mut Table, docs: &Docs, i: usize) -> Result<(), AllocError>
+/// The setup holds the document at this place. The setup is the command of this number.
+fn set_up_document(words: &mut Table, docs: &Docs, i: usize, command: u32) -> Result<(), AllocError>
     requires within { i < length docs.now.documents }
     requires few { (w : List ℕ) → length (facts_in words.old.entries w).listed < 2 ^ 32 }
-    ensures held { (d : Document) → slice_get docs.now.documents i ≡ Some d → OnOk result (ChangesEach words.old.entries words.new.entries d.words (λ _. set_up_with d.id)) }
+    ensures held { (d : Document) → slice_get docs.now.documents i ≡ Some d → OnOk result (ChangesEach words.old.entries words.new.entries d.words (λ _. set_up_with command d.id)) }
     ensures hasher { OnOk result (hasher_of words.new ≡ hasher_of words.old) }
 {
     let doc = docs.get(i);
     for number in doc.numbers {
-        set_up_word(words, docs.word(*number as usize), doc.id)?;
+        set_up_word(words, docs.word(*number as usize), doc.id, command)?;
     }
     Ok(())
 }
 
-/// The setup holds these documents, whose words have their places.
+/// The setup holds these documents, whose words have their places. The setup is the command of this number.
 pub(crate) fn set_up_documents(
     words: &mut Table,
     docs: &Docs,
     shape: Shape,
+    command: u32,
 ) -> Result<(), AllocError>
     requires { IsPlaced words.old.entries docs.now.documents shape }
-    ensures told { OnOk result (Tells words.new.entries (setup_of docs.now.documents shape.b shape.big) []) }
+    ensures told { OnOk result ((o : Offsets) → o.command ≡ command → Tells words.new.entries o (setup_of docs.now.documents shape.b shape.big) []) }
     ensures hasher { OnOk result (hasher_of words.new ≡ hasher_of words.old) }
 {
     for i in 0..docs.len() {
-        set_up_document(words, docs, i)?;
+        set_up_document(words, docs, i, command)?;
     }
     Ok(())
 }

@@ -7,6 +7,7 @@ ghost use Rattle.client_registry.specs.IdNumber.{id_number};
 ghost use Rattle.client_registry.specs.Numbered.{words_by_number};
 ghost use Rattle.client_registry.specs.Live.{live};
 ghost use Rattle.client_registry.specs.Registered.{Represents, facts, known_words};
+ghost use Rattle.client_registry.specs.Run.{Offsets};
 ghost use Rattle.client_registry.specs.Setup.{Setup};
 ghost use Rattle.client_registry.specs.WordBytes.{word_bytes};
 ghost use Rattle.leakage_history.specs.Commands.{command_of};
@@ -134,9 +135,9 @@ pub(crate) fn take(
     command: &Command,
     number: u32,
 ) -> Result<(), AllocError>
-    ensures { (s : Setup) (past : List Meant) →
-        Tells words.old.entries s past → Represents registry.now s past → number ≡ length past + 1 → AreApart (map (λ d. d.id) (live s.documents past))
-        → OnOk result (Tells words.new.entries s (past ++ command_of command.now ∷ [])) }
+    ensures { (o : Offsets) (s : Setup) (past : List Meant) →
+        Tells words.old.entries o s past → Represents registry.now s past → number ≡ o.command + 1 + length past → AreApart (map (λ d. d.id) (live s.documents past))
+        → OnOk result (Tells words.new.entries o s (past ++ command_of command.now ∷ [])) }
 {
     match command {
         Command::Add(doc) => add_words(words, doc.words(), doc.id(), number),

@@ -92,13 +92,13 @@ impl WordTrail {
         self.pairs.number(id)
     }
 
-    /// A document of the setup with this identifier holds it, after those whose pairs are listed.
-    pub(crate) fn set_up(&mut self, id: DocId) -> Result<(), AllocError>
+    /// A document of the setup with this identifier holds it, after those whose pairs are listed. The setup is the command of this number.
+    pub(crate) fn set_up(&mut self, id: DocId, command: u32) -> Result<(), AllocError>
         requires { length self.old.listed < 2 ^ 32 }
-        ensures { OnOk result (self.new ≡ set_up_with (id_number id) self.old) }
+        ensures { OnOk result (self.new ≡ set_up_with command (id_number id) self.old) }
     {
         let place = self.pairs.len() as u32;
-        self.pairs.add(id, Origin { command: 0, place })
+        self.pairs.add(id, Origin { command, place })
     }
 
     /// What an addition with this identifier shows of it.

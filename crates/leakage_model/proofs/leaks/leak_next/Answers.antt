@@ -5,7 +5,7 @@ use Rattle.leakage_model.proofs.leaks.leak_next.Goals as goal
 
 pub returns-clause-leaked : goal.returns-clause-leaked
 returns-clause-leaked c =
-    λ s past follows.
+    λ o s past follows.
     ap (map leak_view) c.in_ok-push.ensures.ok
     ∙ map-append leak_view c.args.leaks.now (c.in_ok-leak.leak ∷ [])
-    ∙ (λ j. map leak_view c.args.leaks.now ++ c.in_ok-leak.ensures s past follows j ∷ [])
+    ∙ (λ j. map leak_view c.args.leaks.now ++ c.in_ok-leak.ensures o s past follows j ∷ [])

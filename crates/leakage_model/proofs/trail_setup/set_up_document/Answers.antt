@@ -25,7 +25,7 @@ set_up_word-requires c =
     let fresh : list_any (bytes_eq bs) (words_by_number known (take i numbers)) ≡ false =
     ap (λ v. list_any (bytes_eq v) (words_by_number known (take i numbers))) (sym is)
     ∙ fresh_word (λ n. slice_index_or known n []) numbers i number c.loop-number-test.true (get_or_default numbers i 0 number c.loop-number-test.true) differ in
-    let same = each-other c.args.words.now.entries c.loop-number.words.entries (words_by_number known (take i numbers)) (λ _. set_up_with (id_number c.get-doc.result.id)) bs c.loop-number.invariant.held fresh in
+    let same = each-other c.args.words.now.entries c.loop-number.words.entries (words_by_number known (take i numbers)) (λ _. set_up_with c.args.command (id_number c.get-doc.result.id)) bs c.loop-number.invariant.held fresh in
     omega (arith, c.requires.few bs, ap (λ f. length f.listed) same)
 
 pub loop-number-preserved : goal.loop-number-preserved
@@ -41,8 +41,8 @@ loop-number-preserved c =
     record {
       held =
           each-more (λ n. slice_index_or known n []) numbers i number c.loop-number-test.true (get_or_default numbers i 0 number c.loop-number-test.true) differ
-          c.args.words.now.entries c.loop-number.words.entries c.set_up_word.new.words.entries (λ _. set_up_with id)
+          c.args.words.now.entries c.loop-number.words.entries c.set_up_word.new.words.entries (λ _. set_up_with c.args.command id)
           c.loop-number.invariant.held
-          (subst (λ v. ChangesAt c.loop-number.words.entries c.set_up_word.new.words.entries v (set_up_with id)) (sym is) c.in_ok-set_up_word.ensures.held);
+          (subst (λ v. ChangesAt c.loop-number.words.entries c.set_up_word.new.words.entries v (set_up_with c.args.command id)) (sym is) c.in_ok-set_up_word.ensures.held);
       hasher = c.in_ok-set_up_word.ensures.hasher ∙ c.loop-number.invariant.hasher;
     }

@@ -9,6 +9,6 @@ use Rattle.leakage_model.proofs.trail_setup.set_up_document.Given as goal
 
 abbrev pub invariant-loop-number : goal.invariant-loop-number
 invariant-loop-number l = record {
-  held : ChangesEach l.fn.words.entries l.words.entries (words_by_number (words_of l.docs.documents) (take l.number-index l.doc.numbers.now)) (λ _. set_up_with (id_number l.doc.id));
+  held : ChangesEach l.fn.words.entries l.words.entries (words_by_number (words_of l.docs.documents) (take l.number-index l.doc.numbers.now)) (λ _. set_up_with l.command (id_number l.doc.id));
   hasher : hasher_of l.words ≡ hasher_of l.fn.words;
 }

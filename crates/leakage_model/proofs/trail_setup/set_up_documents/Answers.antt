@@ -16,7 +16,7 @@ set_up_document-requires-clause-few c = λ w.
     let i = c.loop-i.i in
     let s = setup_of docs c.args.shape.b c.args.shape.big in
     let lt = c.loop-i-test.true in
-    omega (arith, ap (λ f. length f.listed) (c.loop-i.invariant.told w), few_pairs s (take i docs) w, length-take-le i docs (omega (arith, lt, c.len-i-end.ensures.len)), lt, c.len-i-end.ensures.len, c.len-i-end.ensures.valid.documents)
+    omega (arith, ap (λ f. length f.listed) (c.loop-i.invariant.told w), few_pairs c.args.command s (take i docs) w, length-take-le i docs (omega (arith, lt, c.len-i-end.ensures.len)), lt, c.len-i-end.ensures.len, c.len-i-end.ensures.valid.documents)
 
 pub loop-i-preserved : goal.loop-i-preserved
 loop-i-preserved c =
@@ -29,16 +29,17 @@ loop-i-preserved c =
     record {
       told = λ w.
           c.in_ok-set_up_document.ensures.held d at w
-          ∙ (λ j. if has_word w d then set_up_with d.id (c.loop-i.invariant.told w j) else c.loop-i.invariant.told w j)
-          ∙ told_of-push s (take i docs) d w (new_id docs i d c.len-i-end.ensures.valid.different lt (get_or_from_slice_get docs i d d at))
-          ∙ ap (λ ds. told_of s ds w) (sym (take-one_more docs i d at));
+          ∙ (λ j. if has_word w d then set_up_with c.args.command d.id (c.loop-i.invariant.told w j) else c.loop-i.invariant.told w j)
+          ∙ told_of-push c.args.command s (take i docs) d w (new_id docs i d c.len-i-end.ensures.valid.different lt (get_or_from_slice_get docs i d d at))
+          ∙ ap (λ ds. told_of c.args.command s ds w) (sym (take-one_more docs i d at));
       hasher = c.in_ok-set_up_document.ensures.hasher ∙ c.loop-i.invariant.hasher;
     }
 
 pub returns-clause-told : goal.returns-clause-told
-returns-clause-told c = λ w.
+returns-clause-told c = λ o first w.
     let docs = c.args.docs.now.documents in
     let s = setup_of docs c.args.shape.b c.args.shape.big in
     c.loop-i.invariant.told w
-    ∙ ap (λ ds. told_of s ds w) (take_all c.loop-i.i docs (omega (arith, c.loop-i-test.false, c.len-i-end.ensures.len)))
-    ∙ told_of-all s w
+    ∙ ap (λ ds. told_of c.args.command s ds w) (take_all c.loop-i.i docs (omega (arith, c.loop-i-test.false, c.len-i-end.ensures.len)))
+    ∙ ap (λ n. told_of n s docs w) (sym first)
+    ∙ told_of-all o s w

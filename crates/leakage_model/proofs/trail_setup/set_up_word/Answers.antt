@@ -15,6 +15,6 @@ set_up-requires c =
 pub returns-clause-held : goal.returns-clause-held
 returns-clause-held c =
     on_ok_weaker c.set_up.result
-    (changes-at c.args.words.now.entries c.place_in.new.words.entries (word_bytes c.args.word.now) c.in_ok-place.place c.index_mut-trail.result.now c.set_up.new.self (set_up_with (id_number c.args.id))
+    (changes-at c.args.words.now.entries c.place_in.new.words.entries (word_bytes c.args.word.now) c.in_ok-place.place c.index_mut-trail.result.now c.set_up.new.self (set_up_with c.args.command (id_number c.args.id))
     c.place_in.ensures.same c.in_ok-place.ensures.place c.index_mut-trail.ensures.value)
     c.set_up.ensures

@@ -7,15 +7,15 @@ use Rattle.leakage_model.specs.WordFacts.{number_among}
 use Rattle.leakage_model.proofs.trail.Trail.number_origin.Goals as goal
 
 pub returns-in-Some : goal.returns-in-Some
-returns-in-Some c = λ s past follows.
+returns-in-Some c = λ o s past follows.
     let id = id_number c.args.id in
     let bs = word_bytes c.args.word.now in
     c.number_origin.ensures
     ∙ ap (λ f. number_among id f.listed) (told c.args.self.now.words.entries bs (Some c.in-Some.trail.now) c.in-Some.ensures.value ∙ follows.words bs)
-    ∙ number-listed_leaks s bs past id
+    ∙ number-listed_leaks o s bs past id
 
 pub returns-in-None : goal.returns-in-None
-returns-in-None c = λ s past follows.
+returns-in-None c = λ o s past follows.
     let id = id_number c.args.id in
     let bs = word_bytes c.args.word.now in
-    ap (λ f. number_among id f.listed) (told c.args.self.now.words.entries bs None c.in-None.ensures.value ∙ follows.words bs) ∙ number-listed_leaks s bs past id
+    ap (λ f. number_among id f.listed) (told c.args.self.now.words.entries bs None c.in-None.ensures.value ∙ follows.words bs) ∙ number-listed_leaks o s bs past id

@@ -6,15 +6,15 @@ use Rattle.leakage_model.specs.WordFacts.{added_leak}
 use Rattle.leakage_model.proofs.trail.Trail.word_added.Goals as goal
 
 pub returns-in-Some : goal.returns-in-Some
-returns-in-Some c = λ s past follows.
+returns-in-Some c = λ o s past follows.
     let id = id_number c.args.id in
     let bs = word_bytes c.args.word.now in
     c.added_leak.ensures
     ∙ ap (added_leak id) (told c.args.self.now.words.entries bs (Some c.in-Some.trail.now) c.in-Some.ensures.value ∙ follows.words bs)
-    ∙ added-word_facts s past bs id
+    ∙ added-word_facts o s past bs id
 
 pub returns-in-None : goal.returns-in-None
-returns-in-None c = λ s past follows.
+returns-in-None c = λ o s past follows.
     let id = id_number c.args.id in
     let bs = word_bytes c.args.word.now in
-    ap (added_leak id) (told c.args.self.now.words.entries bs None c.in-None.ensures.value ∙ follows.words bs) ∙ added-word_facts s past bs id
+    ap (added_leak id) (told c.args.self.now.words.entries bs None c.in-None.ensures.value ∙ follows.words bs) ∙ added-word_facts o s past bs id
