@@ -1,5 +1,5 @@
 -- The frames of an index are in the grammar.
-use Rattle.std.proofs.Common.{◌≡◌, ℕ, zero, suc, ◌+◌, ◌-◌, ◌*◌, ◌<◌, inl, inr, List, [], ◌∷◌, map, length, get_or, refl, sym, subst, arith}
+use Rattle.std.proofs.Common.{◌≡◌, ℕ, zero, suc, ◌+◌, ◌-◌, ◌*◌, ◌<◌, ◌^◌, inl, inr, List, [], ◌∷◌, map, length, get_or, refl, sym, subst, arith}
 use Rattle.std.specs.Int.{div_ceil}
 use Rattle.std.specs.List.{AllByRecursion}
 use Rattle.std.proofs.lemmas.Bool.{cases_lt}
@@ -12,7 +12,7 @@ use Rattle.sse_frames.proofs.Cut.{AreBytes, AreBytes-drop, AreBytes-take}
 use Rattle.index_setup.specs.Built.{IsIndex}
 use Rattle.index_setup.specs.declared.index.Index.{Index}
 use Rattle.client_core.proofs.FramesAt.{begin_at, dict_at, array_at, end_at}
-use Rattle.client_core.proofs.IndexCounts.{blocks_held, frames_within, length-index_frames, words_held}
+use Rattle.client_core.proofs.IndexCounts.{blocks_held, length-index_frames, words_held}
 use Rattle.client_core.proofs.PartsOfItems.{part_entries, part_items, there}
 use Rattle.client_core.proofs.SetupFrames.{IsSetupArray-part, IsSetupDict-part, entries_whole}
 use Rattle.client_core.specs.Setup.{frames_in, index_frames}
@@ -83,7 +83,8 @@ module _ (index : Index) (is : IsIndex index) (entries_are : AreBytes index.entr
             ])
       ]
 
-  pub frames_are : AllByRecursion IsFrame (map frame_bytes (numbered 0 (index_frames index)))
-  frames_are =
-      each_numbered 0 (index_frames index) ending
-      (λ k within. let here : k < frames_in index = subst (λ (n : ℕ). k < n) (length-index_frames index is) within in frame_is k (0 + k) here (omega (arith, here, frames_within index is)))
+  -- under any first number from which on there is one for each
+  pub frames_are : (q : ℕ) → q + frames_in index < 2 ^ 32 → AllByRecursion IsFrame (map frame_bytes (numbered q (index_frames index)))
+  frames_are q numbers =
+      each_numbered q (index_frames index) ending
+      (λ k within. let here : k < frames_in index = subst (λ (n : ℕ). k < n) (length-index_frames index is) within in frame_is k (q + k) here (omega (arith, here, numbers)))

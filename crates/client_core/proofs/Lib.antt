@@ -15,4 +15,5 @@ mod OrderedEntries
 pub mod OwesLaws
 pub mod ResumeLaws
 mod ReplannedSetup
+mod RenewalLaws
 mod Rows

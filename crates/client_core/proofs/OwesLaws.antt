@@ -7,7 +7,7 @@ use Rattle.client_registry.proofs.OverLaws.{length-over, over-append}
 use Rattle.client_registry.proofs.SizedLaws.{update_frames-push}
 use Rattle.client_registry.specs.Command.{Command}
 use Rattle.client_registry.specs.Over.{over}
-use Rattle.client_registry.specs.Run.{Offsets, Run, at_first}
+use Rattle.client_registry.specs.Run.{Offsets, Run}
 use Rattle.client_registry.specs.Setup.{Setup}
 use Rattle.keyed_fn.specs.KeyedFn.{KeyedFn}
 use Rattle.sse_frames.specs.Frames.{FrameText, frame_bytes}
@@ -65,16 +65,16 @@ Owes-update f keys o run u behind stands sent first =
       number = subst (AreNumbered (first_number behind)) (sym last) (subst (λ n. AreNumbered n (frames_next f keys o run (command_of_update u))) (sym first) (numbered_next f keys o run u));
     }
 
-pub Owes-setup : (f : KeyedFn) (keys : ℕ → List ℕ) (s : Setup) (behind : BehindState) → StandsFor f keys at_first (record { setup = s; later = [] }) behind.ready
-    → to_send behind ≡ map frame_bytes (frames_of_setup (table f s.shape keys) at_first s) → first_number behind ≡ 0
-    → Owes f keys at_first (record { setup = s; later = [] }) 0 behind
-Owes-setup f keys s behind stands sent first = record {
+pub Owes-setup : (f : KeyedFn) (keys : ℕ → List ℕ) (o : Offsets) (s : Setup) (behind : BehindState) → StandsFor f keys o (record { setup = s; later = [] }) behind.ready
+    → to_send behind ≡ map frame_bytes (frames_of_setup (table f s.shape keys) o s) → first_number behind ≡ o.frame
+    → Owes f keys o (record { setup = s; later = [] }) 0 behind
+Owes-setup f keys o s behind stands sent first = record {
   stands = stands;
-  some = omega (arith, length-frames_of_setup (table f s.shape keys) at_first s);
+  some = omega (arith, length-frames_of_setup (table f s.shape keys) o s);
   owed = sent;
   number =
-      subst (λ n. AreNumbered n (frames_of_setup (table f s.shape keys) at_first s)) (sym first)
-      (frames_of_setup-numbered AreNumbered (λ q. tt) (λ q frame frames e rest. (e, rest)) (table f s.shape keys) at_first s);
+      subst (λ n. AreNumbered n (frames_of_setup (table f s.shape keys) o s)) (sym first)
+      (frames_of_setup-numbered AreNumbered (λ q. tt) (λ q frame frames e rest. (e, rest)) (table f s.shape keys) o s);
 }
 
 -- After a reply.

@@ -2,7 +2,7 @@
 use Rattle.std.proofs.Common.{◌≡◌, ℕ, List, [], ◌∷◌, length, map, filter, Some, refl, ap, subst, ◌∙◌}
 use Rattle.client_registry.specs.Command.{is_update}
 use Rattle.client_registry.specs.Histories.{IsKept}
-use Rattle.client_registry.specs.Run.{Run}
+use Rattle.client_registry.specs.Run.{From, Run, at_first}
 use Rattle.client_records.proofs.OpeningLaws.{opens_once}
 use Rattle.client_records.proofs.RecordedLaws.{opens-records}
 use Rattle.client_records.specs.Records.{records_of, setup_record, update_record}
@@ -26,8 +26,8 @@ payloads-records mark run first plans setup updates = λ i. setup i ∷ (each pl
 
 -- Promise P68, also here
 -- the client of the records of a run remembers that run, without its searches
-pub restored-records : (mark n : List ℕ) (run : Run) (client : ClientOf Last) → length mark ≡ 16 → IsKept (Some run) → IsRestored n (records_of mark run) (restored.Recorded client)
+pub restored-records : (mark n : List ℕ) (run : Run) (client : ClientOf Last) → length mark ≡ 16 → IsKept (Some (From at_first run)) → IsRestored n (records_of mark run) (restored.Recorded client)
     → Remembers (record { setup = run.setup; later = filter is_update run.later }) client.state
 restored-records mark n run client size kept is =
-    let same = (opens_once n mark (records_of mark run) is.0 _ is.1 (opens-records mark (Some run) size kept)).1 in
+    let same = (opens_once n mark (records_of mark run) is.0 _ is.1 (opens-records mark (Some (From at_first run)) size refl kept).1).1 in
     subst (λ (r : Run). Remembers r client.state) same is.2

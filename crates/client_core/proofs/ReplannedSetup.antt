@@ -22,10 +22,10 @@ use Rattle.client_core.specs.declared.resume_fault.ResumeFault.{ResumeFault}
 use Rattle.client_core.specs.declared.resume_fault.ResumeFault.TheVariants as faults
 
 -- the equal values that a setup's plan finds
-abbrev found : Option (ℕ × ℕ) → Option (ℕ × ℕ) → Option Collision
+abbrev pub found : Option (ℕ × ℕ) → Option (ℕ × ℕ) → Option Collision
 found labels places = option_or (option_map (λ words. Labels words.0 words.1) labels) (option_map (λ blocks. Places blocks.0 blocks.1) places)
 
-none_found : (labels places : Option (ℕ × ℕ)) → first_of labels places ≡ None → found labels places ≡ None
+pub none_found : (labels places : Option (ℕ × ℕ)) → first_of labels places ≡ None → found labels places ≡ None
 none_found None None none = refl
 none_found None (Some blocks) none = absurd (cc)
 none_found (Some words) places none = absurd (cc)
@@ -62,7 +62,7 @@ module _ (f : KeyedFn) (key : List ℕ) (s : Setup) where
       (clash : size_refusal s ≡ None → failed T cause ≢ failed T builds.NoMemory → IfSome (clash_refusal f key s) (λ x. failed T cause ≡ failed T x))
       (built : build_refusal f key s ≡ None → IsOkUnless (failed T cause) builds.NoMemory) where
     -- the plan of a setup of accepted size fails for want of memory, or for the first clash
-    is_for : (fault : Option BuildFault) → clash_refusal f key s ≡ fault → (cause ≡ builds.NoMemory) ⊎ (clash_refusal f key s ≡ Some cause)
+    pub is_for : (fault : Option BuildFault) → clash_refusal f key s ≡ fault → (cause ≡ builds.NoMemory) ⊎ (clash_refusal f key s ≡ Some cause)
     is_for None e = inl (built (ap (λ r. option_or (option_map refused_by_size r) (clash_refusal f key s)) accepted ∙ e))
     is_for (Some x) e = elim (wanting T cause) [
       | inl memory ↦ inl memory

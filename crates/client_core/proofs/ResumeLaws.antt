@@ -10,11 +10,12 @@ use Rattle.client_registry.proofs.OverLaws.{length-over, over-append}
 use Rattle.client_registry.proofs.HistoryLaws.{IsKept-first}
 use Rattle.client_registry.specs.Command.{Command, Add, Delete}
 use Rattle.client_registry.specs.Document.{Document}
+use Rattle.client_registry.specs.Epochs.{Does}
 use Rattle.client_registry.specs.Facts.{has_counters}
 use Rattle.client_registry.specs.Histories.{IsKept}
 use Rattle.client_registry.specs.Registered.{Registered, Represents, facts, known_words}
 use Rattle.client_registry.specs.Over.{over}
-use Rattle.client_registry.specs.Run.{History, Offsets, Run, at_first}
+use Rattle.client_registry.specs.Run.{From, History, Offsets, Renewed, Run, at_first}
 use Rattle.client_registry.specs.Setup.{Setup}
 use Rattle.client_registry.specs.Sized.{update_frames}
 use Rattle.client_records.specs.Openings.{Opens, OpensTo}
@@ -183,11 +184,13 @@ module _ (f : KeyedFn) (key : List ℕ) (before : Run) (u : Recorded) (next : �
 
 pub restored-none : (mark : List ℕ) (payloads : List (List ℕ)) (h : History) → OpensTo mark payloads h → RecallsIn h None → payloads ≡ []
 restored-none mark payloads None opened recalls = opened
-restored-none mark payloads (Some whole) opened recalls = absurd recalls
+restored-none mark payloads (Some (From o whole)) opened recalls = absurd recalls
+restored-none mark payloads (Some (Renewed before own whole)) opened recalls = absurd recalls
 
 pub restored-some : (mark : List ℕ) (payloads : List (List ℕ)) (h : History) (l : Last) → OpensTo mark payloads h → RecallsIn h (Some l) → (run : Run) × Opens mark payloads run × Remembers run l
 restored-some mark payloads None l opened recalls = absurd recalls
-restored-some mark payloads (Some whole) l opened recalls = (whole, opened, record { kept = opened.kept; recalls = recalls })
+restored-some mark payloads (Some (From o whole)) l opened recalls = (whole, opened.1, record { kept = opened.1.kept; recalls = recalls })
+restored-some mark payloads (Some (Renewed before own whole)) l opened recalls = absurd opened
 
 -- which numbers a client expects of a server, by its last record and by its history
 module _ (f : KeyedFn) (key : List ℕ) (run : Run) (l : Last) (knows : Remembers run l) where
@@ -251,10 +254,10 @@ module _ (u : RecordedUpdate) (r : Registered) (same : r ≡ u.registry) where
   live id is = subst (λ c. fits (facts r) c ≡ true) is fits_it
 
 -- a client of that registry, with as many frames, stands for the history before the last command
-pub stands_before : (f : KeyedFn) (key : List ℕ) (before : Run) (c : Command) (state : ReadyState) → IsKept (Some (with_command before c)) → Represents state.registry before.setup before.later → state.frames ≡ update_frames before
+pub stands_before : (f : KeyedFn) (key : List ℕ) (before : Run) (c : Command) (state : ReadyState) → IsKept (Some (From at_first (with_command before c))) → Represents state.registry before.setup before.later → state.frames ≡ update_frames before
     → Keeps f key (known_words state.registry) state.keys → StandsFor f (λ epoch. key) at_first before state
 stands_before f key before c state kept represents frames keeps = record {
-  kept = IsKept-first (Some before) (Some (with_command before c)) (refl, (c ∷ [], refl)) kept;
+  kept = IsKept-first (Some (From at_first before)) (Some (From at_first (with_command before c))) (Does c ∷ [], refl) kept;
   registry = represents;
   number = omega (arith, frames);
   word_keys = keeps;

@@ -26,6 +26,7 @@ use Rattle.sse_frames.specs.FrameViews.{entries_in, items_in}
 use Rattle.sse_frames.specs.SentParts.{numbered, dict_frames, array_frames, setup_frames}
 use Rattle.sse_model.proofs.Counts.{AllByRecursion-append, AllByRecursion-each}
 use Rattle.sse_model.proofs.KeyValues.{IsValue-table}
+use Rattle.sse_model.proofs.SetupEpochs.{frames_of_setup-epoch}
 use Rattle.sse_model.proofs.SealedEntries.{HasNames, AllDiffer-words, cells_have_names, blocks_have_names}
 use Rattle.sse_model.proofs.Texts.{HasText, IsBytes-xored, cells_have_texts, blocks_have_texts}
 use Rattle.sse_model.specs.Names.{Table, block_size, cell_size}
@@ -33,7 +34,7 @@ use Rattle.sse_model.specs.Positions.{Position, sealed, entry_positions, block_p
 use Rattle.sse_model.specs.Wire.{frames_of_setup, labels_in}
 use Rattle.index_setup.proofs.SortedIndex.{index_labels-entries}
 use Rattle.index_setup.specs.Entries.{array_bytes, dictionary_bytes, index_tags, key_table, label_clash, setup_blocks, setup_entries, setup_ranks}
-use Rattle.client_core.specs.Setup.{frames_between, setup_bytes}
+use Rattle.client_core.specs.Setup.{frames_between, frames_of_joined, setup_bytes}
 
 -- Parts of mapped lists.
 
@@ -110,17 +111,23 @@ module _ (f : KeyedFn) (laws : IsKeyedFn f) (key : List ℕ) (s : Setup) where
         ∙ items_in-joined (block_size s.shape) (map (λ block. block.text) sorted_blocks) some
         (sizes_of (block_size s.shape) (map (λ block. block.text) sorted_blocks) (texts_are (block_size s.shape) sorted_blocks (All-by_bytes (λ (block : Entry). block.label) (IsEntry (block_size s.shape)) (setup_blocks f key s) blocks_are)))
 
-    -- the bytes of the index of an accepted setup are sent as the setup's frames
-    pub setup_bytes-index : setup_bytes s.shape.b s.shape.big (dictionary_bytes f key s) (array_bytes f key s) ≡ map frame_bytes (frames_of_setup (key_table f key s) at_first s)
-    setup_bytes-index =
+    -- the bytes of the index of an accepted setup are sent as the setup's frames, from this number on
+    frames-index : (q : ℕ) → numbered q (frames_of_joined s.shape.b s.shape.big (dictionary_bytes f key s) (array_bytes f key s)) ≡ frames_of_setup (key_table f key s) (record { epoch = 0; command = 0; frame = q }) s
+    frames-index q =
         let ending : List (ℕ → FrameText) = (λ q. SetupEnd q) ∷ [] in
         let dicts : List (ℕ → FrameText) = dict_frames s.shape (setup_entries f key s) in
-        ap (map frame_bytes) (
-        (λ i. numbered 0 (frames_between s.shape.b s.shape.big (entries_in-dictionary i) (items_in-array i)))
-        ∙ (λ i. numbered 0
+        (λ i. numbered q (frames_between s.shape.b s.shape.big (entries_in-dictionary i) (items_in-array i)))
+        ∙ (λ i. numbered q
         ((λ q. SetupBegin q s.shape.b s.shape.big (length-by_bytes (λ (entry : Entry). entry.label) (setup_entries f key s) i)
         ((length-map sorted_blocks (λ block. block.text) ∙ length-by_bytes (λ (block : Entry). block.label) (setup_blocks f key s)) i))
-        ∷ dicts ++ array_parts (8 * s.shape.big) sorted_blocks i ++ ending)))
+        ∷ dicts ++ array_parts (8 * s.shape.big) sorted_blocks i ++ ending))
+
+    pub setup_bytes-index : setup_bytes s.shape.b s.shape.big (dictionary_bytes f key s) (array_bytes f key s) ≡ map frame_bytes (frames_of_setup (key_table f key s) at_first s)
+    setup_bytes-index = ap (map frame_bytes) (frames-index 0)
+
+    -- and as those of a setup that begins a later epoch: under one key its values are the same in each
+    pub bytes_from-index : (o : Offsets) → map frame_bytes (numbered o.frame (frames_of_joined s.shape.b s.shape.big (dictionary_bytes f key s) (array_bytes f key s))) ≡ map frame_bytes (frames_of_setup (key_table f key s) o s)
+    bytes_from-index o = ap (map frame_bytes) (frames-index o.frame ∙ sym (frames_of_setup-epoch f key s o))
 
     -- the labels of its entries rise, where no two are equal
     pub labels_rise : label_clash f key s ≡ None → Rises (labels_of (entries_in (1 + 8 * s.shape.b) (dictionary_bytes f key s)))

@@ -19,7 +19,7 @@ use Rattle.client_registry.specs.Histories.{IsKept}
 use Rattle.client_registry.specs.IdNumber.{id_number}
 use Rattle.client_registry.specs.Live.{live}
 use Rattle.client_registry.specs.Registered.{Registered, Represents, facts, known_words}
-use Rattle.client_registry.specs.Run.{Offsets, Run}
+use Rattle.client_registry.specs.Run.{From, Offsets, Run}
 use Rattle.client_registry.specs.Sized.{IsSizedCommand, is_accepted}
 use Rattle.keyed_fn.specs.KeyedFn.{KeyedFn}
 use Rattle.keyed_fn.specs.KeyFormulas.{part_key}
@@ -223,10 +223,10 @@ module _ (f : KeyedFn) (keys : ℕ → List ℕ) (o : Offsets) (run : Run) (key 
 -- A plan taken as done.
 
 -- a history that a registry stands for keeps all limits with one command more that fits
-kept_next : (r : Registered) (n : ℕ) (o : Offsets) (run : Run) (u : Update) (numbers : List ℕ) → IsKept (Some run) → Represents r run.setup run.later → n ≡ next_number o run.setup run.later
-    → n + 1 < 2 ^ 32 → IsSizedCommand (command_of_update u) → Fits r u numbers → IsKept (Some (with_command run (command_of_update u)))
+kept_next : (r : Registered) (n : ℕ) (o : Offsets) (run : Run) (u : Update) (numbers : List ℕ) → IsKept (Some (From o run)) → Represents r run.setup run.later → n ≡ next_number o run.setup run.later
+    → n + 1 < 2 ^ 32 → IsSizedCommand (command_of_update u) → Fits r u numbers → IsKept (Some (From o (with_command run (command_of_update u))))
 kept_next r n o run (updates.Add d) numbers kept is number within sized fits =
-    IsKept-longer (Some run) (Add d) kept sized accepted (omega (arith, number, within))
+    IsKept-longer (Some (From o run)) (Add d) kept sized accepted (omega (arith, number, within))
   where
     accepted : is_accepted run.setup run.later (Add d) ≡ true
     accepted =
@@ -235,7 +235,7 @@ kept_next r n o run (updates.Add d) numbers kept is number within sized fits =
         ∙ ap (λ o. not (is_some o) && has_counters (facts r) d) fits.0
         ∙ fits.1
 kept_next r n o run (updates.Delete id) numbers kept is number within sized fits =
-    IsKept-longer (Some run) (Delete (id_number id)) kept sized accepted (omega (arith, number, within))
+    IsKept-longer (Some (From o run)) (Delete (id_number id)) kept sized accepted (omega (arith, number, within))
   where
     accepted : is_accepted run.setup run.later (Delete (id_number id)) ≡ true
     accepted = accepted-delete run.setup run.later (id_number id) ∙ ap (λ x. is_some (x.live (id_number id))) (sym is) ∙ fits

@@ -3,6 +3,8 @@ pub mod TakenViews
 pub mod Setup
 pub mod Plans
 pub mod PlanView
+pub mod RenewalView
+pub mod Renewals
 pub mod Keys
 pub mod States
 pub mod UpdateTexts

@@ -23,6 +23,17 @@ pub record UpdatePlan : Type 0 where
   pub frame : List ℕ
   pub number : ℕ
 
+-- of a renewal: the marks of the epochs' keys, that of the new one last; the documents that are set up again, with the numbers per
+-- cell and per block and Q; the bytes of its frames in the order in which they are sent, and the number of the first
+pub record RenewalPlan : Type 0 where
+  pub marks : List (List ℕ)
+  pub docs : Collected
+  pub b : ℕ
+  pub big : ℕ
+  pub pad : ℕ
+  pub frames : List (List ℕ)
+  pub number : ℕ
+
 -- the same result without the documents that a refusal gives back
 abbrev pub without_docs : {X E D : Type 0} → Result X (E × D) → Result X E
 without_docs (Ok x) = Ok x

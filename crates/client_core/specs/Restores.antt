@@ -1,7 +1,7 @@
 -- The history of a client that was made from records.
 use Rattle.std.specs.Prelude.{◌≡◌, ℕ, List, [], Some}
 use Rattle.client_registry.specs.Histories.{IsKept}
-use Rattle.client_registry.specs.Run.{Run}
+use Rattle.client_registry.specs.Run.{Run, From, at_first}
 use Rattle.client_records.specs.Openings.{Opens}
 use Rattle.client_rebuild.specs.Recalls.{Recalls, hash_keys_of}
 use Rattle.client_rebuild.specs.declared.last.Last.{Last}
@@ -10,7 +10,7 @@ use Rattle.client_core.specs.declared.restored.Restored.TheVariants as restored
 
 -- the last record's command is the last of this history, which keeps the rules of every history
 pub record Remembers (run : Run) (last : Last) : Type 0 where
-  pub kept : IsKept (Some run)
+  pub kept : IsKept (Some (From at_first run))
   pub recalls : Recalls run last
 
 -- the client of these records: with no setup where there is none, else that of the history to which they open under this mark

@@ -8,7 +8,7 @@ use Rattle.client_registry.specs.Histories.{IsKept}
 use Rattle.client_registry.specs.Numbered.{words_by_number}
 use Rattle.client_registry.specs.IdNumber.{id_number}
 use Rattle.client_registry.specs.Registered.{Registered, HasRoom, Represents, facts, known_words}
-use Rattle.client_registry.specs.Run.{Run, Offsets}
+use Rattle.client_registry.specs.Run.{Run, Offsets, From}
 use Rattle.client_registry.specs.Sized.{IsSizedCommand}
 use Rattle.keyed_fn.specs.KeyedFn.{KeyedFn}
 use Rattle.sse_frames.specs.Frames.{FrameText}
@@ -28,7 +28,7 @@ use Rattle.client_core.specs.declared.update.Update.TheVariants as updates
 -- the client stands for a history that keeps all limits: its registry tells the facts of it, its next frame has the next
 -- number, and the keys that it keeps are those of the words under the key of the history's epoch
 pub record StandsFor (f : KeyedFn) (keys : ℕ → List ℕ) (o : Offsets) (run : Run) (state : ReadyState) : Type 0 where
-  pub kept : IsKept (Some run)
+  pub kept : IsKept (Some (From o run))
   pub registry : Represents state.registry run.setup run.later
   pub number : state.frames ≡ next_number o run.setup run.later
   pub word_keys : Keeps f (keys o.epoch) (known_words state.registry) state.keys

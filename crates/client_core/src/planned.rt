@@ -99,7 +99,7 @@ pub(crate) fn frame_buffer(alloc: Global) -> Result<Vec<u8>, AllocError>
 }
 
 /// What the slices of an index hold is below 256, as in any slice of bytes.
-fn are_bytes(entries: &[u8], array: &[u8])
+pub(crate) fn are_bytes(entries: &[u8], array: &[u8])
     ensures entries { AreBytes entries.now }
     ensures array { AreBytes array.now }
 {}

@@ -1,11 +1,11 @@
-ghost use Rattle.std.specs.Prelude.{◌≡◌, ◌≢◌, [], Err, IfOk, IsSome, List, ℕ, None, option_map, true, unwrap_or};
+ghost use Rattle.std.specs.Prelude.{◌≡◌, ◌≢◌, ◌+◌, [], Err, IfOk, IsSome, List, ℕ, None, option_map, true, unwrap_or};
 ghost use Rattle.std.specs.Result.{result_err};
 ghost use Rattle.client_registry.specs.Acceptance.{frames_needed, size_refusal};
 ghost use Rattle.client_registry.specs.DocumentRule.{IsDocument};
 ghost use Rattle.client_registry.specs.Facts.{has_counters};
 ghost use Rattle.client_registry.specs.IdNumber.{id_number};
 ghost use Rattle.client_registry.specs.Registered.{HasRoom, facts, known_words};
-ghost use Rattle.client_registry.specs.Run.{at_first};
+ghost use Rattle.client_registry.specs.Run.{Offsets};
 ghost use Rattle.client_registry.specs.Setup.{Setup};
 ghost use Rattle.client_registry.specs.WordBytes.{word_bytes};
 ghost use Rattle.keyed_fn.specs.KeyedFn.{KeyedFn, keyed_fn};
@@ -58,10 +58,10 @@ impl Client<Ready> {
 }
 
 impl Ready {
-    /// What a client keeps after an accepted setup of these documents, which took so many update frames. It takes no memory.
+    /// What a client keeps after an accepted setup of these documents, with so many update frames in all. It takes no memory.
     pub(crate) fn begun(alloc: Global, docs: Docs, frames: u32) -> Ready
         ensures hash_keys { result.registry.keys ≡ docs.keys }
-        ensures stands { (f : KeyedFn) (keys : ℕ → List ℕ) (s : Setup) → s.documents ≡ docs.documents → size_refusal s ≡ None → frames ≡ frames_needed s → StandsFor f keys at_first (record { setup = s; later = [] }) result }
+        ensures stands { (f : KeyedFn) (keys : ℕ → List ℕ) (o : Offsets) (s : Setup) → s.documents ≡ docs.documents → size_refusal s ≡ None → frames ≡ o.frame + frames_needed s → StandsFor f keys o (record { setup = s; later = [] }) result }
     {
         Ready {
             registry: Registry::from_docs(docs),

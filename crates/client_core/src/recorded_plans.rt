@@ -5,7 +5,7 @@ ghost use Rattle.client_registry.specs.Facts.{has_counters};
 ghost use Rattle.client_registry.specs.Histories.{IsKept};
 ghost use Rattle.client_registry.specs.IdNumber.{id_number};
 ghost use Rattle.client_registry.specs.Registered.{Represents, facts, known_words};
-ghost use Rattle.client_registry.specs.Run.{Run, at_first};
+ghost use Rattle.client_registry.specs.Run.{From, Run, at_first};
 ghost use Rattle.client_registry.specs.Sized.{update_frames};
 ghost use Rattle.client_rebuild.specs.Recalls.{frames_of_last, hash_keys_of, setup_in};
 ghost use Rattle.client_rebuild.specs.Updates.{command_of};
@@ -98,7 +98,7 @@ fn replan_update<K: Keyed>(
     key: MasterKey,
     recorded: RecordedUpdate,
 ) -> Result<Client<Behind>, ResumeFault>
-    ensures replans { (before : Run) → IsKept (Some (with_command before (command_of recorded.update))) → Represents recorded.registry before.setup before.later → recorded.frames ≡ update_frames before → Replans (keyed_fn K.prf K.pad) key (with_command before (command_of recorded.update)) recorded.frames result }
+    ensures replans { (before : Run) → IsKept (Some (From at_first (with_command before (command_of recorded.update)))) → Represents recorded.registry before.setup before.later → recorded.frames ≡ update_frames before → Replans (keyed_fn K.prf K.pad) key (with_command before (command_of recorded.update)) recorded.frames result }
     ensures grammar { IfOk result (λ client. AllByRecursion IsFrame (to_send client.state)) }
     ensures hash_keys { IfOk result (λ client. client.state.ready.registry.keys ≡ recorded.registry.keys) }
 {

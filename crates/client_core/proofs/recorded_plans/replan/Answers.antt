@@ -1,5 +1,6 @@
 use Rattle.std.proofs.Common.{◌≡◌, ◌≤◌, ◌<◌, ◌+◌, Some, sym, subst, arith}
 use Rattle.client_registry.specs.Histories.{IsKept}
+use Rattle.client_registry.specs.Run.{From, at_first}
 use Rattle.client_rebuild.specs.Recalls.{Recalls, frames_of_last}
 use Rattle.keyed_fn.specs.KeyedFn.{keyed_fn}
 use Rattle.client_rebuild.specs.Updates.{command_of}
@@ -19,7 +20,7 @@ returns-in-Update-clause-replans g c =
     let f = keyed_fn g.K.Keyed.prf g.K.Keyed.pad in
     let u = c.in-Update.update in
     let is = subst (Recalls run) c.in-Update.is knows.recalls in
-    let kept = subst (λ r. IsKept (Some r)) is.1 knows.kept in
+    let kept = subst (λ r. IsKept (Some (From at_first r))) is.1 knows.kept in
     let low : u.frames ≤ c.args.next = subst (λ l. first_recorded l ≤ c.args.next) c.in-Update.is c.requires.low in
     let high : c.args.next < u.frames + 1 = subst (λ l. c.args.next < frames_of_last l) c.in-Update.is c.requires.high in
     let at : u.frames ≡ c.args.next = omega (arith, low, high) in

@@ -1,4 +1,5 @@
-use Rattle.std.proofs.Common.{ap, drop, length, map, refl, ◌∙◌}
+use Rattle.std.proofs.Common.{ap, arith, drop, length, map, refl, ◌∙◌}
+use Rattle.client_registry.specs.Run.{at_first}
 use Rattle.client_registry.specs.Setup.{setup_with}
 use Rattle.sse_frames.specs.Frames.{frame_bytes}
 use Rattle.sse_frames.specs.SentParts.{numbered}
@@ -13,7 +14,7 @@ returns-clause-stands c =
     λ f keys.
     let can = c.planned.invariant.sendable in
     rw (← c.planned.view_is)
-    (c.begun-ready.ensures.stands f keys (setup_in c.planned.inside.index c.planned.inside.docs) refl can.accepted (c.frame_count.ensures.count ∙ can.frames))
+    (c.begun-ready.ensures.stands f keys at_first (setup_in c.planned.inside.index c.planned.inside.docs) refl can.accepted (omega (arith, c.frame_count.ensures.count, can.frames)))
 
 pub returns-clause-owed : goal.returns-clause-owed
 returns-clause-owed c =
@@ -26,6 +27,6 @@ returns-clause-frames c = ap length (returns-clause-owed c)
 pub returns-clause-owes : goal.returns-clause-owes
 returns-clause-owes c =
     λ f keys frames.
-    Owes-setup f keys (setup_with c.args.planned.docs.documents c.args.planned.b c.args.planned.big c.args.planned.pad) _ (returns-clause-stands c f keys)
+    Owes-setup f keys at_first (setup_with c.args.planned.docs.documents c.args.planned.b c.args.planned.big c.args.planned.pad) _ (returns-clause-stands c f keys)
     (returns-clause-owed c ∙ frames)
     c.at.ensures.next

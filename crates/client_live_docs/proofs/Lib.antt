@@ -1,0 +1,5 @@
+pub mod KeptIds
+pub mod LiveIds
+pub mod Counting
+pub mod Pushing
+pub mod Renewed

@@ -1,0 +1,3 @@
+pub mod AreLive
+pub mod LiveAfter
+pub mod Counts

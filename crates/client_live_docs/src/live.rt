@@ -1,0 +1,35 @@
+ghost use Rattle.std.specs.Prelude.{◌≡◌, IfOk, IfSome, IsOkUnless, List, None};
+ghost use Rattle.client_live_docs.specs.LiveAfter.{live_refusal, AreLiveAfter};
+ghost use Rattle.client_registry.specs.Document.{Document};
+ghost use Rattle.client_registry.specs.HashNumbers.{hash_numbers};
+
+use crate::collected::collect;
+use crate::counted::refusal;
+use crate::pending_update::PendingUpdate;
+use client_registry::{Docs, DocsFault, HashKeys, Registry};
+use std::alloc::Global;
+
+// Promise P207 (caller): The documents of a renewed setup are exactly the live ones, by rising identifier; too many are refused with their whole count.
+//   clauses: live, keys, refused, accepted; assumes: earlier calls; not: That an index of them has an accepted size.
+/// The documents that are live after the update, or now if there is none: by rising identifier, their words in the order in
+/// which they were given. Words and identifiers are hashed under these keys.
+///
+/// At most 2^18 documents, and 2^20 pairs of a word and a document. Errors, the first that applies:
+/// `TooManyDocuments(count)` and `TooManyPairs(count)`, with the count of all that are live. With none of these,
+/// `NoMemory` if memory runs out.
+pub fn live_docs(
+    alloc: Global,
+    registry: &Registry,
+    pending: Option<&PendingUpdate<'_>>,
+    keys: HashKeys,
+) -> Result<Docs, DocsFault>
+    ensures live { IfOk result (λ docs. AreLiveAfter registry.now pending.entry docs.documents) }
+    ensures keys { IfOk result (λ docs. docs.keys ≡ hash_numbers keys) }
+    ensures refused { (docs : List Document) → AreLiveAfter registry.now pending.entry docs → IfSome (live_refusal docs) (λ fault. result ≡ Err fault) }
+    ensures accepted { (docs : List Document) → AreLiveAfter registry.now pending.entry docs → live_refusal docs ≡ None → IsOkUnless result DocsFault.NoMemory }
+{
+    if let Some(fault) = refusal(registry, pending) {
+        return Err(fault);
+    }
+    Ok(collect(alloc, registry, pending, keys)?)
+}
