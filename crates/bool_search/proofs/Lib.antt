@@ -1,7 +1,8 @@
 pub mod Prints
 pub mod Stopping
 pub mod Exactly
-pub mod JoinedLists
+mod NumbersJoined
+mod Rising
 pub mod OneTree
 pub mod QueryOf
 pub mod FirstBad

@@ -7,3 +7,4 @@ pub mod Refused
 pub mod LineRefusals
 pub mod Asked
 pub mod Chosen
+pub mod Joined

@@ -13,6 +13,7 @@ mod fault;
 mod fields;
 mod front;
 mod join;
+mod joining;
 mod line_fault;
 mod node;
 mod query;
