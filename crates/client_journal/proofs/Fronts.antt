@@ -2,9 +2,10 @@
 use Rattle.std.proofs.Common.{◌≡◌, ℕ, zero, suc, ◌+◌, ◌<◌, ◌≤◌, List, [], ◌∷◌, take, drop, refl, sym, ap, subst, None, Some, inl, inr, arith}
 use Rattle.std.specs.Prelude.{◌⊎◌}
 use Rattle.std.proofs.lemmas.List.{take-append-drop}
-use Rattle.client_registry.proofs.HistoryLaws.{IsKept-first}
+use Rattle.client_registry.proofs.HistoryLaws.{IsFirstOf-longer, IsKept-first}
 use Rattle.client_registry.specs.Command.{Command}
-use Rattle.client_registry.specs.Run.{History, Run}
+use Rattle.client_registry.specs.Histories.{IsKept, longer}
+use Rattle.client_registry.specs.Run.{History, Run, From, Renewed, at_first}
 use Rattle.client_records.proofs.OpeningLaws.{nowhere_or_elsewhere, opens_once}
 use Rattle.client_records.specs.Openings.{AreUpdateRecords, Opens, OpensElsewhere, OpensTo}
 use Rattle.client_journal.specs.Recordings.{IsBadUnder}
@@ -21,16 +22,20 @@ abbrev pub front_run : ℕ → Run → Run
 front_run k run = record { setup = run.setup; later = take k run.later }
 
 pub opens_more_than : (mark : List ℕ) (first : List ℕ) (others : List (List ℕ)) (run : Run) → Opens mark (first ∷ others) run → (k : ℕ) → Opens mark (first ∷ take k others) (front_run k run)
-opens_more_than mark first others run opened k = record {
-  say = (opened.say.0, updates_front k others run.later opened.say.1);
-  kept = IsKept-first (Some (front_run k run)) (Some run) (refl, (drop k run.later, sym (take-append-drop k run.later))) opened.kept;
-}
+opens_more_than mark first others run opened k =
+    let front : History = Some (From at_first (front_run k run)) in
+    record {
+      say = (opened.say.0, updates_front k others run.later opened.say.1);
+      kept = IsKept-first front (longer (drop k run.later) front) (IsFirstOf-longer front (drop k run.later))
+          (subst (λ (later : List Command). IsKept (Some (From at_first (record { setup = run.setup; later = later })))) (sym (take-append-drop k run.later)) opened.kept);
+    }
 
 pub opens_front : (mark : List ℕ) (payloads : List (List ℕ)) (h : History) → OpensTo mark payloads h → (n : ℕ) → (before : History) × OpensTo mark (take n payloads) before
 opens_front mark payloads h opened zero = (None, refl)
 opens_front mark [] h opened (suc n) = (None, refl)
 opens_front mark (first ∷ others) None opened (suc n) = absurd (cc)
-opens_front mark (first ∷ others) (Some run) opened (suc n) = (Some (front_run n run), opens_more_than mark first others run opened n)
+opens_front mark (first ∷ others) (Some (From o run)) opened (suc n) = (Some (From at_first (front_run n run)), (refl, opens_more_than mark first others run opened.1 n))
+opens_front mark (first ∷ others) (Some (Renewed before key run)) opened (suc n) = absurd opened
 
 -- two openings that begin with one record are under one mark
 pub one_mark : (mark other first : List ℕ) (rest more : List (List ℕ)) (run run' : Run) → Opens mark (first ∷ rest) run → Opens other (first ∷ more) run' → other ≡ mark
@@ -56,7 +61,8 @@ elsewhere_first mark all n other = elsewhere_at mark all (n + 1) (omega arith) o
 pub open_not_elsewhere : (mark : List ℕ) (all : List (List ℕ)) (h : History) → OpensTo mark all h → OpensElsewhere mark (take 1 all) → ⊥
 open_not_elsewhere mark [] h opened other = other.opened.say
 open_not_elsewhere mark (first ∷ rest) None opened other = cc
-open_not_elsewhere mark (first ∷ rest) (Some run) opened other = other.differs (one_mark mark other.other first rest [] run other.run opened other.opened)
+open_not_elsewhere mark (first ∷ rest) (Some (From o run)) opened other = other.differs (one_mark mark other.other first rest [] run other.run opened.1 other.opened)
+open_not_elsewhere mark (first ∷ rest) (Some (Renewed before key run)) opened other = opened
 
 pub open_not_bad : (mark : List ℕ) (all : List (List ℕ)) (h : History) (n : ℕ) → OpensTo mark all h → IsBadUnder mark all n → ⊥
 open_not_bad mark all h n opened bad = let front = opens_front mark all h opened (n + 1) in bad.refused mark front.0 front.1

@@ -3,7 +3,7 @@ use Rattle.std.proofs.Common.{◌≡◌, ℕ, ◌+◌, ◌<◌, List, [], ◌∷
 use Rattle.std.specs.Prelude.{Option, Result}
 use Rattle.std.proofs.lemmas.List.{take_more, take_all}
 use Rattle.sse_outside.specs.Images.{NoOther}
-use Rattle.client_registry.specs.Run.{History, Run}
+use Rattle.client_registry.specs.Run.{History, Run, From, at_first}
 use Rattle.client_records.specs.Openings.{Opens, OpensElsewhere, OpensNowhere, OpensTo, IsBadRecord}
 use Rattle.client_rebuild.specs.Rebuilds.{Rebuilds}
 use Rattle.client_rebuild.specs.declared.fault.RebuildFault.{RebuildFault}
@@ -146,8 +146,8 @@ module _ {T : Type 0} (told : List (List ℕ) → Type 0) (own mark : List ℕ) 
       where
         by : (q : Result T JournalStop) → TakesAll told own q r → GoesOn q
         by (Ok done) t disk memory = refl
-        by (Err (BadRecord m)) t disk memory = absurd (open_not_bad mark all (Some run) m opened (under m t))
-        by (Err WrongKey) t disk memory = absurd (open_not_elsewhere mark all (Some run) opened (other t))
+        by (Err (BadRecord m)) t disk memory = absurd (open_not_bad mark all (Some (From at_first run)) m (refl, opened) (under m t))
+        by (Err WrongKey) t disk memory = absurd (open_not_elsewhere mark all (Some (From at_first run)) (refl, opened) (other t))
         by (Err NoJournal) t disk memory = absurd (t all told_all)
         by (Err HasRecords) t disk memory = absurd t
         by (Err Disk) t disk memory = absurd (disk refl)

@@ -4,3 +4,4 @@ pub mod Recordings
 pub mod Counts
 pub mod DiskRuns
 pub mod Shows
+pub mod Unread

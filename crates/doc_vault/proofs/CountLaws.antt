@@ -24,7 +24,7 @@ steady_only stops_for n never = record { rose = λ e. absurd (never e); steady =
 
 -- counts that are unchanged
 none_later : (c : Counts) → AreLater c c
-none_later c = record { sink = omega arith; shortages = omega arith; link = omega arith; recorder = omega arith }
+none_later c = record { source = omega arith; sink = omega arith; shortages = omega arith; link = omega arith; recorder = omega arith }
 
 -- a stop for no device
 pub shows-none : (c : Counts) (stop : VaultStop) → (stop ≡ source_stop → ⊥) → (stop ≡ sink_stop → ⊥) → (stop ≡ link_stop → ⊥) → (stop ≡ recorder_stop → ⊥) → ShowsCause c c stop
@@ -41,14 +41,14 @@ pub shows-memory : (c : Counts) → ShowsCause c c own_memory_stop
 shows-memory c = shows-none c own_memory_stop (λ e. cc) (λ e. cc) (λ e. cc) (λ e. cc)
 
 -- a line of the script that isn't read
-pub shows-input : (before now : ℕ) (others : Counts) (why : InputStop) → InputCause before now why → ShowsCause (with_source before others) (with_source now others) (stops.Run (runs.Input why))
-shows-input before now others why cause = record {
+pub shows-input : (before now : ℕ) (others : Counts) (why : InputStop) → before ≤ now → InputCause before now why → ShowsCause (with_source before others) (with_source now others) (stops.Run (runs.Input why))
+shows-input before now others why later cause = record {
   source = by why cause;
   sink = steady_only (stops.Run (runs.Input why) ≡ sink_stop) others.sink (λ e. cc);
   link = steady_only (stops.Run (runs.Input why) ≡ link_stop) others.link (λ e. cc);
   recorder = steady_only (stops.Run (runs.Input why) ≡ recorder_stop) others.recorder (λ e. cc);
   supplied = λ other. refl;
-  later = record { sink = omega arith; shortages = omega arith; link = omega arith; recorder = omega arith };
+  later = record { source = later; sink = omega arith; shortages = omega arith; link = omega arith; recorder = omega arith };
 }
   where
     by : (w : InputStop) → InputCause before now w → RoseOnly (stops.Run (runs.Input w) ≡ source_stop) before now
@@ -65,7 +65,7 @@ shows-kept before now others fault later rose same = record {
   link = steady_only (stops.Run (runs.Command (commands.Keeping fault)) ≡ link_stop) others.link (λ e. cc);
   recorder = by fault rose same;
   supplied = λ other. refl;
-  later = record { sink = omega arith; shortages = omega arith; link = omega arith; recorder = later };
+  later = record { source = omega arith; sink = omega arith; shortages = omega arith; link = omega arith; recorder = later };
 }
   where
     by : (w : DeviceFault) → (w ≡ devices.Failed → Rose before now) → (w ≡ devices.NoMemory → now ≡ before) → RoseOnly (stops.Run (runs.Command (commands.Keeping w)) ≡ recorder_stop) before now
@@ -81,7 +81,7 @@ shows-printed before now shortages shortages' others devices.Failed later more r
   link = steady_only (sink_stop ≡ link_stop) others.link (λ e. cc);
   recorder = steady_only (sink_stop ≡ recorder_stop) others.recorder (λ e. cc);
   supplied = λ other. supplied (λ e. cc);
-  later = record { sink = later; shortages = more; link = omega arith; recorder = omega arith };
+  later = record { source = omega arith; sink = later; shortages = more; link = omega arith; recorder = omega arith };
 }
 shows-printed before now shortages shortages' others devices.NoMemory later more rose same supplied = record {
   source = steady_only (own_memory_stop ≡ source_stop) others.source (λ e. cc);
@@ -89,7 +89,7 @@ shows-printed before now shortages shortages' others devices.NoMemory later more
   link = steady_only (own_memory_stop ≡ link_stop) others.link (λ e. cc);
   recorder = steady_only (own_memory_stop ≡ recorder_stop) others.recorder (λ e. cc);
   supplied = λ other. absurd (other refl);
-  later = record { sink = later; shortages = more; link = omega arith; recorder = omega arith };
+  later = record { source = omega arith; sink = later; shortages = more; link = omega arith; recorder = omega arith };
 }
 
 -- a stop in an exchange
@@ -100,7 +100,7 @@ shows-exchange before now others stop kind later link = record {
   link = link;
   recorder = steady_only (stop ≡ recorder_stop) others.recorder (λ e. subst IsExchangeStop e kind);
   supplied = λ other. refl;
-  later = record { sink = omega arith; shortages = omega arith; link = later; recorder = omega arith };
+  later = record { source = omega arith; sink = omega arith; shortages = omega arith; link = later; recorder = omega arith };
 }
 
 pub shows-cut : (before now : ℕ) (others : Counts) → before ≤ now → Rose before now → ShowsCause (with_link before others) (with_link now others) link_stop

@@ -1,7 +1,7 @@
 mod Acked
 mod Asked
 pub mod CountLaws
-mod FaultLaws
+pub mod FaultLaws
 mod Greeted
 mod KeyLineRead
 mod Begun

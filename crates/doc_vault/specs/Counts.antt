@@ -48,8 +48,9 @@ pub record RoseOnly (stops_for : Type 0) (before now : ℕ) : Type 0 where
   pub rose : stops_for → Rose before now
   pub steady : (stops_for → ⊥) → now ≡ before
 
--- these counts never fall; nor does that of the source, below 2^64 - 1
+-- no count falls
 pub record AreLater (old new : Counts) : Type 0 where
+  pub source : old.source ≤ new.source
   pub sink : old.sink ≤ new.sink
   pub shortages : old.shortages ≤ new.shortages
   pub link : old.link ≤ new.link

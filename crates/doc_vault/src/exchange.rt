@@ -24,12 +24,11 @@ use vault_link::{LinkFault, VaultLink};
 use vault_script::VaultStop;
 use vault_shelf::{Shelf, TextBuffer, VaultCommand};
 
+// Promise P234, also here; clauses: counts, later, cause
 /// Sends one frame, and receives the reply to it at the front of `reply`; the answer is how many bytes it has.
-pub(crate) fn ask<L: VaultLink>(
-    link: &mut L,
-    frame: &[u8],
-    reply: &mut [u8],
-) -> Result<usize, VaultStop>
+///
+/// It stops if the link is cut or out of memory. `reply` has room for 65,604 bytes.
+pub fn ask<L: VaultLink>(link: &mut L, frame: &[u8], reply: &mut [u8]) -> Result<usize, VaultStop>
     requires frame { IsVaultFrame frame.now }
     requires room { 65604 ≤ length reply.old }
     ensures within { IfOk result (λ n. n ≤ length reply.new) }

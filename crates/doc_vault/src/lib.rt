@@ -28,7 +28,7 @@ mod tools;
 mod turn;
 
 pub use beginning::first_run;
-pub use exchange::send_again;
+pub use exchange::{ask, send_again};
 pub use greeting::{ask_next, greet};
 pub use lines::run_lines;
 pub use printing::show;

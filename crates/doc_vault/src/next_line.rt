@@ -21,6 +21,7 @@ pub(crate) fn next_line<S: Source>(
     ensures counted { OnOk result (input.new.number ≡ input.old.number + 1) }
     ensures less { IfOk result (λ line. is_some line ≡ true →
         bytes_to_come input.new.pending (S.handed_out source.new) < bytes_to_come input.old.pending (S.handed_out source.old)) }
+    ensures later { S.faults source.old ≤ S.faults source.new }
     ensures source { KeepsSource InputCause (S.faults source.old) (S.faults source.new) result }
 {
     if !input.advance(source)? {

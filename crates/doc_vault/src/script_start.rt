@@ -36,7 +36,7 @@ fn first_of(line: VaultLine) -> First
 }
 
 // Promise P223 (caller): A vault's script begins with its key line; if another line or none stands there, that line's number is told.
-//   clauses: found, missing, few_left, source; assumes: observable devices; not: Over a source that isn't observable, which line it was.
+//   clauses: found, missing, few_left, later, source; assumes: observable devices; not: Over a source that isn't observable, which line it was.
 /// Reads a script up to its key line, which is the first that isn't empty; lines are counted from 1.
 ///
 /// Errors: `Line(number)` if the line of this number isn't in the grammar or is a command, or, one above the last line, if
@@ -50,6 +50,7 @@ pub fn key_line<S: Source>(
     ensures found { IfOk result (λ key. FindsKey (input.old.number + 1) (lines_left input.old.pending (S.remaining source.old)) key input.new.number (lines_left input.new.pending (S.remaining source.new))) }
     ensures missing { (number : ℕ) → result ≡ Err (InputStop.Line number) → MissesKey (input.old.number + 1) (lines_left input.old.pending (S.remaining source.old)) number }
     ensures few_left { IfOk result (λ key. input.new.number + bytes_to_come input.new.pending (S.handed_out source.new) ≤ 2 ^ 63) }
+    ensures later { S.faults source.old ≤ S.faults source.new }
     ensures source { KeepsSource InputCause (S.faults source.old) (S.faults source.new) result }
 {
     'lines: loop {

@@ -66,6 +66,7 @@ impl Input {
         ensures counted_long { (number : ℕ) → result ≡ Err (InputStop.Line number) → number ≡ min (self.old.number + 1) (2 ^ 64 - 1) }
         ensures less { IfOk result (λ more. more ≡ true →
             bytes_to_come self.new.pending (S.handed_out source.new) < bytes_to_come self.old.pending (S.handed_out source.old)) }
+        ensures later { S.faults source.old ≤ S.faults source.new }
         ensures steady { OnOk result (S.faults source.new ≡ S.faults source.old) }
         ensures cause { IfErr result (InputCause (S.faults source.old) (S.faults source.new)) }
     {

@@ -6,10 +6,11 @@ use Rattle.script_run_texts.specs.declared.stop_cause.StopCause.{StopCause}
 use Rattle.script_run_texts.specs.declared.stop_cause.StopCause.TheVariants as stops
 use Rattle.sse_net.specs.Asked.{Asked}
 use Rattle.client_journal.specs.Shows.{prints}
+use Rattle.client_journal.specs.Unread.{EndsUnopened, no_server}
 use Rattle.def_link_events.specs.Events.{Remote}
 use Rattle.def_script_meaning.specs.Exchange.{Told}
 use Rattle.sse_client.specs.Calls.{shows}
-use Rattle.sse_net.specs.Runs.{EndsUnopened, HasNotBegun, HasRunAfterNumber, RunsAs, TellsStreams, no_server}
+use Rattle.sse_net.specs.Runs.{HasNotBegun, HasRunAfterNumber, RunsAs, TellsStreams}
 use Rattle.sse_outside.specs.Fronts.{TookOrRose}
 
 -- none of these statuses tells a fault of a stream, or that the script was read

@@ -1,43 +1,17 @@
--- What the program does: a run over a disk and a link, or an end before it has both.
+-- What the program does over a disk and a link: a run, as an owner or as none.
 use Rattle.std.specs.Prelude.{◌≡◌, ◌≢◌, ◌⊎◌, ◌≤◌, ℕ, List, Option, None, Some}
 use Rattle.std.specs.Int.{w64, to_be_bytes}
 use Rattle.std.specs.Io.KnownBytes.{append_known}
 use Rattle.keyed_fn.specs.KeyedFn.{KeyedFn}
 use Rattle.program_words.specs.Modes.{RunOn, More, disk_mode_of}
 use Rattle.sse_outside.specs.Causes.{Rose}
-use Rattle.sse_outside.specs.Fronts.{TookFront, TookOrRose}
-use Rattle.sse_outside.specs.declared.device_fault.DeviceFault.TheVariants as devices
-use Rattle.script_run_texts.specs.Stops.{last_line, stop_status}
-use Rattle.script_run_texts.specs.declared.command_stop.CommandStop.TheVariants as commands
-use Rattle.script_run_texts.specs.declared.peer_stop.PeerStop.TheVariants as peers
-use Rattle.script_run_texts.specs.declared.stop_cause.StopCause.{StopCause}
-use Rattle.script_run_texts.specs.declared.stop_cause.StopCause.TheVariants as stops
+use Rattle.sse_outside.specs.Fronts.{TookFront}
 use Rattle.def_link_events.specs.Events.{Remote}
 use Rattle.def_script_meaning.specs.Exchange.{Told}
 use Rattle.sse_client.specs.Calls.{shows}
 use Rattle.sse_client.specs.OnDisk.{BeginsOnDisk, ResumesOnDisk}
 use Rattle.client_journal.specs.Shows.{SinkShows, SourceShows}
 use Rattle.sse_client.specs.WholeRuns.{LeavesDevices}
-
--- the file can't be opened
-abbrev pub no_file : StopCause
-no_file = stops.Command (commands.Keeping devices.Failed)
-
--- the address can't be reached
-abbrev pub no_server : StopCause
-no_server = stops.Command (commands.Exchange peers.Link)
-
--- the program ended for this cause, and read nothing: its status, and its line, or a proper front of it where the sink failed or memory
--- was out
-pub record EndsUnread {S : Type 0} (stop : StopCause) (source source' : S) (sink sink' : SinkShows) (status : ℕ) : Type 0 where
-  pub unread : source' ≡ source
-  pub status_is : status ≡ stop_status stop
-  pub line : TookOrRose sink.written sink'.written (last_line stop) sink.faults sink'.faults sink.shortages sink'.shortages
-
--- it opened nothing and called nobody either
-pub record EndsUnopened {P S : Type 0} (stop : StopCause) (places places' : P) (source source' : S) (sink sink' : SinkShows) (status : ℕ) : Type 0 where
-  pub unopened : places' ≡ places
-  pub end : EndsUnread stop source source' sink sink' status
 
 -- By the counts of faults of source and sink: the status is one of the table, the script was read to its end where no fault is told, and a
 -- device's count rose where the status tells its fault. The sink's may rise behind that, in the last line.

@@ -11,23 +11,24 @@
 #![tactic(auto)]
 
 mod asked;
+mod over_tcp;
 mod owner_link;
 mod program;
 #[cfg(test)]
 mod runs_in_memory;
-mod system_places;
 
+use client_places::SystemPlaces;
 use outside_words::command_line;
+use over_tcp::ServerOverTcp;
 use program::net_main;
 use sse_outside::{StdSink, StdSource};
 use std::process::ExitCode;
-use system_places::SystemPlaces;
 
 /// Runs the script of standard input over a server, and ends with the status of the run.
 fn main(rt: HostRuntime) -> ExitCode {
     let mut source = StdSource::new(rt.stdin());
     let mut sink = StdSink::new(rt.stdout());
-    let mut places = SystemPlaces::new(&rt);
+    let mut places = SystemPlaces::new(&rt, ServerOverTcp);
     let given = command_line(&rt);
     let status = net_main(rt.alloc(), &mut places, &given, &mut source, &mut sink);
     ExitCode::from(status)

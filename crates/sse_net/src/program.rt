@@ -4,8 +4,9 @@ ghost use Rattle.keyed_fn.specs.KeyedFn.{keyed_fn};
 ghost use Rattle.sse_net.specs.Asked as asks;
 ghost use Rattle.sse_net.specs.Asked.{asked_view};
 ghost use Rattle.client_places.specs.Events.{EndsAt, HasDone};
-ghost use Rattle.sse_net.specs.Runs.{EndsUnopened, EndsUnread, HasRunOnDisk, RunsAs, TellsStreams, no_file, no_server};
+ghost use Rattle.sse_net.specs.Runs.{HasRunOnDisk, RunsAs, TellsStreams};
 ghost use Rattle.client_journal.specs.Shows.{SinkShows, gives, prints};
+ghost use Rattle.client_journal.specs.Unread.{EndsUnopened, EndsUnread, no_file, no_server};
 ghost use Rattle.sse_outside.specs.Causes.{Rose};
 
 use crate::asked::{Asked, asked_by};

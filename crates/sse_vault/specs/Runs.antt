@@ -1,18 +1,11 @@
--- What the program does: a run over a disk and a link, a restore over a link, or an end before it has them.
+-- What the program does: a run over a disk and a link, or a restore over a link.
 use Rattle.std.specs.Prelude.{◌≡◌, ◌⊎◌, ℕ, List, [], ◌∷◌, Option, Some, IfSome}
 use Rattle.client_places.specs.Events.{Event, Connected, NotConnected, HungUp, with_events}
 use Rattle.vault_shelf.specs.Shelves.{VaultCommand}
 use Rattle.keyed_fn.specs.KeyedFn.{KeyedFn}
 use Rattle.keyed_fn.specs.VaultFormulas.{vault_secrets}
-use Rattle.script_run_texts.specs.Stops.{last_line, stop_status}
 use Rattle.script_run_texts.specs.Words.{RunOn, More, disk_mode_of}
-use Rattle.script_run_texts.specs.declared.command_stop.CommandStop.TheVariants as commands
-use Rattle.script_run_texts.specs.declared.peer_stop.PeerStop.TheVariants as peers
-use Rattle.script_run_texts.specs.declared.stop_cause.StopCause.{StopCause}
-use Rattle.script_run_texts.specs.declared.stop_cause.StopCause.TheVariants as stops
 use Rattle.client_journal.specs.Shows.{SinkShows, SourceShows}
-use Rattle.sse_outside.specs.Fronts.{TookOrRose}
-use Rattle.sse_outside.specs.declared.device_fault.DeviceFault.TheVariants as devices
 use Rattle.sse_script.specs.TextLines.{lines_left}
 use Rattle.vault_link.specs.Exchanges.{Exchange}
 use Rattle.vault_link.specs.Loopbacks.{LoopbackState}
@@ -23,25 +16,6 @@ use Rattle.vault_client.specs.OnDisk.{BeginsOnDisk, LeavesDevices, ResumesOnDisk
 use Rattle.vault_restore.specs.KeyScripts.{KeyAlone, key_script}
 use Rattle.vault_restore.specs.LeftInOrder.{IsLeftInOrder}
 use Rattle.vault_restore.specs.WholeRestores.{BringsBack, IsRestore, TellsRestore, prints}
-
--- the file can't be opened
-abbrev pub no_file : StopCause
-no_file = stops.Command (commands.Keeping devices.Failed)
-
--- the address can't be reached
-abbrev pub no_server : StopCause
-no_server = stops.Command (commands.Exchange peers.Link)
-
--- the program ended for this cause, and read nothing: its status, and its line, or a strict prefix of it if a count of the sink rose
-pub record EndsUnread {S : Type 0} (stop : StopCause) (source source' : S) (sink sink' : SinkShows) (status : ℕ) : Type 0 where
-  pub unread : source' ≡ source
-  pub status_is : status ≡ stop_status stop
-  pub line : TookOrRose sink.written sink'.written (last_line stop) sink.faults sink'.faults sink.shortages sink'.shortages
-
--- it opened nothing and called nobody either
-pub record EndsUnopened {P S : Type 0} (stop : StopCause) (places places' : P) (source source' : S) (sink sink' : SinkShows) (status : ℕ) : Type 0 where
-  pub unopened : places' ≡ places
-  pub end : EndsUnread stop source source' sink sink' status
 
 -- over a disk and a link, from where they were to where they are, these words' run did all that `vault_run` says of it
 pub record HasRunOnDisk {D L : Type 0} (content : D → Option (List ℕ)) (images : D → List ℕ → Type 0) (moment : D → ℕ) (left_since : D → ℕ → List ℕ → Type 0) (disk_faults : D → ℕ)

@@ -1,7 +1,8 @@
 ghost use Rattle.std.specs.Prelude.{◌≡◌, ◌≤◌, ◌⊎◌, IfOk, map, string_bytes};
 ghost use Rattle.keyed_fn.specs.KeyedFn.{keyed_fn};
 ghost use Rattle.client_journal.specs.Shows.{SinkShows, gives, prints};
-ghost use Rattle.sse_vault.specs.Runs.{EndsUnread, HasRunInMemory, HasRunOnDisk, IsUnused};
+ghost use Rattle.client_journal.specs.Unread.{EndsUnread};
+ghost use Rattle.sse_vault.specs.Runs.{HasRunInMemory, HasRunOnDisk, IsUnused};
 
 use keyed_fn::{Keyed, Real};
 use outside_memory_disk::SteadyDisk;

@@ -11,20 +11,21 @@
 
 mod asked;
 mod in_memory;
+mod over_tcp;
 mod program;
-mod system_places;
 
+use client_places::SystemPlaces;
 use outside_words::command_line;
+use over_tcp::VaultOverTcp;
 use program::vault_main;
 use sse_outside::{StdSink, StdSource};
 use std::process::ExitCode;
-use system_places::SystemPlaces;
 
 /// Runs the script of standard input with a vault, or restores its texts, and ends with the status of that.
 fn main(rt: HostRuntime) -> ExitCode {
     let mut source = StdSource::new(rt.stdin());
     let mut sink = StdSink::new(rt.stdout());
-    let mut places = SystemPlaces::new(&rt);
+    let mut places = SystemPlaces::new(&rt, VaultOverTcp);
     let given = command_line(&rt);
     let status = vault_main(rt.alloc(), &mut places, &given, &mut source, &mut sink);
     ExitCode::from(status)

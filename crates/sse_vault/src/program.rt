@@ -2,9 +2,10 @@ ghost use Rattle.std.specs.Prelude.{◌≡◌, ◌≤◌, ◌⊎◌, ℕ, IfErr,
 ghost use Rattle.client_places.specs.Events.{EndsAt, HasDone};
 ghost use Rattle.keyed_fn.specs.KeyedFn.{keyed_fn};
 ghost use Rattle.client_journal.specs.Shows.{SinkShows, gives, prints};
+ghost use Rattle.client_journal.specs.Unread.{EndsUnopened, EndsUnread, no_file, no_server};
 ghost use Rattle.sse_outside.specs.Causes.{Rose};
 ghost use Rattle.sse_vault.specs.Asked as asks;
-ghost use Rattle.sse_vault.specs.Runs.{CallsOrEnds, EndsUnopened, EndsUnread, HasRestored, HasRunInMemory, HasRunOnDisk, no_file, no_server};
+ghost use Rattle.sse_vault.specs.Runs.{CallsOrEnds, HasRestored, HasRunInMemory, HasRunOnDisk};
 
 use crate::asked::{Asked, asked_by};
 use crate::in_memory::run_in_memory;

@@ -4,12 +4,10 @@ use Rattle.std.specs.Prelude.{◌⊎◌, Option, Result}
 use Rattle.std.specs.Result.{IsErrAnd}
 use Rattle.keyed_fn.specs.KeyedFn.{KeyedFn}
 use Rattle.keyed_fn.specs.VaultFormulas.{VaultSecrets, vault_slot}
-use Rattle.script_run_texts.specs.Causes.{LinkCause, SinkCause}
 use Rattle.vault_server.specs.VaultFrames.{FetchFrame, InVault, vault_bytes}
 use Rattle.vault_script.specs.declared.vault_stop.VaultStop.{VaultStop}
 use Rattle.doc_vault.specs.Outcomes.{link_stop, memory_stop, own_memory_stop}
 use Rattle.doc_vault.specs.Sights.{HasPassed, LinkSight}
-use Rattle.vault_restore.specs.Counts.{KeepsCounts, Shows}
 use Rattle.vault_restore.specs.RestoredLines.{RestoredLine}
 use Rattle.vault_restore.specs.Slots.{JudgesSlot, slot_outcome}
 use Rattle.vault_restore.specs.Visits.{FetchesOrStops, HasFetched, RestoreSight, StopsFetch, StopsInLine, Unanswered, Unfetched, Unjudged, Unprinted, Unsent, VisitsOrStops}
@@ -54,12 +52,3 @@ module _ (f : KeyedFn) (keys : VaultSecrets) (v : ℕ) where
   visited-unprinted old new text line (Ok slot) at is fetched stops = absurd is
   visited-unprinted old new text line (Err stop) at is fetched stops =
       Unprinted (record { reply = fetched.reply; line = line }) (record { grammar = fetched.grammar; comes = fetched.comes }) fetched.passed (subst (λ (st : VaultStop). StopsInLine line old.written new.written st) (sym is) stops)
-
--- a call that stopped: what the counts show of the stop
-pub counts-stopped : {T : Type 0} → (link link' sink sink' : ℕ) (result : Result T VaultStop) (at : VaultStop) → IsErrAnd result (λ stop. stop ≡ at) → Shows LinkCause link link' at → Shows SinkCause sink sink' at
-    → KeepsCounts link link' sink sink' result
-counts-stopped link link' sink sink' (Ok done) at is shows shows2 = absurd is
-counts-stopped link link' sink sink' (Err stop) at is shows shows2 = record {
-  of_link = record { steady = tt; shows = subst (λ (st : VaultStop). Shows LinkCause link link' st) (sym is) shows };
-  of_sink = record { steady = tt; shows = subst (λ (st : VaultStop). Shows SinkCause sink sink' st) (sym is) shows2 };
-}

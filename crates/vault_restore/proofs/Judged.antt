@@ -1,13 +1,11 @@
--- A reply that was judged: what it comes to, and what the link's count of faults shows.
+-- A reply that was judged: what it comes to, and whether it reports a fault of the vault's disk.
 use Rattle.std.proofs.Common.{◌≡◌, inl, inr, ℕ, ◌+◌, List, [], ◌∷◌, None, Some, Ok, Err, refl, sym, ap, ◌∙◌, subst}
 use Rattle.std.specs.Prelude.{Option, Result, option_map}
 use Rattle.keyed_fn.specs.KeyedFn.{KeyedFn}
 use Rattle.keyed_fn.specs.VaultFormulas.{VaultSecrets}
-use Rattle.script_run_texts.specs.Causes.{LinkCause}
-use Rattle.vault_server.specs.VaultFrames.{VaultReplyText, Took, BodyReply, Absent, Next, Clash, NoMemory, StoreFault, BadFrame}
+use Rattle.vault_server.specs.VaultFrames.{VaultReplyText, Took, BodyReply, Absent, Next, Clash, NoMemory, StoreFault, BadFrame, vault_reply_bytes}
 use Rattle.vault_server.specs.VaultViews.{reply_view}
 use Rattle.vault_server.specs.declared.vault_reply.VaultReply.{VaultReply}
-use Rattle.vault_link.specs.Asks.{CountsReply}
 use Rattle.vault_link.specs.ReplySizes.{IsVaultReply}
 use Rattle.vault_link.proofs.ReplyLaws.{no_other}
 use Rattle.vault_shelf.specs.VaultTexts.{Fetched, Opened, Oversized, Forged, fetched_text}
@@ -15,9 +13,10 @@ use Rattle.vault_shelf.specs.OpenedView.{opened_view}
 use Rattle.vault_shelf.specs.declared.text_buffer.Opened as kinds
 use Rattle.vault_shelf.specs.declared.text_buffer.Opened.TheVariants as openings
 use Rattle.vault_script.specs.declared.vault_stop.VaultStop.{VaultStop}
-use Rattle.doc_vault.specs.Outcomes.{IsRead, bad_reply, own_memory_stop}
+use Rattle.doc_vault.specs.Counts.{TellsFault}
+use Rattle.doc_vault.specs.Outcomes.{IsRead, bad_reply, link_stop, own_memory_stop}
 use Rattle.doc_vault.specs.Sights.{HasPassed, LinkSight}
-use Rattle.vault_restore.specs.Counts.{KeepsCount, Shows}
+use Rattle.doc_vault.proofs.FaultLaws.{tells-bytes, tells-none, tells-stop, tells-well}
 use Rattle.vault_restore.specs.RestoredLines.{RestoredLine, TextLine, ForgedLine}
 use Rattle.vault_restore.specs.Restores.{AsksNext, JudgesNumber, NotNumbered, TakesNumber, question}
 use Rattle.vault_restore.specs.Slots.{Holds, IsUnread, JudgesRead, JudgesSlot, JudgesText, SlotOutcome, Stops, Unfit, Unread, held_outcome, line_of, slot_outcome, unfit}
@@ -76,50 +75,45 @@ came_unfit f keys v bytes (Some NoMemory) stop e = stops_inside _ stop e
 came_unfit f keys v bytes (Some StoreFault) stop e = stops_inside _ stop e
 came_unfit f keys v bytes (Some BadFrame) stop e = stops_inside _ stop e
 
--- The link's count.
+-- Whether it reports a fault of the vault's disk.
 
-module _ (bytes : List ℕ) (before now : ℕ) (counts : CountsReply bytes before now) where
-  not_fault : (reply : VaultReplyText) → IsVaultReply reply bytes → (reply ≡ StoreFault → ⊥) → now ≡ before
-  not_fault reply is other = counts.steady (λ e. other (no_other reply StoreFault bytes is (record { grammar = tt; spelled = e })))
+module _ (bytes : List ℕ) where
+  -- a reply that isn't an answer to a question
+  unfit_at : {T : Type 0} (reply : VaultReplyText) → TellsFault {T = T} (reply ≡ StoreFault) (Err (unfit bytes (Some reply)))
+  unfit_at (Took n) = record { fault = λ e. cc; only = λ e. cc; kind = tt }
+  unfit_at (BodyReply tag sealed) = record { fault = λ e. cc; only = λ e. cc; kind = tt }
+  unfit_at Absent = record { fault = λ e. cc; only = λ e. cc; kind = tt }
+  unfit_at (Next n) = record { fault = λ e. cc; only = λ e. cc; kind = tt }
+  unfit_at Clash = record { fault = λ e. cc; only = λ e. cc; kind = tt }
+  unfit_at NoMemory = record { fault = λ e. cc; only = λ e. cc; kind = tt }
+  unfit_at StoreFault = record { fault = λ e. refl; only = λ e. refl; kind = tt }
+  unfit_at BadFrame = record { fault = λ e. cc; only = λ e. cc; kind = tt }
 
-  unfit_shows : (read : Option VaultReplyText) → IsRead bytes read → Shows LinkCause before now (unfit bytes read)
-  unfit_shows None is = counts.steady (λ e. is StoreFault (record { grammar = tt; spelled = e }))
-  unfit_shows (Some (Took n)) is = not_fault (Took n) is (λ e. cc)
-  unfit_shows (Some (BodyReply tag sealed)) is = not_fault (BodyReply tag sealed) is (λ e. cc)
-  unfit_shows (Some Absent) is = not_fault Absent is (λ e. cc)
-  unfit_shows (Some (Next n)) is = not_fault (Next n) is (λ e. cc)
-  unfit_shows (Some Clash) is = not_fault Clash is (λ e. cc)
-  unfit_shows (Some NoMemory) is = not_fault NoMemory is (λ e. cc)
-  unfit_shows (Some StoreFault) is = counts.store_fault is.spelled
-  unfit_shows (Some BadFrame) is = not_fault BadFrame is (λ e. cc)
-
-  stop_shows : (at stop : VaultStop) → stop ≡ at → Shows LinkCause before now at → Shows LinkCause before now stop
-  stop_shows at stop e shows = subst (λ (st : VaultStop). Shows LinkCause before now st) (sym e) shows
+  unfit_tells : {T : Type 0} (read : Option VaultReplyText) (stop : VaultStop) → IsRead bytes read → stop ≡ unfit bytes read → TellsFault {T = T} (bytes ≡ vault_reply_bytes StoreFault) (Err stop)
+  unfit_tells None stop is e = tells-none bytes stop is e
+  unfit_tells {T} (Some reply) stop is e = tells-bytes reply bytes (Err stop) is (subst (λ (st : VaultStop). TellsFault {T = T} (reply ≡ StoreFault) (Err st)) (sym e) (unfit_at reply))
 
   module _ (f : KeyedFn) (keys : VaultSecrets) (v : ℕ) where
     -- a slot that holds something was no report of a fault
-    holds_steady : (read : Option VaultReplyText) (line : Option RestoredLine) → IsRead bytes read → slot_outcome f keys v bytes read ≡ Holds line → now ≡ before
-    holds_steady None line is e = unfit_shows None is
-    holds_steady (Some (Took m)) line is e = unfit_shows (Some (Took m)) is
-    holds_steady (Some (BodyReply tag sealed)) line is e = unfit_shows (Some (BodyReply tag sealed)) is
-    holds_steady (Some Absent) line is e = unfit_shows (Some Absent) is
-    holds_steady (Some (Next m)) line is e = unfit_shows (Some (Next m)) is
-    holds_steady (Some Clash) line is e = unfit_shows (Some Clash) is
-    holds_steady (Some NoMemory) line is e = unfit_shows (Some NoMemory) is
-    holds_steady (Some StoreFault) line is e = absurd (let none : Stops (unfit bytes (Some StoreFault)) ≡ Holds line = e in cc)
-    holds_steady (Some BadFrame) line is e = unfit_shows (Some BadFrame) is
+    holds_other : (read : Option VaultReplyText) (line : Option RestoredLine) → IsRead bytes read → slot_outcome f keys v bytes read ≡ Holds line → bytes ≡ vault_reply_bytes StoreFault → ⊥
+    holds_other None line is e told = is StoreFault (record { grammar = tt; spelled = told })
+    holds_other (Some reply) line is e told =
+        let same : reply ≡ StoreFault = no_other reply StoreFault bytes is (record { grammar = tt; spelled = told }) in
+        let none : Stops link_stop ≡ Holds line = subst (λ (r : VaultReplyText). slot_outcome f keys v bytes (Some r) ≡ Holds line) same e in
+        cc
 
-    -- a text for which there was no memory
-    unread_shows : (stop : VaultStop) → IsUnread bytes stop → Shows LinkCause before now stop
-    unread_shows stop unread =
-        stop_shows own_memory_stop stop unread.stop_is
-        (unfit_shows (Some (BodyReply unread.text.0 unread.text.1)) (subst (λ (r : VaultReplyText). IsVaultReply r bytes) unread.text.2 unread.is_read))
+    -- nor was a text for which there was no memory
+    unread_tells : (stop : VaultStop) → IsUnread bytes stop → TellsFault {T = Slot} (bytes ≡ vault_reply_bytes StoreFault) (Err stop)
+    unread_tells stop unread =
+        tells-bytes unread.reply bytes (Err stop) unread.is_read
+        (tells-stop (unread.reply ≡ StoreFault) (Err stop) own_memory_stop (λ e. let none : BodyReply unread.text.0 unread.text.1 ≡ StoreFault = sym unread.text.2 ∙ e in cc) unread.stop_is (λ e. cc) tt)
 
-    pub slot_counts : (id : ℕ) (text : List ℕ) (result : Result Slot VaultStop) → JudgesSlot (slot_outcome f keys v) bytes id text result → KeepsCount LinkCause before now result
-    slot_counts id text (Ok slot) judged = record { steady = holds_steady judged.read (line_of slot id text) judged.is_read judged.comes; shows = tt }
-    slot_counts id text (Err stop) (Unfit comes) = record { steady = tt; shows = stop_shows (unfit bytes comes.read) stop (came_unfit f keys v bytes comes.read stop comes.comes) (unfit_shows comes.read comes.is_read) }
-    slot_counts id text (Err stop) (Unread unread) = record { steady = tt; shows = unread_shows stop unread }
+    pub slot_tells : (id : ℕ) (text : List ℕ) (result : Result Slot VaultStop) → JudgesSlot (slot_outcome f keys v) bytes id text result → TellsFault (bytes ≡ vault_reply_bytes StoreFault) result
+    slot_tells id text (Ok slot) judged = tells-well (bytes ≡ vault_reply_bytes StoreFault) slot (holds_other judged.read (line_of slot id text) judged.is_read judged.comes)
+    slot_tells id text (Err stop) (Unfit comes) = unfit_tells comes.read stop comes.is_read (came_unfit f keys v bytes comes.read stop comes.comes)
+    slot_tells id text (Err stop) (Unread unread) = unread_tells stop unread
 
-  pub number_counts : (result : Result ℕ VaultStop) → JudgesNumber bytes result → KeepsCount LinkCause before now result
-  number_counts (Ok n) judged = record { steady = unfit_shows (Some (Next n)) judged; shows = tt }
-  number_counts (Err stop) judged = record { steady = tt; shows = stop_shows (unfit bytes judged.read) stop judged.stop_is (unfit_shows judged.read judged.is_read) }
+  pub number_tells : (result : Result ℕ VaultStop) → JudgesNumber bytes result → TellsFault (bytes ≡ vault_reply_bytes StoreFault) result
+  number_tells (Ok n) judged =
+      tells-well (bytes ≡ vault_reply_bytes StoreFault) n (λ told. let none : Next n ≡ StoreFault = no_other (Next n) StoreFault bytes judged (record { grammar = tt; spelled = told }) in cc)
+  number_tells (Err stop) judged = unfit_tells judged.read stop judged.is_read judged.stop_is

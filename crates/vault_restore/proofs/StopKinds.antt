@@ -1,9 +1,8 @@
 -- Why a restore stops, by kinds: what the counts of its devices show, and the status of each.
-use Rattle.std.proofs.Common.{◌≡◌, inl, inr, ℕ, ◌≤◌, List, length, None, Some, refl, sym, subst, arith}
+use Rattle.std.proofs.Common.{◌≡◌, inl, inr, ℕ, ◌≤◌, List, length, None, Some, refl, sym, ap, ◌∙◌, subst, arith}
 use Rattle.std.specs.Prelude.{◌⊎◌, ◌≢◌, Option}
 use Rattle.keyed_fn.specs.KeyedFn.{KeyedFn}
 use Rattle.keyed_fn.specs.VaultFormulas.{VaultSecrets}
-use Rattle.script_run_texts.specs.Causes.{LinkCause, SinkCause, SourceCause}
 use Rattle.script_run_texts.specs.Stops.{stop_of_sink}
 use Rattle.script_run_texts.specs.declared.input_stop.InputStop.{InputStop}
 use Rattle.script_run_texts.specs.declared.input_stop.InputStop.TheVariants as inputs
@@ -15,9 +14,9 @@ use Rattle.vault_server.specs.VaultFrames.{VaultReplyText, Took, BodyReply, Abse
 use Rattle.vault_script.specs.VaultStops.{vault_status}
 use Rattle.vault_script.specs.declared.vault_stop.VaultStop.{VaultStop}
 use Rattle.vault_script.specs.declared.vault_stop.VaultStop.TheVariants as stops
+use Rattle.doc_vault.specs.Counts.{Counts, ShowsCause, sink_stop, source_stop}
 use Rattle.doc_vault.specs.Outcomes.{bad_reply, link_stop, memory_stop, own_memory_stop}
 use Rattle.doc_vault.specs.Sights.{LinkSight}
-use Rattle.vault_restore.specs.Counts.{Shows}
 use Rattle.vault_restore.specs.Restores.{AtEnd, AtNext, AtQuestion, AtSlot, AtStart, NotAnswered, NotAsked, NotNumbered, StopsAfter, StopsAsking, StopsSomewhere}
 use Rattle.vault_restore.specs.Slots.{Unfit, Unread, unfit}
 use Rattle.vault_restore.specs.Visits.{RestoreSight, StopsFetch, Unanswered, Unfetched, Unjudged, Unprinted, Unsent, Visit}
@@ -89,39 +88,14 @@ pub script_kind : (f : KeyedFn) (left : Option (List (List ℕ))) (old new : Res
 script_kind f left old new stop (InScript why is bad same) = AtInput why is
 script_kind f left old new stop (UnderKey key script stops) = restore_kind f _ old new stop stops.stops
 
--- What the counts show of them.
-
-pub peer_sink : (count : ℕ) (stop : VaultStop) → IsPeerStop stop → Shows SinkCause count count stop
-peer_sink count stop (OwnMemory is) = subst (λ (st : VaultStop). Shows SinkCause count count st) (sym is) refl
-peer_sink count stop (PeerMemory is) = subst (λ (st : VaultStop). Shows SinkCause count count st) (sym is) refl
-peer_sink count stop (AtLink is) = subst (λ (st : VaultStop). Shows SinkCause count count st) (sym is) refl
-peer_sink count stop (AtReply bytes is) = subst (λ (st : VaultStop). Shows SinkCause count count st) (sym is) refl
-
-peer_source : (count : ℕ) (stop : VaultStop) → IsPeerStop stop → Shows SourceCause count count stop
-peer_source count stop (OwnMemory is) = subst (λ (st : VaultStop). Shows SourceCause count count st) (sym is) refl
-peer_source count stop (PeerMemory is) = subst (λ (st : VaultStop). Shows SourceCause count count st) (sym is) refl
-peer_source count stop (AtLink is) = subst (λ (st : VaultStop). Shows SourceCause count count st) (sym is) refl
-peer_source count stop (AtReply bytes is) = subst (λ (st : VaultStop). Shows SourceCause count count st) (sym is) refl
-
-sink_source : (count : ℕ) (fault : DeviceFault) → Shows SourceCause count count (stops.Run (stop_of_sink fault))
-sink_source count devices.Failed = refl
-sink_source count devices.NoMemory = refl
-
--- under its key a restore reads nothing: the source's count stays
-pub restore_source : (f : KeyedFn) (keys : VaultSecrets) (old new : RestoreSight) (stop : VaultStop) (count : ℕ) → StopsSomewhere f keys old new stop → Shows SourceCause count count stop
-restore_source f keys old new stop count (AtStart is same) = peer_source count stop (OwnMemory is)
-restore_source f keys old new stop count (AtQuestion stops unprinted) = peer_source count stop (asking_kind old.link new.link stop stops)
-restore_source f keys old new stop count (AtSlot at) = by (scan_kind f keys at.next at.scan.visits at.scan.between new stop at.scan.stops)
-  where
-    by : IsScanStop stop → Shows SourceCause count count stop
-    by (inl is) = peer_source count stop is
-    by (inr is) = subst (λ (st : VaultStop). Shows SourceCause count count st) (sym is.1) (sink_source count is.0)
-
 -- The status of each, and the counts by it.
 
-module _ (source source' link link' sink sink' : ℕ) where
+module _ (old new : Counts) (sink' : ℕ) where
+  abbrev Tells : (status : ℕ) → Type 0
+  Tells status = TellsRestore old.source new.source old.link new.link old.sink sink' status
+
   -- a status that names no device
-  tells_none : (status : ℕ) → status ≢ 3 → status ≢ 4 → status ≢ 5 → 2 ≤ status → source' ≡ source → link' ≡ link → TellsRestore source source' link link' sink sink' status
+  tells_none : (status : ℕ) → status ≢ 3 → status ≢ 4 → status ≢ 5 → 2 ≤ status → new.source ≡ old.source → new.link ≡ old.link → Tells status
   tells_none status not_source not_sink not_link two same same2 = record {
     source_failed = λ e. absurd (not_source e);
     source_steady = λ _. same;
@@ -132,72 +106,72 @@ module _ (source source' link link' sink sink' : ℕ) where
   }
 
   -- a restore that is through
-  pub tells_through : (status : ℕ) → status ≤ 1 → source' ≡ source → link' ≡ link → sink' ≡ sink → TellsRestore source source' link link' sink sink' status
-  tells_through status few same same2 same3 = record {
+  pub tells_through : (status : ℕ) → status ≤ 1 → new ≡ old → sink' ≡ new.sink → Tells status
+  tells_through status few same same2 = record {
     source_failed = λ e. absurd (omega (arith, e, few));
-    source_steady = λ _. same;
+    source_steady = λ _. ap (λ (c : Counts). c.source) same;
     link_failed = λ e. absurd (omega (arith, e, few));
-    link_steady = λ _. same2;
+    link_steady = λ _. ap (λ (c : Counts). c.link) same;
     sink_failed = λ e. absurd (omega (arith, e, few));
-    sink_steady = λ _. same3;
+    sink_steady = λ _. same2 ∙ ap (λ (c : Counts). c.sink) same;
   }
 
-  module _ (stop : VaultStop) (of_source : Shows SourceCause source source' stop) (of_link : Shows LinkCause link link' stop) (of_sink : stop ≡ stops.Run runs.Sink → Rose sink sink') where
-    shows_source : (at : VaultStop) → stop ≡ at → Shows SourceCause source source' at
-    shows_source at is = subst (λ (st : VaultStop). Shows SourceCause source source' st) is of_source
+  module _ (stop : VaultStop) (shows : ShowsCause old new stop) (later : new.sink ≤ sink') where
+    shows_at : (at : VaultStop) → stop ≡ at → ShowsCause old new at
+    shows_at at is = subst (ShowsCause old new) is shows
 
-    shows_link : (at : VaultStop) → stop ≡ at → Shows LinkCause link link' at
-    shows_link at is = subst (λ (st : VaultStop). Shows LinkCause link link' st) is of_link
+    tells_at : (at : VaultStop) → stop ≡ at → Tells (vault_status at) → Tells (vault_status stop)
+    tells_at at is tells = subst (λ (st : VaultStop). Tells (vault_status st)) (sym is) tells
 
-    tells_at : (at : VaultStop) → stop ≡ at → TellsRestore source source' link link' sink sink' (vault_status at) → TellsRestore source source' link link' sink sink' (vault_status stop)
-    tells_at at is tells = subst (λ (st : VaultStop). TellsRestore source source' link link' sink sink' (vault_status st)) (sym is) tells
+    -- a stop for no device
+    tells_other : (at : VaultStop) (status : ℕ) → stop ≡ at → (at ≡ source_stop → ⊥) → (at ≡ link_stop → ⊥) → status ≢ 3 → status ≢ 4 → status ≢ 5 → 2 ≤ status → Tells status
+    tells_other at status is source link not_source not_sink not_link two =
+        tells_none status not_source not_sink not_link two ((shows_at at is).source.steady source) ((shows_at at is).link.steady link)
 
-    memory : (at : VaultStop) → stop ≡ at → source' ≡ source → link' ≡ link → TellsRestore source source' link link' sink sink' 7
-    memory at is same same2 = tells_none 7 (λ e. absurd (omega (arith, e))) (λ e. absurd (omega (arith, e))) (λ e. absurd (omega (arith, e))) (omega arith) same same2
+    memory : (at : VaultStop) → stop ≡ at → (at ≡ source_stop → ⊥) → (at ≡ link_stop → ⊥) → Tells 7
+    memory at is source link = tells_other at 7 is source link (λ e. absurd (omega (arith, e))) (λ e. absurd (omega (arith, e))) (λ e. absurd (omega (arith, e))) (omega arith)
 
-    tells_peer : IsPeerStop stop → TellsRestore source source' link link' sink sink' (vault_status stop)
-    tells_peer (OwnMemory is) = tells_at own_memory_stop is (memory own_memory_stop is (shows_source own_memory_stop is) (shows_link own_memory_stop is))
-    tells_peer (PeerMemory is) = tells_at memory_stop is (memory memory_stop is (shows_source memory_stop is) (shows_link memory_stop is))
+    tells_peer : IsPeerStop stop → Tells (vault_status stop)
+    tells_peer (OwnMemory is) = tells_at own_memory_stop is (memory own_memory_stop is (λ e. cc) (λ e. cc))
+    tells_peer (PeerMemory is) = tells_at memory_stop is (memory memory_stop is (λ e. cc) (λ e. cc))
     tells_peer (AtLink is) = tells_at link_stop is (record {
       source_failed = λ e. absurd (omega (arith, e));
-      source_steady = λ _. shows_source link_stop is;
-      link_failed = λ _. shows_link link_stop is;
+      source_steady = λ _. (shows_at link_stop is).source.steady (λ e. cc);
+      link_failed = λ _. (shows_at link_stop is).link.rose refl;
       link_steady = λ other. absurd (other refl);
       sink_failed = λ e. absurd (omega (arith, e));
       sink_steady = λ few. absurd (omega (arith, few));
     })
     tells_peer (AtReply bytes is) =
         tells_at (bad_reply bytes) is
-        (tells_none 9 (λ e. absurd (omega (arith, e))) (λ e. absurd (omega (arith, e))) (λ e. absurd (omega (arith, e))) (omega arith) (shows_source (bad_reply bytes) is) (shows_link (bad_reply bytes) is))
+        (tells_other (bad_reply bytes) 9 is (λ e. cc) (λ e. cc) (λ e. absurd (omega (arith, e))) (λ e. absurd (omega (arith, e))) (λ e. absurd (omega (arith, e))) (omega arith))
 
-    tells_sink : (fault : DeviceFault) → stop ≡ stops.Run (stop_of_sink fault) → TellsRestore source source' link link' sink sink' (vault_status stop)
-    tells_sink devices.Failed is = tells_at (stops.Run runs.Sink) is (record {
+    tells_sink : (fault : DeviceFault) → stop ≡ stops.Run (stop_of_sink fault) → Tells (vault_status stop)
+    tells_sink devices.Failed is = tells_at sink_stop is (record {
       source_failed = λ e. absurd (omega (arith, e));
-      source_steady = λ _. shows_source (stops.Run runs.Sink) is;
+      source_steady = λ _. (shows_at sink_stop is).source.steady (λ e. cc);
       link_failed = λ e. absurd (omega (arith, e));
-      link_steady = λ _. shows_link (stops.Run runs.Sink) is;
-      sink_failed = λ _. of_sink is;
+      link_steady = λ _. (shows_at sink_stop is).link.steady (λ e. cc);
+      sink_failed = λ _. (let rose : Rose old.sink new.sink = (shows_at sink_stop is).sink.rose refl in omega (arith, rose, later));
       sink_steady = λ few. absurd (omega (arith, few));
     })
-    tells_sink devices.NoMemory is = tells_at own_memory_stop is (memory own_memory_stop is (shows_source own_memory_stop is) (shows_link own_memory_stop is))
+    tells_sink devices.NoMemory is = tells_at own_memory_stop is (memory own_memory_stop is (λ e. cc) (λ e. cc))
 
-    tells_input : (why : InputStop) → stop ≡ stops.Run (runs.Input why) → TellsRestore source source' link link' sink sink' (vault_status stop)
+    tells_input : (why : InputStop) → stop ≡ stops.Run (runs.Input why) → Tells (vault_status stop)
     tells_input (inputs.Line n) is =
         tells_at (stops.Run (runs.Input (inputs.Line n))) is
-        (tells_none 2 (λ e. absurd (omega (arith, e))) (λ e. absurd (omega (arith, e))) (λ e. absurd (omega (arith, e))) (omega arith) (shows_source (stops.Run (runs.Input (inputs.Line n))) is) (shows_link (stops.Run (runs.Input (inputs.Line n))) is))
-    tells_input inputs.Source is = tells_at (stops.Run (runs.Input inputs.Source)) is (record {
-      source_failed = λ _. shows_source (stops.Run (runs.Input inputs.Source)) is;
+        (tells_other (stops.Run (runs.Input (inputs.Line n))) 2 is (λ e. cc) (λ e. cc) (λ e. absurd (omega (arith, e))) (λ e. absurd (omega (arith, e))) (λ e. absurd (omega (arith, e))) (omega arith))
+    tells_input inputs.Source is = tells_at source_stop is (record {
+      source_failed = λ _. (shows_at source_stop is).source.rose refl;
       source_steady = λ other. absurd (other refl);
       link_failed = λ e. absurd (omega (arith, e));
-      link_steady = λ _. shows_link (stops.Run (runs.Input inputs.Source)) is;
+      link_steady = λ _. (shows_at source_stop is).link.steady (λ e. cc);
       sink_failed = λ e. absurd (omega (arith, e));
       sink_steady = λ few. absurd (omega (arith, few));
     })
-    tells_input inputs.Memory is =
-        tells_at (stops.Run (runs.Input inputs.Memory)) is
-        (memory (stops.Run (runs.Input inputs.Memory)) is (shows_source (stops.Run (runs.Input inputs.Memory)) is) (shows_link (stops.Run (runs.Input inputs.Memory)) is))
+    tells_input inputs.Memory is = tells_at (stops.Run (runs.Input inputs.Memory)) is (memory (stops.Run (runs.Input inputs.Memory)) is (λ e. cc) (λ e. cc))
 
-    pub tells_stop : IsRestoreStop stop → TellsRestore source source' link link' sink sink' (vault_status stop)
+    pub tells_stop : IsRestoreStop stop → Tells (vault_status stop)
     tells_stop (AtPeer is) = tells_peer is
     tells_stop (AtSink fault is) = tells_sink fault is
     tells_stop (AtInput why is) = tells_input why is

@@ -1,6 +1,6 @@
 -- Slots that were fetched, and one more.
-use Rattle.std.proofs.Common.{◌≡◌, ℕ, ◌+◌, List, [], ◌∷◌, ◌++◌, length, append_assoc, None, Some, refl, sym, ap, ◌∙◌, subst, arith}
-use Rattle.std.specs.Prelude.{Option}
+use Rattle.std.proofs.Common.{◌≡◌, ℕ, ◌+◌, List, [], ◌∷◌, ◌++◌, length, append_assoc, None, Some, Ok, Err, refl, sym, ap, ◌∙◌, subst, arith}
+use Rattle.std.specs.Prelude.{Option, Result}
 use Rattle.std.specs.Option.{option_map}
 use Rattle.std.specs.Io.KnownBytes.{append_known}
 use Rattle.std.proofs.lemmas.List.{append-nil}
@@ -8,11 +8,16 @@ use Rattle.std.proofs.lemmas.Grind.{flat_map-append}
 use Rattle.keyed_fn.specs.KeyedFn.{KeyedFn}
 use Rattle.keyed_fn.specs.VaultFormulas.{VaultSecrets}
 use Rattle.sse_outside.proofs.Known.{append_known-twice}
+use Rattle.sse_outside.specs.Fronts.{TookFront}
+use Rattle.vault_script.specs.VaultShown.{VaultShownText}
+use Rattle.vault_script.specs.VaultTexts.{vault_text}
+use Rattle.vault_script.specs.declared.vault_stop.VaultStop.{VaultStop}
 use Rattle.vault_link.specs.Exchanges.{Exchange}
 use Rattle.vault_link.specs.Served.{VaultRemote}
+use Rattle.doc_vault.specs.LineRuns.{Prints}
 use Rattle.doc_vault.specs.Sights.{HasPassed, LinkSight, ServesAll}
 use Rattle.vault_restore.specs.RestoredLines.{RestoredLine, lines_of_slot, restored_text, text_of_lines}
-use Rattle.vault_restore.specs.Visits.{AreVisited, HasVisited, HasVisitedSlot, IsVisited, RestoreSight, Visit, fetch_of, fetches, lines_in}
+use Rattle.vault_restore.specs.Visits.{AreVisited, HasVisited, HasVisitedSlot, IsVisited, PrintsSlot, RestoreSight, Visit, fetch_of, fetches, lines_in}
 
 -- What passes first, and then more.
 
@@ -72,3 +77,12 @@ module _ (f : KeyedFn) (keys : VaultSecrets) where
         ∙ append_known-twice old.written (text_of_lines (lines_in visits)) (text_of_lines (lines_of_slot visit.line))
         ∙ ap (append_known old.written) (text_of_lines-more visits visit);
   }
+
+-- A slot's line that was printed as one of the script language.
+pub slot-printed : {T : Type 0} (line : RestoredLine) (shown : VaultShownText) (old new : Option (List ℕ)) (result : Result T VaultStop) → vault_text shown ≡ restored_text line → Prints (shown ∷ []) old new result → PrintsSlot (Some line) old new result
+slot-printed line shown old new (Ok done) same printed = printed ∙ ap (λ text. append_known old (text ++ [])) same
+slot-printed line shown old new (Err stop) same stopped = record {
+  fault = stopped.fault;
+  stop_is = stopped.stop_is;
+  front = subst (λ text. TookFront old new (text ++ [])) same stopped.front;
+}

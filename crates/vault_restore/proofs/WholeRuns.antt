@@ -1,15 +1,13 @@
 -- A whole restore, by what its parts came to.
-use Rattle.std.proofs.Common.{◌≡◌, inl, inr, ℕ, ◌≤◌, Bool, false, List, None, Some, Ok, Err, refl, sym, ap, ◌∙◌, subst, arith}
+use Rattle.std.proofs.Common.{◌≡◌, inl, inr, ℕ, Bool, false, List, None, Some, Ok, Err, refl, sym, ap, ◌∙◌, subst, arith}
 use Rattle.std.specs.Prelude.{Option, Result, IfSome, if◌then◌else◌}
 use Rattle.std.specs.Result.{IsErrAnd}
 use Rattle.std.specs.Io.KnownBytes.{append_known}
 use Rattle.keyed_fn.specs.KeyedFn.{KeyedFn}
 use Rattle.keyed_fn.specs.VaultFormulas.{VaultSecrets, vault_secrets}
-use Rattle.script_run_texts.specs.Causes.{InputCause, LinkCause, SinkCause, SourceCause}
 use Rattle.script_run_texts.specs.declared.input_stop.InputStop.{InputStop}
 use Rattle.script_run_texts.specs.declared.input_stop.InputStop.TheVariants as inputs
 use Rattle.script_run_texts.specs.declared.stop_cause.StopCause.TheVariants as runs
-use Rattle.sse_outside.specs.Causes.{Rose}
 use Rattle.sse_outside.specs.declared.device_fault.DeviceFault.{DeviceFault}
 use Rattle.sse_outside.specs.declared.device_fault.DeviceFault.TheVariants as devices
 use Rattle.script_run_texts.specs.Stops.{stop_of_sink}
@@ -21,7 +19,6 @@ use Rattle.vault_script.specs.declared.vault_stop.VaultStop.TheVariants as stops
 use Rattle.doc_vault.specs.FairStops.{StopsFairly}
 use Rattle.doc_vault.specs.FairStops as fair
 use Rattle.doc_vault.specs.Outcomes.{bad_reply, link_stop, memory_stop, own_memory_stop}
-use Rattle.vault_restore.specs.Counts.{KeepsCount, KeepsCounts, Shows}
 use Rattle.vault_restore.specs.KeyScripts.{BadLineAt, KeyAlone, MakesKeyScript, key_script}
 use Rattle.vault_restore.specs.LeftInOrder.{IsLeftInOrder, all_lines}
 use Rattle.vault_restore.specs.RestoredLines.{text_of_lines}
@@ -29,7 +26,7 @@ use Rattle.vault_restore.specs.Restores.{AtQuestion, AtSlot, AtStart, RestoresOr
 use Rattle.vault_restore.specs.Visits.{RestoreSight, lines_in}
 use Rattle.vault_restore.specs.WholeRestores.{BringsBack, FinishesScript, InScript, IsFairStatus, RestoresScript, StopsScript, UnderKey, restore_status}
 use Rattle.vault_restore.proofs.HonestScan.{none_forged}
-use Rattle.vault_restore.proofs.StopKinds.{AtLink, AtReply, IsPeerStop, IsScanStop, OwnMemory, PeerMemory, asking_kind, restore_source, scan_kind, script_kind, stop_above}
+use Rattle.vault_restore.proofs.StopKinds.{AtLink, AtReply, IsPeerStop, IsScanStop, OwnMemory, PeerMemory, asking_kind, scan_kind, script_kind, stop_above}
 
 -- The script.
 
@@ -44,26 +41,6 @@ module _ (f : KeyedFn) (left : Option (List (List ℕ))) where
   pub opened : (old new : RestoreSight) (key : List ℕ) (result : Result Bool VaultStop) → MakesKeyScript left (KeyAlone key) → RestoresOrStops f (vault_secrets f key) old new result → RestoresScript f left old new result
   opened old new key (Ok forged) script restores = record { key = key; script = script; restores = restores }
   opened old new key (Err stop) script restores = UnderKey key script restores
-
--- the counts of link and sink, if the key isn't read
-pub unopened_counts : (link sink : ℕ) (result : Result Bool VaultStop) (why : InputStop) → IsErrAnd result (λ stop. stop ≡ stops.Run (runs.Input why)) → KeepsCounts link link sink sink result
-unopened_counts link sink (Ok done) why is = absurd is
-unopened_counts link sink (Err stop) why is = record {
-  of_link = record { steady = tt; shows = subst (λ (st : VaultStop). Shows LinkCause link link st) (sym is) refl };
-  of_sink = record { steady = tt; shows = subst (λ (st : VaultStop). Shows SinkCause sink sink st) (sym is) refl };
-}
-
--- that of the source
-pub unopened_source : (before now : ℕ) (result : Result Bool VaultStop) (why : InputStop) → IsErrAnd result (λ stop. stop ≡ stops.Run (runs.Input why)) → InputCause before now why → KeepsCount SourceCause before now result
-unopened_source before now (Ok done) why is cause = absurd is
-unopened_source before now (Err stop) why is cause = record { steady = tt; shows = subst (λ (st : VaultStop). Shows SourceCause before now st) (sym is) cause }
-
-pub opened_source : (f : KeyedFn) (keys : VaultSecrets) (old new : RestoreSight) (result : Result Bool VaultStop) (before now : ℕ) → RestoresOrStops f keys old new result → now ≡ before → KeepsCount SourceCause before now result
-opened_source f keys old new (Ok forged) before now restores same = record { steady = same; shows = tt }
-opened_source f keys old new (Err stop) before now restores same = record {
-  steady = tt;
-  shows = subst (λ (k : ℕ). Shows SourceCause before k stop) (sym same) (restore_source f keys old new stop before restores.stops);
-}
 
 -- the end of a restore that stops
 abbrev pub stopped_end : VaultStop → Result Bool VaultStop
@@ -151,10 +128,6 @@ brings f (Some lines) old between end written' status restores is unprinted = by
         → IfSome remote (λ before. (key : List ℕ) (cs : List VaultCommand) → key_script lines ≡ KeyAlone key → IsLeftInOrder f (vault_secrets f key) before.state cs → BringsBack old.written written' cs status)
     by None tells = tt
     by (Some told) tells = λ key cs alone left. subst (λ (st : ℕ). BringsBack old.written written' cs st) (sym is) (brought f lines key cs old between told tells alone left end written' restores unprinted)
-
--- the sink's count rose, and is no lower after the last line
-pub rose_later : (stop : VaultStop) (before mid now : ℕ) → Shows SinkCause before mid stop → mid ≤ now → stop ≡ stops.Run runs.Sink → Rose before now
-rose_later stop before mid now shows later is = (let rose : Rose before mid = subst (λ (st : VaultStop). Shows SinkCause before mid st) is shows in omega (arith, rose, later))
 
 -- a stop is no end
 pub not_through : (stop : VaultStop) (forged : Bool) → stopped_end stop ≡ Ok forged → ⊥

@@ -4,5 +4,4 @@ pub mod Visits
 pub mod LeftInOrder
 pub mod Restores
 pub mod KeyScripts
-pub mod Counts
 pub mod WholeRestores

@@ -1,7 +1,7 @@
 -- The lines that a restore prints.
-use Rattle.std.specs.Prelude.{ℕ, Bool, true, false, List, [], ◌∷◌, codes, decimal, Option, None, Some}
-use Rattle.std.specs.List.{concat, flat_map}
-use Rattle.vault_script.specs.VaultShown.{Fetched}
+use Rattle.std.specs.Prelude.{ℕ, Bool, true, false, List, [], ◌∷◌, Option, None, Some}
+use Rattle.std.specs.List.{flat_map}
+use Rattle.vault_script.specs.VaultShown.{Fetched, Forged}
 use Rattle.vault_script.specs.VaultTexts.{vault_text}
 
 -- a text whose tag is right, or that the tag of one is wrong
@@ -12,7 +12,7 @@ pub data RestoredLine : Type 0 where
 -- a line as it is printed, its end (byte 0a) included
 abbrev pub restored_text : RestoredLine → List ℕ
 restored_text (TextLine id text) = vault_text (Fetched id text)
-restored_text (ForgedLine id) = concat (codes "forged " ∷ decimal id ∷ (10 ∷ []) ∷ [])
+restored_text (ForgedLine id) = vault_text (Forged id)
 
 abbrev pub text_of_lines : List RestoredLine → List ℕ
 text_of_lines lines = flat_map restored_text lines

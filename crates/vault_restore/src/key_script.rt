@@ -19,6 +19,7 @@ use word_keys::MasterKey;
 pub(crate) fn script_key<S: Source>(alloc: Global, source: &mut S) -> Result<MasterKey, InputStop>
     ensures alone { IfOk result (λ key. MakesKeyScript (lines_left [] (S.remaining source.old)) (KeyAlone key)) }
     ensures bad { (number : ℕ) → result ≡ Err (InputStop.Line number) → MakesKeyScript (lines_left [] (S.remaining source.old)) (BadLineAt number) }
+    ensures later { S.faults source.old ≤ S.faults source.new }
     ensures source { KeepsSource InputCause (S.faults source.old) (S.faults source.new) result }
 {
     let mut input = Input::new(alloc)?;
@@ -32,6 +33,7 @@ fn only_empty<S: Source>(alloc: Global, source: &mut S, input: &mut Input) -> Re
     requires few { input.old.number + bytes_to_come input.old.pending (S.handed_out source.old) ≤ 2 ^ 63 }
     ensures alone { (key : List ℕ) → OnOk result (LeavesKeyScript key (input.old.number + 1) (lines_left input.old.pending (S.remaining source.old)) (KeyAlone key)) }
     ensures bad { (key : List ℕ) (number : ℕ) → result ≡ Err (InputStop.Line number) → LeavesKeyScript key (input.old.number + 1) (lines_left input.old.pending (S.remaining source.old)) (BadLineAt number) }
+    ensures later { S.faults source.old ≤ S.faults source.new }
     ensures source { KeepsSource InputCause (S.faults source.old) (S.faults source.new) result }
 {
     'lines: loop {
@@ -51,6 +53,7 @@ fn skip_empty<S: Source>(
     ensures skips { SkipsEmpty (input.old.number + 1) (lines_left input.old.pending (S.remaining source.old)) (lines_left input.new.pending (S.remaining source.new)) result }
     ensures counted { OnOk result (input.new.number ≡ input.old.number + 1) }
     ensures less { IfOk result (λ more. more ≡ true → bytes_to_come input.new.pending (S.handed_out source.new) < bytes_to_come input.old.pending (S.handed_out source.old)) }
+    ensures later { S.faults source.old ≤ S.faults source.new }
     ensures source { KeepsSource InputCause (S.faults source.old) (S.faults source.new) result }
 {
     if !input.advance(source)? {

@@ -1,12 +1,11 @@
 ghost use Rattle.std.specs.Prelude.{◌≤◌, length};
+ghost use Rattle.doc_vault.specs.Counts.{Counts, KeepsCounts, with_link};
 ghost use Rattle.doc_vault.specs.Sights.{sight_of};
-ghost use Rattle.script_run_texts.specs.Causes.{LinkCause};
-ghost use Rattle.vault_restore.specs.Counts.{KeepsCount};
 ghost use Rattle.vault_restore.specs.Restores.{AsksNext, JudgesNumber, TakesNumber};
 ghost use Rattle.vault_server.specs.VaultViews.{reply_view};
 
-use crate::ask::ask;
 use crate::judge::{bad, stop_of};
+use doc_vault::ask;
 use vault_link::{VaultLink, read_whole_reply};
 use vault_script::VaultStop;
 use vault_server::VaultReply;
@@ -21,7 +20,7 @@ const ASK: [u8; 5] = [0, 0, 0, 1, 0x44];
 pub(crate) fn ask_next<L: VaultLink>(link: &mut L, reply: &mut [u8]) -> Result<u32, VaultStop>
     requires { 65604 ≤ length reply.old }
     ensures asks { AsksNext (sight_of (L.transcript link.old) (L.remote link.old)) (sight_of (L.transcript link.new) (L.remote link.new)) result }
-    ensures counts { KeepsCount LinkCause (L.faults link.old) (L.faults link.new) result }
+    ensures counts { (others : Counts) → KeepsCounts (with_link (L.faults link.old) others) (with_link (L.faults link.new) others) result }
 {
     let n = ask(link, &ASK, reply)?;
     judge_number(&reply[..n])

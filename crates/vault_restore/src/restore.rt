@@ -1,8 +1,8 @@
 ghost use Rattle.std.specs.Prelude.{◌≡◌};
+ghost use Rattle.doc_vault.specs.Counts.{Counts, KeepsCounts, with_link, with_sink};
 ghost use Rattle.doc_vault.specs.Sights.{sight_of};
 ghost use Rattle.keyed_fn.specs.KeyedFn.{keyed_fn};
 ghost use Rattle.keyed_fn.specs.VaultFormulas.{vault_secrets};
-ghost use Rattle.vault_restore.specs.Counts.{KeepsCounts};
 ghost use Rattle.vault_restore.specs.Restores.{RestoresOrStops};
 
 use crate::next_number::ask_next;
@@ -23,7 +23,7 @@ use word_keys::MasterKey;
 // Promise P279 (caller): From a vault that a client left with identifiers in order, a restore prints exactly the texts there, in the order of their puts.
 //   clauses: restores; fields: FinishesRestore.texts, StopsInScan.texts, StopsRestore.fair; assumes: observable devices, honest link; not: A vault that lost texts: the others are printed, and P277 says when the loss shows.
 // Promise P280 (caller): In a restore the fault count of link and sink rises if and only if the restore stops for that device.
-//   clauses: counts; fields: KeepsCounts.of_link, KeepsCounts.of_sink, KeepsCount.steady, KeepsCount.shows
+//   clauses: counts; fields: ShowsCause.sink, ShowsCause.link, ShowsCause.supplied, ShowsCause.later; not: A count at 2^64-1 counts as risen.
 /// Brings back every text of the vault of this key, and prints `body <id>: <digits>` for each; the answer is whether the tag of one
 /// was wrong, for which `forged <id>` is printed. It asks for the number n of the next update, and then fetches the slots v = 0 to
 /// n - 1. A put whose text is there is one update, and a put whose text isn't there is two, with its drop: if L slots hold a text,
@@ -43,7 +43,8 @@ pub fn restore_texts<K: Keyed, L: VaultLink, W: Sink>(
     ensures restores { RestoresOrStops (keyed_fn K.prf K.pad) (vault_secrets (keyed_fn K.prf K.pad) key.now)
         (record { link = sight_of (L.transcript link.old) (L.remote link.old); written = W.written sink.old })
         (record { link = sight_of (L.transcript link.new) (L.remote link.new); written = W.written sink.new }) result }
-    ensures counts { KeepsCounts (L.faults link.old) (L.faults link.new) (W.faults sink.old) (W.faults sink.new) result }
+    ensures counts { (others : Counts) → KeepsCounts (with_link (L.faults link.old) (with_sink (W.faults sink.old) (W.shortages sink.old) others))
+        (with_link (L.faults link.new) (with_sink (W.faults sink.new) (W.shortages sink.new) others)) result }
 {
     let mut reply = vec![in alloc; 0u8; REPLY_ROOM]?;
     let n = ask_next(link, &mut reply)?;

@@ -1,19 +1,17 @@
 ghost use Rattle.std.specs.Prelude.{◌≡◌, ◌<◌, ◌≤◌, ◌+◌, ◌-◌, ◌*◌, ◌^◌, ◌||◌, ℕ, true, false, OnOk, length};
+ghost use Rattle.doc_vault.specs.Counts.{Counts, KeepsCounts, with_link, with_sink};
 ghost use Rattle.doc_vault.specs.Sights.{sight_of};
 ghost use Rattle.keyed_fn.specs.KeyedFn.{keyed_fn};
 ghost use Rattle.keyed_fn.specs.VaultFormulas.{vault_slot};
-ghost use Rattle.script_run_texts.specs.Causes.{LinkCause};
-ghost use Rattle.vault_restore.specs.Counts.{KeepsCount, KeepsCounts};
 ghost use Rattle.vault_restore.specs.Restores.{ScansOrStops, number_stop};
 ghost use Rattle.vault_restore.specs.Visits.{FetchesOrStops, VisitsOrStops};
 ghost use Rattle.vault_server.specs.VaultFrames.{FetchFrame, InVault, vault_bytes};
 ghost use Rattle.vault_shelf.specs.OpenedView.{text_in};
 
-use crate::ask::ask;
 use crate::judge::{bad, judge_slot};
 use crate::printing::show_slot;
 use crate::slot::Slot;
-use doc_vault::Tools;
+use doc_vault::{Tools, ask};
 use keyed_fn::Keyed;
 use sse_outside::Sink;
 use std::alloc::AllocError;
@@ -47,7 +45,7 @@ fn fetch<K: Keyed, L: VaultLink>(
 ) -> Result<Slot, VaultStop>
     requires { 65604 ≤ length reply.old }
     ensures fetches { FetchesOrStops (keyed_fn K.prf K.pad) tools.now.keys v (text_in text.new) (sight_of (L.transcript link.old) (L.remote link.old)) (sight_of (L.transcript link.new) (L.remote link.new)) result }
-    ensures counts { KeepsCount LinkCause (L.faults link.old) (L.faults link.new) result }
+    ensures counts { (others : Counts) → KeepsCounts (with_link (L.faults link.old) others) (with_link (L.faults link.new) others) result }
 {
     write_fetch(tools, v, frame)?;
     let n = ask(link, frame, reply)?;
@@ -68,7 +66,8 @@ fn visit<K: Keyed, L: VaultLink, W: Sink>(
     ensures visits { VisitsOrStops (keyed_fn K.prf K.pad) tools.now.keys v (text_in text.new)
         (record { link = sight_of (L.transcript link.old) (L.remote link.old); written = W.written sink.old })
         (record { link = sight_of (L.transcript link.new) (L.remote link.new); written = W.written sink.new }) result }
-    ensures counts { KeepsCounts (L.faults link.old) (L.faults link.new) (W.faults sink.old) (W.faults sink.new) result }
+    ensures counts { (others : Counts) → KeepsCounts (with_link (L.faults link.old) (with_sink (W.faults sink.old) (W.shortages sink.old) others))
+        (with_link (L.faults link.new) (with_sink (W.faults sink.new) (W.shortages sink.new) others)) result }
 {
     let slot = fetch(tools, link, text, frame, reply, v)?;
     show_slot(sink, text, u64::from(v) + 1, slot)?;
@@ -119,7 +118,8 @@ pub(crate) fn scan<K: Keyed, L: VaultLink, W: Sink>(
     ensures scans { ScansOrStops (keyed_fn K.prf K.pad) tools.now.keys n
         (record { link = sight_of (L.transcript link.old) (L.remote link.old); written = W.written sink.old })
         (record { link = sight_of (L.transcript link.new) (L.remote link.new); written = W.written sink.new }) result }
-    ensures counts { KeepsCounts (L.faults link.old) (L.faults link.new) (W.faults sink.old) (W.faults sink.new) result }
+    ensures counts { (others : Counts) → KeepsCounts (with_link (L.faults link.old) (with_sink (W.faults sink.old) (W.shortages sink.old) others))
+        (with_link (L.faults link.new) (with_sink (W.faults sink.new) (W.shortages sink.new) others)) result }
 {
     let mut forged = false;
     let mut texts = 0;

@@ -1,11 +1,10 @@
 ghost use Rattle.std.specs.Prelude.{◌≡◌, ◌≤◌, ◌⊎◌, ℕ, List, [], IfSome};
 ghost use Rattle.vault_shelf.specs.Shelves.{VaultCommand};
+ghost use Rattle.doc_vault.specs.Counts.{Counts, KeepsCounts, with_link, with_sink, with_source};
 ghost use Rattle.doc_vault.specs.Sights.{sight_of};
 ghost use Rattle.keyed_fn.specs.KeyedFn.{keyed_fn};
 ghost use Rattle.keyed_fn.specs.VaultFormulas.{vault_secrets};
-ghost use Rattle.script_run_texts.specs.Causes.{SourceCause};
 ghost use Rattle.sse_script.specs.TextLines.{lines_left};
-ghost use Rattle.vault_restore.specs.Counts.{KeepsCount, KeepsCounts};
 ghost use Rattle.vault_restore.specs.KeyScripts.{KeyAlone, key_script};
 ghost use Rattle.vault_restore.specs.LeftInOrder.{IsLeftInOrder};
 ghost use Rattle.vault_restore.specs.WholeRestores.{BringsBack, IsRestore, RestoresScript, TellsRestore, prints};
@@ -29,8 +28,8 @@ fn restore_script<K: Keyed, L: VaultLink, S: Source, W: Sink>(
     ensures restores { RestoresScript (keyed_fn K.prf K.pad) (lines_left [] (S.remaining source.old))
         (record { link = sight_of (L.transcript link.old) (L.remote link.old); written = W.written sink.old })
         (record { link = sight_of (L.transcript link.new) (L.remote link.new); written = W.written sink.new }) result }
-    ensures counts { KeepsCounts (L.faults link.old) (L.faults link.new) (W.faults sink.old) (W.faults sink.new) result }
-    ensures source { KeepsCount SourceCause (S.faults source.old) (S.faults source.new) result }
+    ensures counts { (others : Counts) → KeepsCounts (with_source (S.faults source.old) (with_link (L.faults link.old) (with_sink (W.faults sink.old) (W.shortages sink.old) others)))
+        (with_source (S.faults source.new) (with_link (L.faults link.new) (with_sink (W.faults sink.new) (W.shortages sink.new) others))) result }
 {
     let key = script_key(alloc, source)?;
     restore_texts(alloc, keyed, &key, link, sink)

@@ -1,5 +1,5 @@
 -- The grammar of the lines of a vault's script (docs/FORMATS.md).
-use Rattle.std.specs.Prelude.{ℕ, ◌^◌, List, [], ◌∷◌, length, nat_lt, codes, Option, Some, None, option_map, if◌then◌else◌}
+use Rattle.std.specs.Prelude.{ℕ, ◌^◌, ◌&&◌, Bool, false, List, [], ◌∷◌, length, nat_le, nat_lt, codes, Option, Some, None, is_some, option_map, if◌then◌else◌}
 use Rattle.std.specs.Result.{result_ok}
 use Rattle.std.specs.Str.{bytes_eq}
 use Rattle.hex.specs.Hex.{decode_of}
@@ -52,3 +52,19 @@ vault_line_by_kind (kind ∷ fields) =
 -- the line of at most 2^19 bytes that these bytes are
 abbrev pub vault_line_of : List ℕ → Option VaultLineText
 vault_line_of bytes = if nat_lt (2 ^ 19) (length bytes) then None else vault_line_by_kind (fields_of bytes)
+
+-- Which lines are puts with digits, whatever these are: only these need memory.
+
+-- by the fields after `put`
+abbrev pub has_digits : List (List ℕ) → Bool
+has_digits (id ∷ digits ∷ []) = is_some (number_of id)
+has_digits _ = false
+
+-- by all fields
+abbrev pub puts_digits_by_kind : List (List ℕ) → Bool
+puts_digits_by_kind [] = false
+puts_digits_by_kind (kind ∷ fields) = bytes_eq kind (codes "put") && has_digits fields
+
+-- by the bytes, of which there are at most 2^19
+abbrev pub puts_digits : List ℕ → Bool
+puts_digits bytes = nat_le (length bytes) (2 ^ 19) && puts_digits_by_kind (fields_of bytes)

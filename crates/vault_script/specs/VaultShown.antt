@@ -9,6 +9,7 @@ pub data VaultShownText : Type 0 where
   Stored : (id : ℕ) → VaultShownText
   Dropped : (id : ℕ) → VaultShownText
   Fetched : (id : ℕ) (body : List ℕ) → VaultShownText
+  Forged : (id : ℕ) → VaultShownText
   NoBody : (id : ℕ) → VaultShownText
   Refused : (refusal : VaultRefusal) → VaultShownText
   Resumed : (frames : ℕ) → VaultShownText
@@ -18,6 +19,7 @@ abbrev pub vault_shown_view : VaultShown → VaultShownText
 vault_shown_view (shown.Stored id) = Stored id
 vault_shown_view (shown.Dropped id) = Dropped id
 vault_shown_view (shown.Fetched id body) = Fetched id body.now
+vault_shown_view (shown.Forged id) = Forged id
 vault_shown_view (shown.NoBody id) = NoBody id
 vault_shown_view (shown.Refused refusal) = Refused refusal
 vault_shown_view (shown.Resumed frames) = Resumed frames

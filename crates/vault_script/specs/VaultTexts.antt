@@ -4,7 +4,7 @@ use Rattle.std.specs.List.{concat}
 use Rattle.hex.specs.Hex.{encode_lower}
 use Rattle.vault_script.specs.declared.vault_refusal.VaultRefusal.{VaultRefusal}
 use Rattle.vault_script.specs.declared.vault_refusal.VaultRefusal.TheVariants as refusals
-use Rattle.vault_script.specs.VaultShown.{VaultShownText, Stored, Dropped, Fetched, NoBody, Refused, Resumed}
+use Rattle.vault_script.specs.VaultShown.{VaultShownText, Stored, Dropped, Fetched, Forged, NoBody, Refused, Resumed}
 
 -- after `refused: `
 abbrev pub vault_refusal_text : VaultRefusal → List (List ℕ)
@@ -19,6 +19,7 @@ abbrev pub vault_line_text : VaultShownText → List (List ℕ)
 vault_line_text (Stored id) = codes "stored " ∷ decimal id ∷ []
 vault_line_text (Dropped id) = codes "dropped " ∷ decimal id ∷ []
 vault_line_text (Fetched id body) = codes "body " ∷ decimal id ∷ codes ": " ∷ encode_lower body ∷ []
+vault_line_text (Forged id) = codes "forged " ∷ decimal id ∷ []
 vault_line_text (NoBody id) = codes "no body " ∷ decimal id ∷ []
 vault_line_text (Refused refusal) = codes "refused: " ∷ vault_refusal_text refusal
 vault_line_text (Resumed frames) = codes "resumed " ∷ decimal frames ∷ codes " frames" ∷ []

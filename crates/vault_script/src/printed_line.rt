@@ -26,6 +26,7 @@ pub fn print_vault_line<W: Sink>(sink: &mut W, shown: &VaultShown<'_>) -> Result
         VaultShown::Stored { id } => print_one(sink, "stored ", id, "\n"),
         VaultShown::Dropped { id } => print_one(sink, "dropped ", id, "\n"),
         VaultShown::Fetched { id, body } => print_fetched(sink, id, body),
+        VaultShown::Forged { id } => print_one(sink, "forged ", id, "\n"),
         VaultShown::NoBody { id } => print_one(sink, "no body ", id, "\n"),
         VaultShown::Refused(refusal) => print_refusal(sink, refusal),
         VaultShown::Resumed { frames } => {

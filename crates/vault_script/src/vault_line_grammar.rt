@@ -1,6 +1,6 @@
-ghost use Rattle.std.specs.Prelude.{◌≡◌, ◌≢◌, ℕ, ◌∷◌, Some, None, option_map, IfOk};
+ghost use Rattle.std.specs.Prelude.{◌≡◌, ◌≢◌, ℕ, ◌∷◌, true, Some, None, option_map, IfOk, OnErr};
 ghost use Rattle.vault_script.specs.VaultLines as lines;
-ghost use Rattle.vault_script.specs.VaultLines.{bytes_of_digits, vault_line_by_kind, vault_line_of};
+ghost use Rattle.vault_script.specs.VaultLines.{bytes_of_digits, has_digits, puts_digits, puts_digits_by_kind, vault_line_by_kind, vault_line_of};
 ghost use Rattle.vault_script.specs.VaultLineViews.{vault_line_view};
 
 use crate::VaultLine;
@@ -9,15 +9,16 @@ use sse_script::{Fields, MAX_LINE, read_key, read_number};
 use std::alloc::{AllocError, Global};
 
 // Promise P220 (caller): A vault's script line is read if and only if it is in the grammar, unless memory runs out.
-//   clauses: read, bad, source
+//   clauses: read, bad, memory, source
 /// Reads one line of a vault's script, the line of this number, without its end (byte 0a).
 ///
 /// It takes memory for the text of a put. Errors: `Line(number)` if the line isn't in the grammar
 /// (specs/VaultLines.antt), that is if it has more than 2^19 bytes, no known first field, or not the fields of its
-/// kind; `Memory` if there is no memory for the text.
+/// kind; `Memory` if there is no memory for the text, so only of a put with digits.
 pub fn read_vault_line(alloc: Global, bytes: &[u8], number: u64) -> Result<VaultLine, InputStop>
     ensures read { IfOk result (λ line. vault_line_of bytes.now ≡ Some (vault_line_view line)) }
     ensures bad { (n : ℕ) → result ≡ Err (InputStop.Line n) → (vault_line_of bytes.now ≡ None) × (n ≡ number) }
+    ensures memory { result ≡ Err InputStop.Memory → puts_digits bytes.now ≡ true }
     ensures source { result ≢ Err InputStop.Source }
 {
     match grammar(alloc, bytes)? {
@@ -28,7 +29,8 @@ pub fn read_vault_line(alloc: Global, bytes: &[u8], number: u64) -> Result<Vault
 
 /// The line, if it is in the grammar.
 fn grammar(alloc: Global, bytes: &[u8]) -> Result<Option<VaultLine>, AllocError>
-    ensures { IfOk result (λ line. option_map vault_line_view line ≡ vault_line_of bytes.now) }
+    ensures line { IfOk result (λ line. option_map vault_line_view line ≡ vault_line_of bytes.now) }
+    ensures memory { OnErr result (puts_digits bytes.now ≡ true) }
 {
     if bytes.len() > MAX_LINE {
         return Ok(None);
@@ -42,7 +44,8 @@ fn grammar(alloc: Global, bytes: &[u8]) -> Result<Option<VaultLine>, AllocError>
 
 /// The line of this kind with these fields after it.
 fn by_kind(alloc: Global, kind: &[u8], fields: Fields<'_>) -> Result<Option<VaultLine>, AllocError>
-    ensures { IfOk result (λ line. option_map vault_line_view line ≡ vault_line_by_kind (kind.now ∷ fields.entry)) }
+    ensures line { IfOk result (λ line. option_map vault_line_view line ≡ vault_line_by_kind (kind.now ∷ fields.entry)) }
+    ensures memory { OnErr result (puts_digits_by_kind (kind.now ∷ fields.entry) ≡ true) }
 {
     if kind == b"key".as_slice() {
         Ok(key_line(fields))
@@ -77,7 +80,8 @@ fn key_line(mut fields: Fields<'_>) -> Option<VaultLine>
 
 /// `put`: a number, and the digits of the text, which may be left out.
 fn put_line(alloc: Global, mut fields: Fields<'_>) -> Result<Option<VaultLine>, AllocError>
-    ensures { IfOk result (λ line. option_map vault_line_view line ≡ lines.put_line fields.entry) }
+    ensures line { IfOk result (λ line. option_map vault_line_view line ≡ lines.put_line fields.entry) }
+    ensures memory { OnErr result (has_digits fields.entry ≡ true) }
 {
     let Some(first) = fields.next() else {
         return Ok(None);

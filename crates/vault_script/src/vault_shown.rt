@@ -9,6 +9,8 @@ pub enum VaultShown<'a> {
     Dropped { id: u64 },
     /// A text was fetched.
     Fetched { id: u64, body: &'a [u8] },
+    /// The tag of the text with this identifier is wrong.
+    Forged { id: u64 },
     /// No text with this identifier is stored.
     NoBody { id: u64 },
     /// A command was refused.

@@ -1,16 +1,17 @@
-ghost use Rattle.std.specs.Prelude.{◌≡◌, ◌++◌, OnOk};
+ghost use Rattle.std.specs.Prelude.{◌≡◌, ◌++◌, OnErr, OnOk};
 ghost use Rattle.vault_server.specs.VaultFrames.{InVault, vault_bytes};
 ghost use Rattle.vault_server.specs.VaultViews.{frame_view};
 
 use crate::VaultFrame;
 use std::alloc::AllocError;
 
-// Promise P198 (caller): A written frame or reply of the vault is its bytes.
-//   clauses: ensures; assumes: sizes in bounds
-/// Appends the bytes of a frame: the length of its body, and the body. After an error a part of them may stand there.
+// Promise P198 (caller): A written frame or reply of the vault is its bytes; without memory nothing is appended.
+//   clauses: bytes, err; assumes: sizes in bounds
+/// Appends the bytes of a frame: the length of its body, and the body. Without memory nothing is appended.
 pub fn write_vault_frame(frame: &VaultFrame<'_>, out: &mut Vec<u8>) -> Result<(), AllocError>
     requires { InVault (frame_view frame.now) }
-    ensures { OnOk result (out.new.items ≡ out.old.items ++ vault_bytes (frame_view frame.now)) }
+    ensures bytes { OnOk result (out.new.items ≡ out.old.items ++ vault_bytes (frame_view frame.now)) }
+    ensures err { OnErr result (out.new.items ≡ out.old.items) }
 {
     match *frame {
         VaultFrame::Put {
@@ -20,6 +21,7 @@ pub fn write_vault_frame(frame: &VaultFrame<'_>, out: &mut Vec<u8>) -> Result<()
             sealed,
         } => {
             let size = 53 + sealed.len() as u32;
+            out.reserve(57 + sealed.len())?;
             out.extend_from_slice(&size.to_be_bytes())?;
             out.push(0x41)?;
             out.extend_from_slice(&n.to_be_bytes())?;
@@ -28,11 +30,13 @@ pub fn write_vault_frame(frame: &VaultFrame<'_>, out: &mut Vec<u8>) -> Result<()
             out.extend_from_slice(sealed)
         }
         VaultFrame::Drop { n, slot } => {
+            out.reserve(25)?;
             out.extend_from_slice(&[0, 0, 0, 21, 0x42])?;
             out.extend_from_slice(&n.to_be_bytes())?;
             out.extend_from_slice(slot.as_slice())
         }
         VaultFrame::Fetch { slot } => {
+            out.reserve(21)?;
             out.extend_from_slice(&[0, 0, 0, 17, 0x43])?;
             out.extend_from_slice(slot.as_slice())
         }

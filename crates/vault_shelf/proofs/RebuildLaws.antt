@@ -182,10 +182,10 @@ takes_apart mark marked payloads before after payload last c found s marks lasts
     (subst (IsTaken mark true (payloads ++ payload ∷ []) after) (sym lasts) (kept_apart mark payloads before after payload c s recorded record_is none (keeps left s.keeps)))
 
 pub opens_with : (mark : List ℕ) (payloads : List (List ℕ)) (before : ShelfView) (payload : List ℕ) (c : VaultCommand) (found : Option ShelfFault) → IsSettled mark payloads before → IsRecorded c → payload ≡ command_record c → is_some found ≡ false
-    → ((s : Shelf) → Keeps before s → found ≡ shelf_fault s c) → (cs : List VaultCommand) × VaultOpens mark (payloads ++ payload ∷ []) cs
+    → ((s : Shelf) → Keeps before s → found ≡ shelf_fault s c) → (cs : List VaultCommand) × (d : VaultCommand) × VaultOpens mark (payloads ++ payload ∷ []) (cs ++ d ∷ [])
 opens_with mark payloads before payload c found s recorded record_is accepted fault =
     let left = shelf_of empty_shelf s.commands in
-    (s.commands ++ c ∷ [], accepted_command mark payloads s.commands s.opens payload c recorded record_is (sym (fault left s.keeps) ∙ none_of found accepted))
+    (s.commands, c, accepted_command mark payloads s.commands s.opens payload c recorded record_is (sym (fault left s.keeps) ∙ none_of found accepted))
 
 pub refused_with : (mark : List ℕ) (payloads : List (List ℕ)) (before : ShelfView) (payload : List ℕ) (c : VaultCommand) (found : Option ShelfFault) → IsSettled mark payloads before → IsRecorded c → payload ≡ command_record c → is_some found ≡ true
     → ((s : Shelf) → Keeps before s → found ≡ shelf_fault s c) → VaultOpensNowhere (payloads ++ payload ∷ [])

@@ -34,9 +34,9 @@ abbrev pub Rebuilds : List (List ℕ) → ShelfRebuild → Type 0
 Rebuilds payloads r = IsTaken r.mark r.marked payloads r.shelf r.last.items
 
 -- what one record more makes of those taken: it is taken; or with it they open under no mark, or under another one; or there is no
--- memory for it, though they open
+-- memory for it, though they open and it is a command's
 abbrev pub Takes : {A : Type 0} → List ℕ → List (List ℕ) → List ℕ → (marked : Bool) → ShelfView → (last : List ℕ) → Result A RecordFault → Type 0
 Takes mark payloads payload marked view last (Ok done) = IsTaken mark marked (payloads ++ payload ∷ []) view last
 Takes mark payloads payload marked view last (Err (BadRecord n)) = (n ≡ length payloads) × VaultOpensNowhere (payloads ++ payload ∷ [])
 Takes mark payloads payload marked view last (Err WrongKey) = VaultOpensElsewhere mark (payloads ++ payload ∷ [])
-Takes mark payloads payload marked view last (Err NoMemory) = (cs : List VaultCommand) × VaultOpens mark (payloads ++ payload ∷ []) cs
+Takes mark payloads payload marked view last (Err NoMemory) = (cs : List VaultCommand) × (c : VaultCommand) × VaultOpens mark (payloads ++ payload ∷ []) (cs ++ c ∷ [])

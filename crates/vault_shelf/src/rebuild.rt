@@ -50,14 +50,14 @@ impl ShelfRebuild {
     /// Takes the next record, all of these bytes.
     ///
     /// Errors: `BadRecord(number)` exactly if the bytes are no record that is accepted after those taken, whose count is the number;
-    /// else `WrongKey` exactly if they are the mark of another key; `NoMemory` only for a record that is accepted.
+    /// else `WrongKey` exactly if they are the mark of another key; `NoMemory` only for a command's record that is accepted.
     pub fn take(mut self, payload: &[u8]) -> Result<ShelfRebuild, RecordFault>
         ensures taken { IfOk result (λ next. (payloads : List (List ℕ)) → Rebuilds payloads self → Rebuilds (payloads ++ payload.now ∷ []) next) }
         ensures mark { IfOk result (λ next. next.mark ≡ self.mark) }
         ensures keys { IfOk result (λ next. next.shelf.keys ≡ self.shelf.keys) }
         ensures bad { (payloads : List (List ℕ)) (n : ℕ) → Rebuilds payloads self → result ≡ Err (RecordFault.BadRecord n) → (n ≡ length payloads) × IsBadVaultRecord (payloads ++ payload.now ∷ []) n }
         ensures wrong { (payloads : List (List ℕ)) → Rebuilds payloads self → result ≡ Err RecordFault.WrongKey → VaultOpensElsewhere self.mark (payloads ++ payload.now ∷ []) }
-        ensures memory { (payloads : List (List ℕ)) → Rebuilds payloads self → result ≡ Err RecordFault.NoMemory → (cs : List meant.VaultCommand) × VaultOpens self.mark (payloads ++ payload.now ∷ []) cs }
+        ensures memory { (payloads : List (List ℕ)) → Rebuilds payloads self → result ≡ Err RecordFault.NoMemory → (cs : List meant.VaultCommand) × (c : meant.VaultCommand) × VaultOpens self.mark (payloads ++ payload.now ∷ []) (cs ++ c ∷ []) }
     {
         match self.take_next(payload) {
             Ok(()) => Ok(self),

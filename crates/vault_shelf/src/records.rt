@@ -1,4 +1,4 @@
-ghost use Rattle.std.specs.Prelude.{◌≡◌, ◌≢◌, ◌++◌, IfSome, IsNone, OnOk, option_map};
+ghost use Rattle.std.specs.Prelude.{◌≡◌, ◌≢◌, ◌++◌, IfSome, IsNone, OnErr, OnOk, option_map};
 ghost use Rattle.vault_shelf.specs.ClientRecords.{IsRecorded, command_record, mark_record};
 ghost use Rattle.vault_shelf.specs.Shelves as meant;
 ghost use Rattle.vault_shelf.specs.CommandView.{command_view};
@@ -15,32 +15,43 @@ const DROP: u8 = 0x22;
 const MARK: u8 = 0x23;
 
 // Promise P205 (caller): A record of a client of the vault has exactly its bytes, and bytes are read as the one record they are.
-//   clauses: ensures; not: That the record may follow those before it (P206).
-/// Appends the first record of a client's journal, the mark of its key. After an error a part of it may stand there.
+//   clauses: bytes, err; not: That the record may follow those before it (P206).
+/// Appends the first record of a client's journal, the mark of its key. Without memory nothing is appended.
 pub fn write_mark_record(mark: &[u8; 16], out: &mut Vec<u8>) -> Result<(), AllocError>
-    ensures { OnOk result (out.new.items ≡ out.old.items ++ mark_record mark.now) }
+    ensures bytes { OnOk result (out.new.items ≡ out.old.items ++ mark_record mark.now) }
+    ensures err { OnErr result (out.new.items ≡ out.old.items) }
 {
+    out.reserve(17)?;
     out.push(MARK)?;
     out.extend_from_slice(mark.as_slice())
 }
 
-// Promise P205, also here; clauses: ensures
-/// Appends the record of a command; a get has none. After an error a part of it may stand there.
+// Promise P205, also here; clauses: bytes, err
+/// Appends the record of a command; a get has none. Without memory nothing is appended.
 pub fn write_vault_record(command: &VaultCommand<'_>, out: &mut Vec<u8>) -> Result<(), AllocError>
-    ensures { OnOk result (out.new.items ≡ out.old.items ++ command_record (command_view command.now)) }
+    ensures bytes { OnOk result (out.new.items ≡ out.old.items ++ command_record (command_view command.now)) }
+    ensures err { OnErr result (out.new.items ≡ out.old.items) }
 {
     match *command {
-        VaultCommand::Put { id, body } => {
-            out.push(PUT)?;
-            out.extend_from_slice(&id.to_be_bytes())?;
-            out.extend_from_slice(body)
-        }
+        VaultCommand::Put { id, body } => write_put(id, body, out),
         VaultCommand::Drop { id } => {
+            out.reserve(9)?;
             out.push(DROP)?;
             out.extend_from_slice(&id.to_be_bytes())
         }
         VaultCommand::Get { .. } => Ok(()),
     }
+}
+
+/// Appends the record of a put.
+fn write_put(id: u64, body: &[u8], out: &mut Vec<u8>) -> Result<(), AllocError>
+    ensures bytes { OnOk result (out.new.items ≡ out.old.items ++ command_record (meant.Put id body.now)) }
+    ensures err { OnErr result (out.new.items ≡ out.old.items) }
+{
+    out.reserve(9 + body.len())?;
+    out.push(PUT)?;
+    out.extend_from_slice(&id.to_be_bytes())?;
+    out.extend_from_slice(body)
 }
 
 // Promise P205, also here; clauses: mark

@@ -1,4 +1,4 @@
-ghost use Rattle.std.specs.Prelude.{◌≡◌, ◌≢◌, ◌≤◌, ◌++◌, [], IfOk, OnOk, length, take};
+ghost use Rattle.std.specs.Prelude.{◌≡◌, ◌≢◌, ◌≤◌, ◌++◌, [], IfOk, OnErr, OnOk, length, take};
 ghost use Rattle.vault_shelf.specs.VaultSessions.{sealed_by};
 ghost use Rattle.vault_shelf.specs.VaultTexts.{fetched_text};
 ghost use Rattle.keyed_fn.specs.KeyedFn.{keyed_fn};
@@ -61,9 +61,9 @@ impl TextBuffer {
         &self.bytes[front..]
     }
 
-    // Promise P203, also here; clauses: text, tag
+    // Promise P203, also here; clauses: text, tag, err
     /// Encrypts a text of at most 65,536 bytes as that of put `v`, and gives its tag, which is of the number, the identifier and the
-    /// encrypted text.
+    /// encrypted text. Without memory no text is left.
     pub fn seal<K: Keyed>(
         &mut self,
         keyed: &K,
@@ -75,6 +75,7 @@ impl TextBuffer {
         requires { length body.now ≤ 65536 }
         ensures text { OnOk result (text_in self.new ≡ sealed_by (keyed_fn K.prf K.pad) keys.now v body.now) }
         ensures tag { IfOk result (λ tag. tag ≡ vault_tag (keyed_fn K.prf K.pad) keys.now.tags v id (sealed_by (keyed_fn K.prf K.pad) keys.now v body.now)) }
+        ensures err { OnErr result (self.new ≡ []) }
     {
         self.fill(v, id, body)?;
         self.xor_pad(keyed, keys, v);
@@ -82,9 +83,10 @@ impl TextBuffer {
     }
 
     // Promise P204 (caller): A received text is decrypted exactly if its tag is that of its put's number, its identifier and the text.
-    //   clauses: fetched, still_sealed; assumes: own keys; not: A text of more than 65,536 bytes, which is reported if its tag is right.
+    //   clauses: fetched, still_sealed, err; assumes: own keys; not: A text of more than 65,536 bytes, which is reported if its tag is right.
     /// Tests the tag of an encrypted text that was received for put `v` and its identifier, and decrypts the text only if it is
-    /// right. The tag is tested before the length. A text that isn't decrypted stays encrypted in the buffer.
+    /// right. The tag is tested before the length. A text that isn't decrypted stays encrypted in the buffer. Without memory no text is
+    /// left.
     pub fn open<K: Keyed>(
         &mut self,
         keyed: &K,
@@ -96,6 +98,7 @@ impl TextBuffer {
     ) -> Result<Opened, AllocError>
         ensures fetched { IfOk result (λ opened. opened_view opened (text_in self.new) ≡ fetched_text (keyed_fn K.prf K.pad) keys.now v id tag.now sealed.now) }
         ensures still_sealed { IfOk result (λ opened. opened ≢ Opened.Text → text_in self.new ≡ sealed.now) }
+        ensures err { OnErr result (self.new ≡ []) }
     {
         self.fill(v, id, sealed)?;
         if *tag != keys.tag(keyed, &self.bytes) {
@@ -110,7 +113,8 @@ impl TextBuffer {
 
     /// Puts a number, an identifier and a text there.
     fn fill(&mut self, v: u32, id: u64, text: &[u8]) -> Result<(), AllocError>
-        ensures { OnOk result (self.new ≡ tagged_text v id text.now) }
+        ensures text { OnOk result (self.new ≡ tagged_text v id text.now) }
+        ensures err { OnErr result (self.new ≡ []) }
     {
         self.bytes.clear();
         self.bytes.reserve(FRONT + text.len())?;

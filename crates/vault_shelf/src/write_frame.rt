@@ -1,4 +1,4 @@
-ghost use Rattle.std.specs.Prelude.{◌≡◌, ◌<◌, ◌++◌, OnOk, length, unwrap_or};
+ghost use Rattle.std.specs.Prelude.{◌≡◌, ◌<◌, ◌++◌, OnErr, OnOk, length, unwrap_or};
 ghost use Rattle.std.specs.List.{AllByRecursion, flat_map};
 ghost use Rattle.vault_shelf.specs.Shelves as meant;
 ghost use Rattle.vault_shelf.specs.VaultSessions.{draw_by, sent_by};
@@ -16,9 +16,9 @@ use vault_server::{VaultFrame, write_vault_frame};
 use word_keys::VaultKeys;
 
 // Promise P203 (caller): The frame of a command is the one of the session, encrypted and tagged under the number of its put.
-//   clauses: bytes, grammar; assumes: earlier calls, own keys; not: That the vault takes it.
+//   clauses: bytes, grammar, err; assumes: earlier calls, own keys; not: That the vault takes it.
 /// Appends the frame of a command that isn't refused: a put has the next number and is encrypted as the next put. A get of a
-/// text that isn't there has no frame, and nothing is appended. After an error a part of the frame may stand there.
+/// text that isn't there has no frame, and nothing is appended; nor is anything without memory.
 pub fn write_vault_command<K: Keyed>(
     keyed: &K,
     keys: &VaultKeys,
@@ -30,6 +30,7 @@ pub fn write_vault_command<K: Keyed>(
     requires { CanSend shelf.now (command_view command.now) }
     ensures bytes { (s : meant.Shelf) → Keeps shelf.now s → OnOk result (out.new.items ≡ out.old.items ++ flat_map vault_bytes (sent_by (keyed_fn K.prf K.pad) keys.now s (command_view command.now))) }
     ensures grammar { (s : meant.Shelf) → Keeps shelf.now s → OnOk result (AllByRecursion InVault (sent_by (keyed_fn K.prf K.pad) keys.now s (command_view command.now))) }
+    ensures err { OnErr result (out.new.items ≡ out.old.items) }
 {
     match *command {
         VaultCommand::Put { id, body } => write_put(keyed, keys, shelf, id, body, buffer, out),
@@ -54,6 +55,7 @@ fn write_put<K: Keyed>(
     requires { IsPutSendable shelf.now body.now }
     ensures bytes { (s : meant.Shelf) → Keeps shelf.now s → OnOk result (out.new.items ≡ out.old.items ++ vault_bytes (put_frame s.sent (draw_by (keyed_fn K.prf K.pad) keys.now (length s.puts) (record { id = id; body = body.now })))) }
     ensures grammar { (s : meant.Shelf) → Keeps shelf.now s → OnOk result (InVault (put_frame s.sent (draw_by (keyed_fn K.prf K.pad) keys.now (length s.puts) (record { id = id; body = body.now })))) }
+    ensures err { OnErr result (out.new.items ≡ out.old.items) }
 {
     let v = shelf.puts();
     let tag = buffer.seal(keyed, keys, v, id, body)?;
@@ -77,6 +79,7 @@ fn write_drop<K: Keyed>(
     requires { shelf.now.sent < 0xffffffff }
     ensures bytes { (s : meant.Shelf) → Keeps shelf.now s → OnOk result (out.new.items ≡ out.old.items ++ vault_bytes (DropFrame s.sent (vault_slot (keyed_fn K.prf K.pad) keys.now.slots (unwrap_or (s.there id) 0)))) }
     ensures grammar { (s : meant.Shelf) → Keeps shelf.now s → OnOk result (InVault (DropFrame s.sent (vault_slot (keyed_fn K.prf K.pad) keys.now.slots (unwrap_or (s.there id) 0)))) }
+    ensures err { OnErr result (out.new.items ≡ out.old.items) }
 {
     let put = shelf.put_of(id).unwrap_or(0);
     let frame = VaultFrame::Drop {
@@ -95,6 +98,7 @@ fn write_fetch<K: Keyed>(
 ) -> Result<(), AllocError>
     ensures bytes { OnOk result (out.new.items ≡ out.old.items ++ vault_bytes (FetchFrame (vault_slot (keyed_fn K.prf K.pad) keys.now.slots put))) }
     ensures grammar { OnOk result (InVault (FetchFrame (vault_slot (keyed_fn K.prf K.pad) keys.now.slots put))) }
+    ensures err { OnErr result (out.new.items ≡ out.old.items) }
 {
     let frame = VaultFrame::Fetch {
         slot: keys.slot(keyed, put),

@@ -9,7 +9,7 @@ pub returns-in-Err-clause-kept : goal.returns-in-Err-clause-kept
 returns-in-Err-clause-kept g c =
     NotTaken c.in-Err.fault refl
     (c.in-Err.ensures.refused
-    ∙ ap (λ (payload : List ℕ). with_refused (payload ∷ []) (g.R.Recorder.kept c.args.recorder.now)) (c.in_ok-write_mark_record.ensures ∙ ap (λ (front : List ℕ). front ++ mark_record c.args.mark.now) c.new-payload.ensures.items))
+    ∙ ap (λ (payload : List ℕ). with_refused (payload ∷ []) (g.R.Recorder.kept c.args.recorder.now)) (c.in_ok-write_mark_record.ensures.bytes ∙ ap (λ (front : List ℕ). front ++ mark_record c.args.mark.now) c.new-payload.ensures.items))
 
 pub returns-in_err-write_mark_record-clause-recorder : goal.returns-in_err-write_mark_record-clause-recorder
 returns-in_err-write_mark_record-clause-recorder g c = leaves-same g.R.Recorder.kept g.R.Recorder.moment g.R.Recorder.left_since g.R.Recorder.whole c.args.recorder.now c.requires (g.met.R.Recorder.at_rest c.args.recorder.now c.requires)

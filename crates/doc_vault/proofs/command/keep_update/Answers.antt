@@ -13,7 +13,7 @@ returns-in-Err-clause-kept g c =
     let before = g.R.Recorder.kept c.args.recorder.now in
     NotTaken c.in-Err.fault refl
     (c.in-Err.ensures.refused
-    ∙ ap (λ (payload : List ℕ). with_refused (payload ∷ []) before) (c.in_ok-write_vault_record.ensures ∙ ap (λ (front : List ℕ). front ++ command_record command) c.new-payload.ensures.items)
+    ∙ ap (λ (payload : List ℕ). with_refused (payload ∷ []) before) (c.in_ok-write_vault_record.ensures.bytes ∙ ap (λ (front : List ℕ). front ++ command_record command) c.new-payload.ensures.items)
     ∙ ap (λ (records : List (List ℕ)). with_refused records before) (sym (update_records command c.requires.update)))
 
 pub returns-in_err-write_vault_record-clause-recorder : goal.returns-in_err-write_vault_record-clause-recorder

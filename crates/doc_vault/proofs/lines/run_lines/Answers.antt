@@ -87,7 +87,7 @@ pub returns-in-Err-clause-counts : goal.returns-in-Err-clause-counts
 returns-in-Err-clause-counts g c =
     let before : Counts = record { source = 0; sink = g.W.Sink.faults c.lines.sink; shortages = g.W.Sink.shortages c.lines.sink; link = g.L.VaultLink.faults c.lines.link; recorder = g.R.Recorder.faults c.lines.recorder } in
     counts-then {T = Bool} _ _ _ (Err c.from.result) c.lines.invariant.counts
-    (counts-stopped {T = Bool} _ _ (Err c.from.result) (stops.Run (runs.Input c.in-Err.stop)) c.from.ensures (shows-input _ _ before c.in-Err.stop c.in-Err.ensures.source.cause))
+    (counts-stopped {T = Bool} _ _ (Err c.from.result) (stops.Run (runs.Input c.in-Err.stop)) c.from.ensures (shows-input _ _ before c.in-Err.stop c.next_line.ensures.later c.in-Err.ensures.source.cause))
 
 pub returns-in_err-now-clause-counts : goal.returns-in_err-now-clause-counts
 returns-in_err-now-clause-counts g c =

@@ -21,7 +21,7 @@ returns-clause-run g c =
 pub returns-in_err-key-clause-counts : goal.returns-in_err-key-clause-counts
 returns-in_err-key-clause-counts g c =
     let others : Counts = record { source = 0; sink = g.W.Sink.faults c.args.sink.now; shortages = g.W.Sink.shortages c.args.sink.now; link = g.L.VaultLink.faults c.args.link.now; recorder = g.R.Recorder.faults c.args.recorder.now } in
-    counts-stopped _ _ c.from_residual-in_err-key.result (stops.Run (runs.Input c.in_err-key.field-0.0)) c.from_residual-in_err-key.ensures.1 (shows-input _ _ others c.in_err-key.field-0.0 c.in_err-key.ensures.source.cause)
+    counts-stopped _ _ c.from_residual-in_err-key.result (stops.Run (runs.Input c.in_err-key.field-0.0)) c.from_residual-in_err-key.ensures.1 (shows-input _ _ others c.in_err-key.field-0.0 c.key_line.ensures.later c.in_err-key.ensures.source.cause)
 
 pub returns-clause-counts : goal.returns-clause-counts
 returns-clause-counts g c =

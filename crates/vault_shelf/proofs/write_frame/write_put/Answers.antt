@@ -23,7 +23,7 @@ returns-clause-bytes g c =
     subst (λ frame. OnOk c.write_vault_frame.result (c.write_vault_frame.new.out.items ≡ c.args.out.now.items ++ vault_bytes frame))
     (put_frames (keyed_fn g.K.Keyed.prf g.K.Keyed.pad) c.args.keys.now s c.sent.result c.puts-v.result c.args.id c.args.body.now c.slot.result c.in_ok-tag.tag c.text.result.now
     (c.sent.ensures ∙ keeps.sent) (c.puts-v.ensures ∙ keeps.puts) c.slot.ensures c.in_ok-tag.ensures.tag (c.text.ensures ∙ c.in_ok-tag.ensures.text))
-    c.write_vault_frame.ensures
+    c.write_vault_frame.ensures.bytes
 
 pub returns-clause-grammar : goal.returns-clause-grammar
 returns-clause-grammar g c =
