@@ -99,7 +99,7 @@ class ListTest(unittest.TestCase):
 
     def test_its_identifiers_and_names(self) -> None:
         self.assertEqual(list(identifiers_of([self.entries["home/me/a"]])), [0, 1, 7])
-        self.assertEqual((name_of("/home/a"), name_of("//a")), ("home/a", "a"))
+        self.assertEqual((name_of("/mail/a"), name_of("//a")), ("mail/a", "a"))
 
 
 class JournalTest(unittest.TestCase):
