@@ -8,7 +8,7 @@ use Rattle.std.proofs.lemmas.List.Splits.{length-slice_split}
 use Rattle.std.specs.List.{slice_split}
 use Rattle.sse_script.specs.Fields.{is_space, is_field, fields_of}
 use Rattle.sse_script.specs.Numbers.{number_of, key_of}
-use Rattle.sse_script.specs.Lines.{Line, Key, Doc, AddLine, Del, Query, line_of, line_by_kind, key_line, document_line, setup_numbers, setup_line, delete_line, find_line}
+use Rattle.sse_script.specs.Lines.{Line, Key, Doc, AddLine, Del, Query, Rebuild, line_of, line_by_kind, key_alone, document_line, setup_numbers, setup_line, delete_line, find_line}
 use Rattle.script_run_texts.specs.LineWords.{words_in}
 
 -- a line has at most one field more than bytes
@@ -24,10 +24,10 @@ module _ (n : ℕ) where
   abbrev HasFew : Line → Type 0
   HasFew line = words_in line ≤ n
 
-  few_key : (fields : List (List ℕ)) → IfSome (key_line fields) HasFew
-  few_key [] = tt
-  few_key (key ∷ []) = mapped HasFew (key_of key) Key (λ x. omega arith)
-  few_key (key ∷ other ∷ more) = tt
+  few_key : (line : List ℕ → Line) → ((key : List ℕ) → words_in (line key) ≡ 0) → (fields : List (List ℕ)) → IfSome (option_map line (key_alone fields)) HasFew
+  few_key line same [] = tt
+  few_key line same (key ∷ []) = mapped HasFew (key_of key) line (λ x. omega (arith, same x))
+  few_key line same (key ∷ other ∷ more) = tt
 
   few_document : (line : ℕ → List (List ℕ) → Line) → ((id : ℕ) (words : List (List ℕ)) → words_in (line id words) ≡ length words) →
       (fields : List (List ℕ)) → length fields ≤ n → IfSome (document_line line fields) HasFew
@@ -65,13 +65,14 @@ module _ (n : ℕ) where
   few_by_kind [] few = let few : 0 ≤ n = omega arith in few
   few_by_kind (kind ∷ fields) few =
       let less : length fields ≤ n = omega (arith, few) in
-      chosen (bytes_eq kind (codes "key")) (key_line fields) _ (few_key fields) (
+      chosen (bytes_eq kind (codes "key")) (option_map Key (key_alone fields)) _ (few_key Key (λ key. refl) fields) (
       chosen (bytes_eq kind (codes "doc")) (document_line Doc fields) _ (few_document Doc (λ id words. refl) fields less) (
       chosen (bytes_eq kind (codes "setup")) (setup_line fields) _ (few_setup fields) (
       chosen (bytes_eq kind (codes "add")) (document_line AddLine fields) _ (few_document AddLine (λ id words. refl) fields less) (
       chosen (bytes_eq kind (codes "del")) (delete_line fields) _ (few_delete fields) (
       chosen (bytes_eq kind (codes "find")) (find_line fields) _ (few_find fields) (
-      chosen (bytes_eq kind (codes "query")) (Some (Query fields)) None (let few : 0 ≤ n = omega arith in few) tt))))))
+      chosen (bytes_eq kind (codes "query")) (Some (Query fields)) _ (let few : 0 ≤ n = omega arith in few) (
+      chosen (bytes_eq kind (codes "rebuild")) (option_map Rebuild (key_alone fields)) None (few_key Rebuild (λ key. refl) fields) tt)))))))
 
 few_of : (bytes : List ℕ) → IfSome (line_of bytes) (λ line. words_in line ≤ 2 ^ 19)
 few_of bytes = by (nat_lt (2 ^ 19) (length bytes)) refl

@@ -16,6 +16,8 @@ pub enum LineResult {
     Nothing,
     /// The documents were set up.
     SetUp { words: u32, blocks: u32 },
+    /// The live documents were set up again under another key.
+    Rebuilt { words: u32, blocks: u32 },
     /// The document of this identifier was added.
     Added { id: u64 },
     /// It was deleted.
@@ -51,6 +53,10 @@ impl LineResult {
             LineResult::SetUp { words, blocks } => {
                 let (words, blocks) = (*words, *blocks);
                 print(alloc, sink, &Shown::SetUp { words, blocks })
+            }
+            LineResult::Rebuilt { words, blocks } => {
+                let (words, blocks) = (*words, *blocks);
+                print(alloc, sink, &Shown::Rebuilt { words, blocks })
             }
             LineResult::Added { id } => print(alloc, sink, &Shown::Added { id: *id }),
             LineResult::Deleted { id } => print(alloc, sink, &Shown::Deleted { id: *id }),

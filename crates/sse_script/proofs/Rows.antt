@@ -2,7 +2,7 @@
 use Rattle.std.proofs.Common.{◌≡◌, ◌∷◌, [], ◌++◌, codes, Some, None, refl}
 use Rattle.std.specs.Fmt.{digits}
 use Rattle.hex.proofs.OnLiterals.{hex_on_literals}
-use Rattle.sse_script.specs.Lines.{line_of, Empty, Key, Doc, SetupLine, AddLine, Find, Query}
+use Rattle.sse_script.specs.Lines.{line_of, Empty, Key, Doc, SetupLine, AddLine, Find, Query, Rebuild}
 use Rattle.sse_script.specs.Shown as shown
 use Rattle.sse_script.specs.declared.refusal.Refusal.TheVariants as refusals
 use Rattle.sse_script.specs.Stops.{cause_status}
@@ -38,6 +38,11 @@ key_line : line_of (codes "key " ++ codes "000102030405060708090a0b0c0d0e0f10111
 unfolding hex_on_literals
 key_line = refl
 
+rebuild_line : line_of (codes "rebuild " ++ codes "000102030405060708090a0b0c0d0e0f101112131415161718191A1B1C1D1E1F")
+    ≡ Some (Rebuild (0 ∷ 1 ∷ 2 ∷ 3 ∷ 4 ∷ 5 ∷ 6 ∷ 7 ∷ 8 ∷ 9 ∷ 10 ∷ 11 ∷ 12 ∷ 13 ∷ 14 ∷ 15 ∷ 16 ∷ 17 ∷ 18 ∷ 19 ∷ 20 ∷ 21 ∷ 22 ∷ 23 ∷ 24 ∷ 25 ∷ 26 ∷ 27 ∷ 28 ∷ 29 ∷ 30 ∷ 31 ∷ []))
+unfolding hex_on_literals
+rebuild_line = refl
+
 -- lines outside it
 leading_zero : line_of (codes "del 03") ≡ None
 leading_zero = refl
@@ -54,10 +59,28 @@ two_words = refl
 twin_line : line_of (codes "twin") ≡ None
 twin_line = refl
 
+rebuild_with_63_digits : line_of (codes "rebuild 000102030405060708090a0b0c0d0e0f101112131415161718191a1b1c1d1e1") ≡ None
+unfolding hex_on_literals
+rebuild_with_63_digits = refl
+
+rebuild_with_65_digits : line_of (codes "rebuild 000102030405060708090a0b0c0d0e0f101112131415161718191a1b1c1d1e1f0") ≡ None
+unfolding hex_on_literals
+rebuild_with_65_digits = refl
+
+rebuild_with_two_keys : line_of (codes "rebuild 000102030405060708090a0b0c0d0e0f101112131415161718191a1b1c1d1e1f 1") ≡ None
+rebuild_with_two_keys = refl
+
+rebuild_without_key : line_of (codes "rebuild") ≡ None
+rebuild_without_key = refl
+
 -- printed lines
 set_up_text : text_of (shown.SetUp 2 0) ≡ codes "set up 2 words 0 blocks" ++ 10 ∷ []
 unfolding digits
 set_up_text = refl
+
+rebuilt_text : text_of (shown.Rebuilt 2 1) ≡ codes "rebuilt 2 words 1 blocks" ++ 10 ∷ []
+unfolding digits
+rebuilt_text = refl
 
 found_text : text_of (shown.Found (3 ∷ 9 ∷ [])) ≡ codes "found 2: 3 9" ++ 10 ∷ []
 unfolding digits
@@ -82,6 +105,10 @@ wrong_query_text = refl
 refused_text : text_of (shown.Refused (refusals.BadParameter 2 3)) ≡ codes "refused: Q is 3" ++ 10 ∷ []
 unfolding digits
 refused_text = refl
+
+used_key_text : text_of (shown.Refused (refusals.KeyUsed 3)) ≡ codes "refused: key of epoch 3" ++ 10 ∷ []
+unfolding digits
+used_key_text = refl
 
 stopped_text : text_of (shown.Stopped (shown.LabelClash 0 1)) ≡ codes "stopped: labels of words 0 and 1 are equal" ++ 10 ∷ []
 unfolding digits

@@ -14,11 +14,12 @@ pub data Line : Type 0 where
   Del : (id : ℕ) → Line
   Find : (word : List ℕ) → Line
   Query : (fields : List (List ℕ)) → Line
+  Rebuild : (key : List ℕ) → Line
 
--- `key`: 64 hexadecimal digits
-abbrev pub key_line : List (List ℕ) → Option Line
-key_line (key ∷ []) = option_map Key (key_of key)
-key_line _ = None
+-- `key` and `rebuild`: the key alone, 64 hexadecimal digits
+abbrev pub key_alone : List (List ℕ) → Option (List ℕ)
+key_alone (key ∷ []) = key_of key
+key_alone _ = None
 
 -- `doc` and `add`: a number, then any count of words
 abbrev pub document_line : (ℕ → List (List ℕ) → Line) → List (List ℕ) → Option Line
@@ -50,13 +51,14 @@ find_line _ = None
 abbrev pub line_by_kind : List (List ℕ) → Option Line
 line_by_kind [] = Some Empty
 line_by_kind (kind ∷ fields) =
-    if bytes_eq kind (codes "key") then key_line fields
+    if bytes_eq kind (codes "key") then option_map Key (key_alone fields)
     else if bytes_eq kind (codes "doc") then document_line Doc fields
     else if bytes_eq kind (codes "setup") then setup_line fields
     else if bytes_eq kind (codes "add") then document_line AddLine fields
     else if bytes_eq kind (codes "del") then delete_line fields
     else if bytes_eq kind (codes "find") then find_line fields
     else if bytes_eq kind (codes "query") then Some (Query fields)
+    else if bytes_eq kind (codes "rebuild") then option_map Rebuild (key_alone fields)
     else None
 
 -- the line of at most 2^19 bytes that these bytes are

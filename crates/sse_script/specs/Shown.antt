@@ -24,6 +24,7 @@ pub data Cause : Type 0 where
 -- what one printed line says
 pub data Shown : Type 0 where
   SetUp : (words blocks : ℕ) → Shown
+  Rebuilt : (words blocks : ℕ) → Shown
   Added : (id : ℕ) → Shown
   Deleted : (id : ℕ) → Shown
   Found : (ids : List ℕ) → Shown

@@ -3,7 +3,7 @@ use Rattle.sse_script.specs.Shown as says
 use Rattle.sse_script.specs.declared.cause.Cause.{Cause}
 use Rattle.sse_script.specs.declared.cause.Cause.TheVariants.{BadWords, BadLine, SourceFault, LinkFault, DiskFault, NoMemory, LabelClash, PlaceClash, NumberClash, Clash, PeerElsewhere, BadReply, NoJournal, HasRecords, BadRecord, WrongKey}
 use Rattle.sse_script.specs.declared.shown.Shown.{Shown}
-use Rattle.sse_script.specs.declared.shown.Shown.TheVariants.{SetUp, Added, Deleted, Found, Matched, Resumed, Refused, Stopped}
+use Rattle.sse_script.specs.declared.shown.Shown.TheVariants.{SetUp, Rebuilt, Added, Deleted, Found, Matched, Resumed, Refused, Stopped}
 
 -- why a run stopped
 abbrev pub cause_view : Cause → says.Cause
@@ -27,6 +27,7 @@ cause_view WrongKey = says.WrongKey
 -- what a line to be printed says
 abbrev pub shown_view : Shown → says.Shown
 shown_view (SetUp words blocks) = says.SetUp words blocks
+shown_view (Rebuilt words blocks) = says.Rebuilt words blocks
 shown_view (Added id) = says.Added id
 shown_view (Deleted id) = says.Deleted id
 shown_view (Found ids) = says.Found ids.now

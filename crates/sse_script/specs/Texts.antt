@@ -3,9 +3,9 @@ use Rattle.std.specs.Prelude.{ℕ, List, [], ◌∷◌, ◌++◌, length, take, 
 use Rattle.std.specs.List.{concat}
 use Rattle.hex.specs.Hex.{encode_lower}
 use Rattle.sse_script.specs.declared.refusal.Refusal.{Refusal}
-use Rattle.sse_script.specs.declared.refusal.Refusal.TheVariants.{NotSetUp, SetUpAlready, Zero, TooLong, BadByte, TooManyWords, RepeatedWord, AlreadyLive, UnknownDocument, TooManyDocuments, TooManyPairs, TooManyBytes, BadParameter, ListTooLong, CounterFull, HistoryFull, TooManyFields, BadQuery}
+use Rattle.sse_script.specs.declared.refusal.Refusal.TheVariants.{NotSetUp, SetUpAlready, Zero, TooLong, BadByte, TooManyWords, RepeatedWord, AlreadyLive, UnknownDocument, TooManyDocuments, TooManyPairs, TooManyBytes, BadParameter, ListTooLong, CounterFull, HistoryFull, TooManyFields, BadQuery, KeyUsed}
 use Rattle.sse_script.specs.Shown.{Cause, BadWords, BadLine, SourceFault, LinkFault, DiskFault, NoMemory, LabelClash, PlaceClash, NumberClash, Clash, PeerElsewhere, BadReply, NoJournal, HasRecords, BadRecord, WrongKey}
-use Rattle.sse_script.specs.Shown.{Shown, SetUp, Added, Deleted, Found, Matched, Resumed, Refused, Stopped}
+use Rattle.sse_script.specs.Shown.{Shown, SetUp, Rebuilt, Added, Deleted, Found, Matched, Resumed, Refused, Stopped}
 
 -- a parameter of a setup by its number
 abbrev pub parameter_name : ℕ → List ℕ
@@ -31,6 +31,7 @@ refusal_text (CounterFull position) = codes "counter of word " ∷ decimal posit
 refusal_text HistoryFull = codes "history is full" ∷ []
 refusal_text (TooManyFields n) = codes "query has " ∷ decimal n ∷ codes " fields" ∷ []
 refusal_text (BadQuery place) = codes "query is wrong at " ∷ decimal place ∷ []
+refusal_text (KeyUsed epoch) = codes "key of epoch " ∷ decimal epoch ∷ []
 
 -- two of a kind that are equal
 abbrev pub equal_text : List ℕ → ℕ → ℕ → List (List ℕ)
@@ -63,6 +64,7 @@ ids_text ids = flat_map (λ id. 32 ∷ decimal id) ids
 -- a line without its end
 abbrev pub line_text : Shown → List (List ℕ)
 line_text (SetUp words blocks) = codes "set up " ∷ decimal words ∷ codes " words " ∷ decimal blocks ∷ codes " blocks" ∷ []
+line_text (Rebuilt words blocks) = codes "rebuilt " ∷ decimal words ∷ codes " words " ∷ decimal blocks ∷ codes " blocks" ∷ []
 line_text (Added id) = codes "added " ∷ decimal id ∷ []
 line_text (Deleted id) = codes "deleted " ∷ decimal id ∷ []
 line_text (Found ids) = codes "found " ∷ decimal (length ids) ∷ codes ":" ∷ ids_text ids ∷ []

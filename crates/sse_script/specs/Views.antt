@@ -1,7 +1,7 @@
 -- A line as it is read, seen as what it says.
-use Rattle.sse_script.specs.Lines.{Line, Empty as EmptyLine, Key as KeyLine, Doc as DocLine, SetupLine, AddLine, Del as DelLine, Find as FindLine, Query as QueryLine}
+use Rattle.sse_script.specs.Lines.{Line, Empty as EmptyLine, Key as KeyLine, Doc as DocLine, SetupLine, AddLine, Del as DelLine, Find as FindLine, Query as QueryLine, Rebuild as RebuildLine}
 use Rattle.sse_script.specs.declared.line.Line.{Line as ReadLine}
-use Rattle.sse_script.specs.declared.line.Line.TheVariants.{Empty, Key, Doc, Setup, Add, Del, Find, Query}
+use Rattle.sse_script.specs.declared.line.Line.TheVariants.{Empty, Key, Doc, Setup, Add, Del, Find, Query, Rebuild}
 
 -- what a line that was read says
 abbrev pub line_view : ReadLine → Line
@@ -13,3 +13,4 @@ line_view (Add id words) = AddLine id words
 line_view (Del id) = DelLine id
 line_view (Find word) = FindLine word.now
 line_view (Query fields) = QueryLine fields
+line_view (Rebuild key) = RebuildLine key

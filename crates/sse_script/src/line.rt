@@ -22,4 +22,6 @@ pub enum Line<'a> {
     Find { word: &'a [u8] },
     /// `query`: the fields of a query, as they stand: operands, `and`, `or`, `not` and parentheses.
     Query(Fields<'a>),
+    /// `rebuild`: the new master key, 32 bytes, under which the live documents are set up again.
+    Rebuild([u8; 32]),
 }

@@ -43,7 +43,10 @@ fn by_kind<'a>(kind: &[u8], fields: Fields<'a>) -> Option<Line<'a>>
     ensures { option_map line_view result ≡ line_by_kind (kind.now ∷ fields.entry) }
 {
     if kind == b"key".as_slice() {
-        key_line(fields)
+        match key_alone(fields) {
+            Some(key) => Some(Line::Key(key)),
+            None => None,
+        }
     } else if kind == b"doc".as_slice() {
         match numbered(fields) {
             Some((id, words)) => Some(Line::Doc { id, words }),
@@ -62,21 +65,25 @@ fn by_kind<'a>(kind: &[u8], fields: Fields<'a>) -> Option<Line<'a>>
         find_line(fields)
     } else if kind == b"query".as_slice() {
         Some(Line::Query(fields))
+    } else if kind == b"rebuild".as_slice() {
+        match key_alone(fields) {
+            Some(key) => Some(Line::Rebuild(key)),
+            None => None,
+        }
     } else {
         None
     }
 }
 
-/// `key`: one field, the master key.
-fn key_line(mut fields: Fields<'_>) -> Option<Line<'_>>
-    ensures { option_map line_view result ≡ lines.key_line fields.entry }
+/// `key` and `rebuild`: one field, the master key.
+fn key_alone(mut fields: Fields<'_>) -> Option<[u8; 32]>
+    ensures { result ≡ lines.key_alone fields.entry }
 {
     let field = fields.next()?;
     if fields.next().is_some() {
         return None;
     }
-    let key = read_key(field)?;
-    Some(Line::Key(key))
+    read_key(field)
 }
 
 /// A number, and the fields after it.

@@ -42,6 +42,8 @@ pub enum Refusal {
     TooManyFields { n: u64 },
     /// The field at `place`, from 0, is one that no query has there; the place after the last field is the query's end.
     BadQuery { place: u64 },
+    /// The master key is that of this epoch; epochs count from 0.
+    KeyUsed { epoch: u64 },
 }
 
 impl fmt::Display for Refusal {
@@ -78,6 +80,7 @@ impl fmt::Display for Refusal {
             Refusal::HistoryFull => f.write_str("history is full"),
             Refusal::TooManyFields { n } => write!(f, "query has {n} fields"),
             Refusal::BadQuery { place } => write!(f, "query is wrong at {place}"),
+            Refusal::KeyUsed { epoch } => write!(f, "key of epoch {epoch}"),
         }
     }
 }

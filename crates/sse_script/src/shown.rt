@@ -5,6 +5,8 @@ use crate::{Cause, Refusal};
 pub enum Shown<'a> {
     /// A setup was carried out, of so many words and blocks.
     SetUp { words: u32, blocks: u32 },
+    /// The live documents were set up again under another key, in so many words and blocks.
+    Rebuilt { words: u32, blocks: u32 },
     /// A document was added.
     Added { id: u64 },
     /// A document was deleted.

@@ -15,6 +15,9 @@ pub fn line_text(alloc: Global, shown: &Shown<'_>) -> Result<String, AllocError>
         Shown::SetUp { words, blocks } => {
             format!(in alloc; "set up {words} words {blocks} blocks\n")
         }
+        Shown::Rebuilt { words, blocks } => {
+            format!(in alloc; "rebuilt {words} words {blocks} blocks\n")
+        }
         Shown::Added { id } => one(alloc, "added ", id, "\n"),
         Shown::Deleted { id } => one(alloc, "deleted ", id, "\n"),
         Shown::Found { ids } => listed(alloc, "found ", ids),

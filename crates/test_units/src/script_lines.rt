@@ -53,6 +53,12 @@ keys
 find a\r
 query =a and  =b
 query
+ rebuild  000102030405060708090a0b0c0d0e0f101112131415161718191A1B1c1D1e1F 
+rebuild 000102030405060708090a0b0c0d0e0f101112131415161718191a1b1c1d1e1
+rebuild 000102030405060708090a0b0c0d0e0f101112131415161718191a1b1c1d1e1f0
+rebuild 000102030405060708090a0b0c0d0e0f101112131415161718191a1b1c1d1e1g
+rebuild 000102030405060708090a0b0c0d0e0f101112131415161718191a1b1c1d1e1f 1
+rebuild
 ";
 
 /// What each of them says: the kind, numbers in decimal, the key and words in hexadecimal digits; by an independent reader of the
@@ -106,6 +112,12 @@ bad 7
 find 610d
 query 3d61 616e64 3d62
 query
+rebuild 000102030405060708090a0b0c0d0e0f101112131415161718191a1b1c1d1e1f
+bad 7
+bad 7
+bad 7
+bad 7
+bad 7
 ";
 
 fn with_words(
@@ -142,6 +154,10 @@ fn said(alloc: Global, line: &[u8]) -> Result<String, AllocError> {
             format!(in alloc; "find {digits}")
         }
         Ok(Line::Query(fields)) => with_words(alloc, String::from_str(alloc, "query")?, fields),
+        Ok(Line::Rebuild(key)) => {
+            let digits = in_hex(alloc, &key)?;
+            format!(in alloc; "rebuild {digits}")
+        }
         Err(BadLine(number)) => format!(in alloc; "bad {number}"),
     }
 }
@@ -169,7 +185,7 @@ fn a_line_has_at_most_2_to_19_bytes(rt: HostRuntime) -> Result<(), Fail> {
 }
 
 /// What is printed after commands, the texts being those of an independent program, here and below.
-const COMMANDS: [Shown<'static>; 6] = [
+const COMMANDS: [Shown<'static>; 7] = [
     Shown::SetUp {
         words: 2,
         blocks: 0,
@@ -179,6 +195,10 @@ const COMMANDS: [Shown<'static>; 6] = [
     Shown::Found { ids: &[] },
     Shown::Found { ids: &[3, 9] },
     Shown::Resumed { frames: u32::MAX },
+    Shown::Rebuilt {
+        words: 1,
+        blocks: u32::MAX,
+    },
 ];
 
 const COMMANDS_PRINTED: &str = "\
@@ -188,10 +208,11 @@ deleted 5
 found 0:
 found 2: 3 9
 resumed 4294967295 frames
+rebuilt 1 words 4294967295 blocks
 ";
 
 /// Refusals.
-const REFUSALS: [Refusal; 18] = [
+const REFUSALS: [Refusal; 19] = [
     Refusal::NotSetUp,
     Refusal::SetUpAlready,
     Refusal::Zero,
@@ -219,6 +240,7 @@ const REFUSALS: [Refusal; 18] = [
     Refusal::ListTooLong { word: 0, n: 9 },
     Refusal::CounterFull { position: 2 },
     Refusal::HistoryFull,
+    Refusal::KeyUsed { epoch: 3 },
 ];
 
 const REFUSALS_PRINTED: &str = "\
@@ -240,6 +262,7 @@ refused: Q is 18446744073709551615
 refused: list of word 0 has 9 identifiers
 refused: counter of word 2 is full
 refused: history is full
+refused: key of epoch 3
 ";
 
 /// Why a run stopped.
