@@ -3,7 +3,7 @@ use Rattle.std.specs.Prelude.{◌≡◌, ◌≢◌, Result, Err, IsOk}
 use Rattle.client_rebuild.specs.declared.fault.RebuildFault.{RebuildFault}
 use Rattle.client_rebuild.specs.declared.fault.RebuildFault.TheVariants as takes
 use Rattle.script_run_texts.specs.declared.journal_stop.JournalStop.{JournalStop}
-use Rattle.script_run_texts.specs.declared.journal_stop.JournalStop.TheVariants.{NoJournal, BadRecord, WrongKey, Disk, Memory}
+use Rattle.script_run_texts.specs.declared.journal_stop.JournalStop.TheVariants.{NoJournal, BadRecord, Disk, Memory}
 use Rattle.sse_journal.specs.declared.read_fault.ReadFault.{ReadFault}
 use Rattle.sse_journal.specs.declared.read_fault.ReadFault.TheVariants as reads
 use Rattle.sse_journal.specs.declared.start_fault.StartFault.{StartFault}
@@ -24,7 +24,6 @@ stop_of_read reads.NoMemory = Memory
 -- one isn't taken
 abbrev pub stop_of_take : RebuildFault → JournalStop
 stop_of_take (takes.BadRecord number) = BadRecord number
-stop_of_take takes.WrongKey = WrongKey
 stop_of_take takes.NoMemory = Memory
 
 -- The result of a call, unless the disk failed or it is out of memory.

@@ -35,10 +35,10 @@ pub(crate) fn stop_of_read(fault: ReadFault) -> JournalStop
 pub(crate) fn stop_of_take(fault: RebuildFault) -> JournalStop
     ensures is { result ≡ faults.stop_of_take fault }
     ensures never_has_records { result ≢ JournalStop.HasRecords }
+    ensures never_wrong_key { result ≢ JournalStop.WrongKey }
 {
     match fault {
         RebuildFault::BadRecord(number) => JournalStop::BadRecord(number),
-        RebuildFault::WrongKey => JournalStop::WrongKey,
         RebuildFault::NoMemory => JournalStop::Memory,
     }
 }

@@ -1,4 +1,4 @@
-//! How a client's run begins on a disk, or resumes from its records, which are read back into a `Rebuild`; and what it leaves
+//! How a client's run begins on a disk, or resumes from its records, which are read back into a `Rebuilt`; and what it leaves
 //! there. It depends on `sse_journal` for the file, on `client_rebuild` for the records, on `client_recorder` for what was kept,
 //! and on `script_run_texts` for why a run ends. A run that begins refuses a file with records, and one that resumes a file
 //! without: either guess could lose work. A bad record ends the run and changes nothing, since those after it were kept too.

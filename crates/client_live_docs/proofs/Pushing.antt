@@ -74,7 +74,7 @@ not_refused false false true n p id a b c = absurd (cc)
 not_refused false false false n p id a b c = refl
 
 -- documents that aren't refused are few
-few_documents : (docs : List Document) → live_refusal docs ≡ None → (length docs ≤ 2 ^ 18) × (pairs_of docs ≤ 2 ^ 20)
+pub few_documents : (docs : List Document) → live_refusal docs ≡ None → (length docs ≤ 2 ^ 18) × (pairs_of docs ≤ 2 ^ 20)
 few_documents docs accepted = by (nat_lt (2 ^ 18) (length docs)) (nat_lt (2 ^ 20) (pairs_of docs)) refl refl accepted
   where
     by : (many more : Bool) → nat_lt (2 ^ 18) (length docs) ≡ many → nat_lt (2 ^ 20) (pairs_of docs) ≡ more
@@ -84,19 +84,23 @@ few_documents docs accepted = by (nat_lt (2 ^ 18) (length docs)) (nat_lt (2 ^ 20
     by false true a b e = absurd (cc)
     by false false a b e = (omega (arith, ltb-false (2 ^ 18) (length docs) a), omega (arith, ltb-false (2 ^ 20) (pairs_of docs) b))
 
--- so each of them is collected after those before it
-pub collected_next : (docs : List Document) (i : ℕ) (d : Document) → Rising docs → live_refusal docs ≡ None → slice_get docs i ≡ Some d → docs_refusal (take i docs) d ≡ None
-collected_next docs i d rising accepted at =
-    let few = few_documents docs accepted in
+-- a document whose identifier none before it has is collected after them, where all are few
+pub collected_where : (docs : List Document) (i : ℕ) (d : Document) → is_live (take i docs) d.id ≡ false → length docs ≤ 2 ^ 18 → pairs_of docs ≤ 2 ^ 20 → slice_get docs i ≡ Some d
+    → docs_refusal (take i docs) d ≡ None
+collected_where docs i d dead documents pairs at =
     let within : i < length docs = slice_get_within docs i d at in
     let count : length (take i docs) ≡ i = length-take-le i docs (omega (arith, within)) in
     let more : pairs_of (take i docs) + length d.words ≤ pairs_of docs =
     omega (arith, pairs_of-front (i + 1) docs, ap pairs_of (take-one_more docs i d at), pairs_of-push (take i docs) d) in
     not_refused (is_live (take i docs) d.id) (nat_lt (2 ^ 18) (length (take i docs) + 1)) (nat_lt (2 ^ 20) (pairs_of (take i docs) + length d.words))
     (length (take i docs) + 1) (pairs_of (take i docs) + length d.words) d.id
-    (dead_before docs i d rising at)
-    (le-ltb (2 ^ 18) (length (take i docs) + 1) (omega (arith, within, count, few.0)))
-    (le-ltb (2 ^ 20) (pairs_of (take i docs) + length d.words) (omega (arith, more, few.1)))
+    dead
+    (le-ltb (2 ^ 18) (length (take i docs) + 1) (omega (arith, within, count, documents)))
+    (le-ltb (2 ^ 20) (pairs_of (take i docs) + length d.words) (omega (arith, more, pairs)))
+
+-- so each of rising ones is collected after those before it
+collected_next : (docs : List Document) (i : ℕ) (d : Document) → Rising docs → live_refusal docs ≡ None → slice_get docs i ≡ Some d → docs_refusal (take i docs) d ≡ None
+collected_next docs i d rising accepted at = let few = few_documents docs accepted in collected_where docs i d (dead_before docs i d rising at) few.0 few.1 at
 
 -- the document of the identifier at a place among rising ones
 module _ (r : Registered) (c : Option Command) (ids : List DocId) (i : ℕ) (id : DocId)

@@ -10,9 +10,10 @@ ghost use Rattle.client_registry.specs.Live.{in_order};
 ghost use Rattle.client_registry.specs.Registered.{facts};
 ghost use Rattle.client_registry.specs.WordBytes.{word_bytes};
 
+use crate::copies::{copy_doc, document_of, push_known};
 use crate::kept::other_live;
 use crate::pending_update::{PendingUpdate, added};
-use client_registry::{Doc, DocFault, DocId, Docs, DocsFault, HashKeys, Registry, Word};
+use client_registry::{Doc, DocId, Docs, HashKeys, Registry};
 use std::alloc::{AllocError, Global};
 
 /// The documents that are live after the update, by rising identifier, hashed under these keys.
@@ -92,19 +93,6 @@ fn push_all(
     Ok(())
 }
 
-/// Adds a document that nothing refuses.
-fn push_known(docs: &mut Docs, doc: Doc) -> Result<(), AllocError>
-    requires { docs_refusal docs.old.documents doc ≡ None }
-    ensures added { OnOk result (docs.new.documents ≡ docs.old.documents ++ doc ∷ []) }
-    ensures keys { docs.new.keys ≡ docs.old.keys }
-{
-    match docs.push(doc) {
-        Ok(()) => Ok(()),
-        Err(DocsFault::NoMemory) => Err(AllocError),
-        Err(_) => unreachable!(),
-    }
-}
-
 /// A copy of the document of this identifier that is live after the update.
 fn document_live(
     alloc: Global,
@@ -123,15 +111,6 @@ fn document_live(
     copy_kept(alloc, registry, id)
 }
 
-/// The same document again.
-fn copy_doc(alloc: Global, doc: &Doc) -> Result<Doc, AllocError>
-    ensures { IfOk result (λ copy. copy ≡ doc.now) }
-{
-    let mut words = Vec::new(alloc);
-    words.extend_from_slice(doc.words())?;
-    document_of(alloc, doc.id(), words)
-}
-
 /// A copy of the live document of this identifier that the registry has.
 fn copy_kept(alloc: Global, registry: &Registry, id: DocId) -> Result<Doc, AllocError>
     requires { is_some ((facts registry.now).live (id_number id)) ≡ true }
@@ -143,16 +122,4 @@ fn copy_kept(alloc: Global, registry: &Registry, id: DocId) -> Result<Doc, Alloc
         words.push_reserved(*registry.word(*number as usize));
     }
     document_of(alloc, id, words)
-}
-
-/// The document of this identifier with these words, which are those of a document.
-fn document_of(alloc: Global, id: DocId, words: Vec<Word>) -> Result<Doc, AllocError>
-    requires { doc_refusal (map word_bytes words.items) ≡ None }
-    ensures { IfOk result (λ doc. doc ≡ record { id = id_number id; words = map word_bytes words.items }) }
-{
-    match Doc::new(alloc, id, words) {
-        Ok(doc) => Ok(doc),
-        Err(DocFault::NoMemory) => Err(AllocError),
-        Err(_) => unreachable!(),
-    }
 }

@@ -1,13 +1,16 @@
 ghost use Rattle.std.specs.Prelude.{◌≡◌, IfOk, IfSome, IsOkUnless, List, None};
+ghost use Rattle.client_live_docs.specs.AreLive.{AreLive};
 ghost use Rattle.client_live_docs.specs.LiveAfter.{live_refusal, AreLiveAfter};
 ghost use Rattle.client_registry.specs.Document.{Document};
+ghost use Rattle.client_registry.specs.Facts.{words_with_id};
 ghost use Rattle.client_registry.specs.HashNumbers.{hash_numbers};
 
 use crate::collected::collect;
+use crate::copies::copy_docs;
 use crate::counted::refusal;
 use crate::pending_update::PendingUpdate;
 use client_registry::{Docs, DocsFault, HashKeys, Registry};
-use std::alloc::Global;
+use std::alloc::{AllocError, Global};
 
 // Promise P207 (caller): The documents of a renewed setup are exactly the live ones, by rising identifier; too many are refused with their whole count.
 //   clauses: live, keys, refused, accepted; assumes: earlier calls; not: That an index of them has an accepted size.
@@ -32,4 +35,21 @@ pub fn live_docs(
         return Err(fault);
     }
     Ok(collect(alloc, registry, pending, keys)?)
+}
+
+// Promise P207, also here; clauses: live, keys
+/// The documents of a setup that nothing was done after, by rising identifier, as a renewal sets them up again. Words and
+/// identifiers are hashed under these keys.
+pub fn docs_by_id(alloc: Global, docs: &Docs, keys: HashKeys) -> Result<Docs, AllocError>
+    ensures live { IfOk result (λ sorted. AreLive (words_with_id docs.now.documents) sorted.documents) }
+    ensures keys { IfOk result (λ sorted. sorted.keys ≡ hash_numbers keys) }
+{
+    let registry = Registry::from_docs(copy_docs(alloc, docs, keys)?);
+    match live_docs(alloc, &registry, None, keys) {
+        Ok(sorted) => Ok(sorted),
+        Err(DocsFault::NoMemory) => Err(AllocError),
+        Err(DocsFault::AlreadyLive(_)) => unreachable!(),
+        Err(DocsFault::TooManyDocuments(_)) => unreachable!(),
+        Err(DocsFault::TooManyPairs(_)) => unreachable!(),
+    }
 }

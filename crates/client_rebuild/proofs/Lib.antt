@@ -1,2 +1,5 @@
+pub mod LastLaws
+pub mod RenewalLaws
 pub mod RebuildLaws
 pub mod RebuiltHistory
+pub mod Finished

@@ -1,3 +1,4 @@
 pub mod Updates
 pub mod Recalls
+pub mod Renewals
 pub mod Rebuilds

@@ -1,13 +1,14 @@
 -- The history of the last record taken, with the parts that are kept of the earlier ones.
 use Rattle.std.specs.Prelude.{◌≡◌, ℕ, ◌+◌, ◌-◌, ◌^◌, Bool, ◌&&◌, nat_lt, [], None, Some, Option, Result, Ok, Err}
 use Rattle.client_registry.specs.Command.{Command}
+use Rattle.client_registry.specs.Epochs.{begins}
 use Rattle.client_registry.specs.Facts.{Facts, facts_of, facts_after}
 use Rattle.client_registry.specs.Registered.{facts, Represents}
-use Rattle.client_registry.specs.Run.{History, Run, From, Renewed}
+use Rattle.client_registry.specs.Run.{History, Offsets, Run, last_run}
 use Rattle.client_registry.specs.Setup.{Setup, setup_with}
 use Rattle.client_registry.specs.Sized.{update_frames}
-use Rattle.client_records.specs.Openings.{with_update}
-use Rattle.client_rebuild.specs.Updates.{command_of, fits}
+use Rattle.two_level.specs.Shape.{Shape}
+use Rattle.client_rebuild.specs.Updates.{command_of, fits, with_update}
 use Rattle.client_rebuild.specs.declared.last.Last.{Last}
 use Rattle.client_rebuild.specs.declared.last.Last.TheVariants as last
 use Rattle.client_rebuild.specs.declared.recorded_setup.RecordedSetup.{RecordedSetup}
@@ -16,39 +17,52 @@ use Rattle.client_rebuild.specs.declared.recorded_setup.RecordedSetup.{RecordedS
 abbrev pub setup_in : RecordedSetup → Setup
 setup_in s = setup_with s.docs.documents s.b s.big s.pad
 
--- the facts of the history with the last record's command
+-- the facts of the last epoch with the last record's command
 abbrev pub facts_of_last : Last → Facts
 facts_of_last (last.Setup s) = facts_of (setup_in s) []
 facts_of_last (last.Update u) = facts_after (facts u.registry) (command_of u.update)
 
--- how many update frames it has, and how many records
+-- how many update frames the history has, and how many records
 abbrev pub frames_of_last : Last → ℕ
-frames_of_last (last.Setup s) = s.frames
+frames_of_last (last.Setup s) = s.before + s.frames
 frames_of_last (last.Update u) = u.frames + 1
 
 abbrev pub records_of_last : Last → ℕ
-records_of_last (last.Setup s) = 1
+records_of_last (last.Setup s) = s.records
 records_of_last (last.Update u) = u.records + 1
+
+-- the shape of its index, and the number up to a multiple of which it is filled, which are the same in all epochs
+abbrev pub shape_of_last : Last → Shape
+shape_of_last (last.Setup s) = record { b = s.b; big = s.big }
+shape_of_last (last.Update u) = record { b = u.b; big = u.big }
+
+abbrev pub pad_of_last : Last → ℕ
+pad_of_last (last.Setup s) = s.pad
+pad_of_last (last.Update u) = u.pad
 
 -- the two numbers under which its identifiers and words are hashed
 abbrev pub hash_keys_of : Last → ℕ × ℕ
 hash_keys_of (last.Setup s) = s.docs.keys
 hash_keys_of (last.Update u) = u.registry.keys
 
--- the last record's command is the last of the history: its setup, or an update after a history that the registry represents,
--- with as many update frames
-abbrev pub Recalls : Run → Last → Type 0
-Recalls run (last.Setup s) = run ≡ record { setup = setup_in s; later = [] }
-Recalls run (last.Update u) =
-    (before : Run) × (run ≡ with_update before (command_of u.update)) × Represents u.registry before.setup before.later × (u.frames ≡ update_frames before)
+-- the last record's command is the last of an epoch that begins at these offsets: its setup, or an update after a run that the
+-- registry represents, with as many update frames before it
+abbrev pub Recalls : Offsets → Run → Last → Type 0
+Recalls o run (last.Setup s) = (run ≡ record { setup = setup_in s; later = [] }) × (o.frame ≡ s.before)
+Recalls o run (last.Update u) =
+    (before : Run)
+    × (run ≡ with_update before (command_of u.update))
+    × Represents u.registry before.setup before.later
+    × (u.frames ≡ o.frame + update_frames before)
+    × (before.setup.shape ≡ record { b = u.b; big = u.big })
+    × (before.setup.pad ≡ u.pad)
 
--- the same of a history; before a setup there is no record, and there is none of a renewal
+-- the same of the last epoch of a history; before a setup there is no record
 abbrev pub RecallsIn : History → Option Last → Type 0
 RecallsIn None None = Unit {0}
 RecallsIn None (Some l) = ⊥
-RecallsIn (Some (From o run)) None = ⊥
-RecallsIn (Some (From o run)) (Some l) = Recalls run l
-RecallsIn (Some (Renewed before key run)) last = ⊥
+RecallsIn (Some es) None = ⊥
+RecallsIn (Some es) (Some l) = Recalls (begins es) (last_run es) l
 
 -- a command is accepted after it: it fits what is live, and there is a number for its frame
 abbrev pub accepts_after : Last → Command → Bool
@@ -56,13 +70,13 @@ accepts_after l c = fits (facts_of_last l) c && nat_lt (frames_of_last l) (2 ^ 3
 
 -- the same with one command more, recorded behind it
 pub record IsFollowed (l : Last) (c : Command) (next : Last) : Type 0 where
-  pub recalls : (run : Run) → Recalls run l → Recalls (with_update run c) next
+  pub recalls : (o : Offsets) (run : Run) → Recalls o run l → Recalls o (with_update run c) next
   pub records : records_of_last next ≡ records_of_last l + 1
   pub hashed : hash_keys_of next ≡ hash_keys_of l
 
 -- the same history
 pub record IsSameLast (l next : Last) : Type 0 where
-  pub recalls : (run : Run) → Recalls run l → Recalls run next
+  pub recalls : (o : Offsets) (run : Run) → Recalls o run l → Recalls o run next
   pub records : records_of_last next ≡ records_of_last l
   pub hashed : hash_keys_of next ≡ hash_keys_of l
 

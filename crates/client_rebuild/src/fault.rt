@@ -5,8 +5,6 @@ use std::alloc::AllocError;
 pub enum RebuildFault {
     /// The record of this number, from 0, isn't one, or isn't accepted after those before it.
     BadRecord(u64),
-    /// It is the record of a setup under another key.
-    WrongKey,
     /// There is no memory for it.
     NoMemory,
 }
@@ -21,3 +19,7 @@ impl From<AllocError> for RebuildFault {
         RebuildFault::NoMemory
     }
 }
+
+/// The records are those of a client whose last key is another.
+#[derive(Clone, Copy, Debug, PartialEq, Eq)]
+pub struct WrongKey;

@@ -26,11 +26,22 @@ fn follow_setup(setup: RecordedSetup, update: Update) -> Last
     requires { accepts_after (Last.Setup setup) (command_of update) ≡ true }
     ensures { IsFollowed (Last.Setup setup) (command_of update) result }
 {
-    let RecordedSetup { docs, frames, .. } = setup;
+    let RecordedSetup {
+        docs,
+        b,
+        big,
+        pad,
+        frames,
+        before,
+        records,
+    } = setup;
     Last::Update(RecordedUpdate {
         registry: Registry::from_docs(docs),
-        frames,
-        records: 1,
+        b,
+        big,
+        pad,
+        frames: before + frames,
+        records,
         update,
     })
 }
@@ -42,6 +53,9 @@ fn follow_update(before: RecordedUpdate, update: Update) -> Result<Last, Last>
 {
     let RecordedUpdate {
         mut registry,
+        b,
+        big,
+        pad,
         frames,
         records,
         update: last,
@@ -49,12 +63,18 @@ fn follow_update(before: RecordedUpdate, update: Update) -> Result<Last, Last>
     match carry_out(&mut registry, &last) {
         Ok(()) => Ok(Last::Update(RecordedUpdate {
             registry,
+            b,
+            big,
+            pad,
             frames: frames + 1,
             records: records + 1,
             update,
         })),
         Err(_) => Err(Last::Update(RecordedUpdate {
             registry,
+            b,
+            big,
+            pad,
             frames,
             records,
             update: last,

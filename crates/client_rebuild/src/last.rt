@@ -1,8 +1,10 @@
-ghost use Rattle.std.specs.Prelude.{◌≡◌, ◌≤◌, is_some};
+ghost use Rattle.std.specs.Prelude.{◌≡◌, ◌≤◌, [], None, is_some};
+ghost use Rattle.client_registry.specs.Acceptance.{parameter_refusal};
 ghost use Rattle.client_registry.specs.Facts.{facts_after};
 ghost use Rattle.client_registry.specs.IdNumber.{id_number};
 ghost use Rattle.client_registry.specs.Registered.{facts};
-ghost use Rattle.client_rebuild.specs.Recalls.{accepts_after, facts_of_last, frames_of_last, records_of_last};
+ghost use Rattle.client_registry.specs.Setup.{setup_with};
+ghost use Rattle.client_rebuild.specs.Recalls.{accepts_after, facts_of_last, frames_of_last, pad_of_last, records_of_last, shape_of_last};
 ghost use Rattle.client_rebuild.specs.Updates.{command_of, fits};
 
 use crate::recorded_setup::RecordedSetup;
@@ -13,9 +15,9 @@ use client_registry::DocId;
 /// The last record taken, whose command isn't carried out yet, and what stands before it.
 #[derive(Drop)]
 pub enum Last {
-    /// The first record, of a setup.
+    /// The first record, of a setup, or that of a renewal.
     Setup(RecordedSetup),
-    /// An update after it.
+    /// An update after one of these.
     Update(RecordedUpdate),
 }
 
@@ -25,7 +27,7 @@ impl Last {
         ensures { result ≡ frames_of_last self.now }
     {
         match self {
-            Last::Setup(setup) => setup.frames,
+            Last::Setup(setup) => setup.before + setup.frames,
             Last::Update(update) => update.frames + 1,
         }
     }
@@ -36,8 +38,20 @@ impl Last {
         ensures fewer { result ≤ frames_of_last self.now }
     {
         match self {
-            Last::Setup(_) => 1,
+            Last::Setup(setup) => setup.records,
             Last::Update(update) => update.records + 1,
+        }
+    }
+
+    /// b, B and Q of its epoch's setup, which are the same in all epochs.
+    pub fn parameters(&self) -> (u16, u16, u16)
+        ensures shape { shape_of_last self.now ≡ record { b = result.0; big = result.1 } }
+        ensures pad { pad_of_last self.now ≡ result.2 }
+        ensures accepted { parameter_refusal (setup_with [] result.0 result.1 result.2) ≡ None }
+    {
+        match self {
+            Last::Setup(setup) => (setup.b, setup.big, setup.pad),
+            Last::Update(update) => (update.b, update.big, update.pad),
         }
     }
 

@@ -12,7 +12,6 @@ use Rattle.client_registry.specs.declared.faults.DocsFault.TheVariants as docs
 use Rattle.client_records.specs.Faults.{docs_fault}
 use Rattle.client_records.specs.Records.{document_field, word_field}
 use Rattle.client_records.specs.TakenMemory.{BeginsCounted, BeginsDocument, TakesMemory}
-use Rattle.client_records.specs.declared.fault.ReadFault.{ReadFault}
 use Rattle.client_records.specs.declared.fault.ReadFault.TheVariants.{NoMemory}
 
 -- an identifier was read, and how many words there are

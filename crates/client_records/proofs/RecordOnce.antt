@@ -2,7 +2,7 @@
 use Rattle.std.proofs.Common.{◌≡◌, ℕ, List, [], ◌++◌, drop, refl, sym, ap, ◌∙◌, inl, inr}
 use Rattle.client_registry.specs.Document.{Document}
 use Rattle.client_registry.specs.Setup.{Setup}
-use Rattle.client_records.specs.Records.{RecordText, SetsUp, Adds, Deletes, IsRecordOf, IsSetupText, Spells}
+use Rattle.client_records.specs.Records.{RecordText, SetsUp, Adds, Deletes, Rekeys, IsRecordOf, IsSetupText, Spells}
 use Rattle.client_records.proofs.Once.{cut_once, document_once, documents_once, number16_once, number64_once}
 use Rattle.client_records.proofs.Setups.{differ, old_setup_tail, old_setup_record-tail, setup_tail, setup_record-tail}
 
@@ -40,6 +40,11 @@ no_deletion : (payload m : List ℕ) (s : Setup) (id : ℕ) → Spells payload (
 no_deletion payload m s id (inl e) f = differ 0x14 0x13 _ _ (sym (e ∙ setup_record-tail m s) ∙ f) refl
 no_deletion payload m s id (inr e) f = differ 0x11 0x13 _ _ (sym (e.1 ∙ old_setup_record-tail m s) ∙ f) refl
 
+-- nor a renewal
+no_renewal : (payload m own : List ℕ) (s : Setup) → Spells payload (SetsUp m s) → Spells payload (Rekeys own) → ⊥
+no_renewal payload m own s (inl e) f = differ 0x14 0x15 _ _ (sym (e ∙ setup_record-tail m s) ∙ f) refl
+no_renewal payload m own s (inr e) f = differ 0x11 0x15 _ _ (sym (e.1 ∙ old_setup_record-tail m s) ∙ f) refl
+
 -- Promise P118, also here
 -- the same bytes are records of the same
 pub record_once : (payload : List ℕ) (a b : RecordText) → IsRecordOf payload a → IsRecordOf payload b → a ≡ b
@@ -52,3 +57,10 @@ record_once payload (Adds d) (Deletes id) x y = absurd (differ 0x12 0x13 _ _ (sy
 record_once payload (Deletes id) (SetsUp n t) x y = absurd (no_deletion payload n t id y.spelled x.spelled)
 record_once payload (Deletes id) (Adds e) x y = absurd (differ 0x13 0x12 _ _ (sym x.spelled ∙ y.spelled) refl)
 record_once payload (Deletes id) (Deletes j) x y = ap Deletes (number64_once id j [] [] x.limits.1 y.limits.1 (ap (drop 1) (sym x.spelled ∙ y.spelled))).0
+record_once payload (SetsUp m s) (Rekeys own) x y = absurd (no_renewal payload m own s x.spelled y.spelled)
+record_once payload (Rekeys own) (SetsUp n t) x y = absurd (no_renewal payload n own t y.spelled x.spelled)
+record_once payload (Adds d) (Rekeys own) x y = absurd (differ 0x12 0x15 _ _ (sym x.spelled ∙ y.spelled) refl)
+record_once payload (Rekeys own) (Adds d) x y = absurd (differ 0x15 0x12 _ _ (sym x.spelled ∙ y.spelled) refl)
+record_once payload (Deletes id) (Rekeys own) x y = absurd (differ 0x13 0x15 _ _ (sym x.spelled ∙ y.spelled) refl)
+record_once payload (Rekeys own) (Deletes id) x y = absurd (differ 0x15 0x13 _ _ (sym x.spelled ∙ y.spelled) refl)
+record_once payload (Rekeys own) (Rekeys other) x y = ap Rekeys (ap (drop 1) (sym x.spelled ∙ y.spelled))

@@ -7,7 +7,7 @@ use Rattle.client_registry.specs.Document.{Document}
 use Rattle.client_registry.specs.DocumentRule.{IsDocument}
 use Rattle.client_registry.specs.Documents.{IsCollected}
 use Rattle.client_registry.specs.Setup.{Setup, setup_of, setup_with}
-use Rattle.client_records.specs.Records.{SetsUp, Adds, Deletes, document_field, documents_field, setup_record, old_setup_record, IsNoRecord, IsRecordOf, IsSetupText}
+use Rattle.client_records.specs.Records.{SetsUp, Adds, Deletes, Rekeys, document_field, documents_field, setup_record, old_setup_record, IsNoRecord, IsRecordOf, IsSetupText}
 use Rattle.client_records.specs.ReaderFaults.{IsNotWhole}
 use Rattle.client_records.proofs.Once.{cut_once}
 
@@ -46,6 +46,7 @@ module _ (bytes : List ℕ) where
       ]
   none_with_q none (Adds d) is = differ 0x14 0x12 _ _ is.spelled refl
   none_with_q none (Deletes id) is = differ 0x14 0x13 _ _ is.spelled refl
+  none_with_q none (Rekeys own) is = differ 0x14 0x15 _ _ is.spelled refl
 
   -- a record that begins with 11 is a setup with none
   none_without_q : ((mark : List ℕ) (s : Setup) → IsSetupText mark s → bytes ≡ old_setup_tail mark s → ⊥) → IsNoRecord (0x11 ∷ bytes)
@@ -56,6 +57,7 @@ module _ (bytes : List ℕ) where
       ]
   none_without_q none (Adds d) is = differ 0x11 0x12 _ _ is.spelled refl
   none_without_q none (Deletes id) is = differ 0x11 0x13 _ _ is.spelled refl
+  none_without_q none (Rekeys own) is = differ 0x11 0x15 _ _ is.spelled refl
 
   -- a record that begins with 12 is an addition
   pub no_addition : IsNotWhole document_field IsDocument bytes → IsNoRecord (0x12 ∷ bytes)
@@ -66,6 +68,7 @@ module _ (bytes : List ℕ) where
       ]
   no_addition none (Adds d) is = none d is.limits (ap (drop 1) is.spelled)
   no_addition none (Deletes id) is = differ 0x12 0x13 _ _ is.spelled refl
+  no_addition none (Rekeys own) is = differ 0x12 0x15 _ _ is.spelled refl
 
   -- too few bytes
   pub no_setup_short : length bytes < 26 → IsNoRecord (0x14 ∷ bytes)

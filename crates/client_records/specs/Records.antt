@@ -41,6 +41,10 @@ update_record (Search word) = []
 abbrev pub records_of : List ℕ → Run → List (List ℕ)
 records_of mark run = setup_record mark run.setup ∷ map update_record (filter is_update run.later)
 
+-- the record of a renewal of the key under that of this mark
+abbrev pub renewal_record : List ℕ → List ℕ
+renewal_record mark = 0x15 ∷ mark
+
 -- what a record says
 pub data RecordText : Type 0 where
   -- this setup was made under the key of this mark
@@ -49,6 +53,8 @@ pub data RecordText : Type 0 where
   Adds : Document → RecordText
   -- the document of this identifier was deleted
   Deletes : ℕ → RecordText
+  -- the key was renewed, under that of this mark
+  Rekeys : (mark : List ℕ) → RecordText
 
 -- a mark of 16 bytes, three numbers of 16 bits, and documents that are collected for a setup
 pub record IsSetupText (mark : List ℕ) (s : Setup) : Type 0 where
@@ -63,12 +69,14 @@ abbrev pub IsText : RecordText → Type 0
 IsText (SetsUp mark s) = IsSetupText mark s
 IsText (Adds d) = IsDocument d
 IsText (Deletes id) = (1 ≤ id) × (id < 2 ^ 64)
+IsText (Rekeys mark) = length mark ≡ 16
 
 -- the bytes say it: a setup with a Q of 1 in either of two ways, all else in one
 abbrev pub Spells : List ℕ → RecordText → Type 0
 Spells payload (SetsUp mark s) = (payload ≡ setup_record mark s) ⊎ ((s.pad ≡ 1) × (payload ≡ old_setup_record mark s))
 Spells payload (Adds d) = payload ≡ update_record (Add d)
 Spells payload (Deletes id) = payload ≡ update_record (Delete id)
+Spells payload (Rekeys mark) = payload ≡ renewal_record mark
 
 -- the bytes are a record, to their last one, and this is what it says
 pub record IsRecordOf (payload : List ℕ) (text : RecordText) : Type 0 where

@@ -17,4 +17,6 @@ pub enum Record {
     Add(Doc),
     /// The document of this identifier was deleted.
     Delete(DocId),
+    /// The key was renewed, under that of this mark.
+    Renewal([u8; MARK_LEN]),
 }

@@ -10,5 +10,8 @@ pub(crate) const ADD: u8 = 0x12;
 /// The first byte of the record of a deletion.
 pub(crate) const DELETE: u8 = 0x13;
 
+/// The first byte of the record of a renewal.
+pub(crate) const RENEWAL: u8 = 0x15;
+
 /// How many bytes the mark of a key has.
 pub(crate) const MARK_LEN: usize = 16;

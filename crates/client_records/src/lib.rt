@@ -1,5 +1,5 @@
 //! The records of a client's journal, to and from bytes: the setup with the check value of its key, then each
-//! addition and deletion. It depends only on the words and documents of `client_registry`; a record is read without a
+//! addition and deletion, and each renewal with the check value of the new key. It depends only on the words and documents of `client_registry`; a record is read without a
 //! key and without the records before it. In a record b, B and Q are numbers of 16 bits, so that one test finds a
 //! setup outside its limits.
 //! Proved: a writer appends exactly the bytes of specs/Records.antt. `read_record` accepts exactly bytes that are one
@@ -22,4 +22,4 @@ mod writer;
 pub use client_record::Record;
 pub use fault::ReadFault;
 pub use reader::read_record;
-pub use writer::{write_add, write_delete, write_setup};
+pub use writer::{write_add, write_delete, write_renewal, write_setup};

@@ -7,7 +7,7 @@ ghost use Rattle.client_records.specs.TakenMemory.{TakesMemory};
 use crate::client_record::Record;
 use crate::documents::{read_whole_document, read_whole_documents};
 use crate::fault::ReadFault;
-use crate::kinds::{ADD, DELETE, MARK_LEN, OLD_SETUP, SETUP};
+use crate::kinds::{ADD, DELETE, MARK_LEN, OLD_SETUP, RENEWAL, SETUP};
 use crate::unread::Unread;
 use client_registry::{DocId, HashKeys};
 use std::alloc::Global;
@@ -69,6 +69,15 @@ fn read_deletion(mut unread: Unread<'_>) -> Result<Record, ReadFault>
     Ok(Record::Delete(id))
 }
 
+/// The renewal of a record, of the bytes after its first.
+fn read_renewal(mut unread: Unread<'_>) -> Result<Record, ReadFault>
+    ensures { (keys : ℕ × ℕ) → ReadsRecord keys (0x15 ∷ unread.entry) result }
+{
+    let mark = unread.read_array::<MARK_LEN>()?;
+    unread.read_end()?;
+    Ok(Record::Renewal(mark))
+}
+
 /// The record that all of the bytes are, by their first.
 fn record_of(alloc: Global, keys: HashKeys, payload: &[u8]) -> Result<Record, ReadFault>
     ensures { ReadsRecord (hash_numbers keys) payload.now result }
@@ -80,6 +89,7 @@ fn record_of(alloc: Global, keys: HashKeys, payload: &[u8]) -> Result<Record, Re
         OLD_SETUP => read_old_setup(alloc, keys, unread),
         ADD => read_addition(alloc, unread),
         DELETE => read_deletion(unread),
+        RENEWAL => read_renewal(unread),
         _ => Err(ReadFault::BadRecord),
     }
 }

@@ -3,9 +3,9 @@ ghost use Rattle.std.specs.Int.{w16, to_be_bytes};
 ghost use Rattle.client_registry.specs.Command.{Add, Delete};
 ghost use Rattle.client_registry.specs.IdNumber.{id_number};
 ghost use Rattle.client_registry.specs.Setup.{setup_with};
-ghost use Rattle.client_records.specs.Records.{setup_record, update_record};
+ghost use Rattle.client_records.specs.Records.{setup_record, update_record, renewal_record};
 
-use crate::kinds::{ADD, DELETE, MARK_LEN, SETUP};
+use crate::kinds::{ADD, DELETE, MARK_LEN, RENEWAL, SETUP};
 use crate::lengths::{documents_len, words_len};
 use crate::record_bytes::{put, put_documents, put_head, put_words};
 use client_registry::{Doc, DocId, Docs};
@@ -76,5 +76,17 @@ pub fn write_delete(out: &mut Vec<u8>, id: DocId) -> Result<(), AllocError>
     out.reserve_exact(9)?;
     put(out, &[DELETE]);
     put(out, &id.get().to_be_bytes());
+    Ok(())
+}
+
+// Promise P118, also here; clauses: ok, err
+/// Appends the record of a renewal under the key of this mark, 17 bytes. Without memory the bytes are as before.
+pub fn write_renewal(out: &mut Vec<u8>, mark: &[u8; MARK_LEN]) -> Result<(), AllocError>
+    ensures ok { OnOk result (out.new.items ≡ out.old.items ++ renewal_record mark.now) }
+    ensures err { OnErr result (out.new.items ≡ out.old.items) }
+{
+    out.reserve_exact(17)?;
+    put(out, &[RENEWAL]);
+    put(out, mark);
     Ok(())
 }

@@ -33,8 +33,8 @@ records-preserved g c =
           (weakened g.D.Disk.moment g.D.Disk.left_since c.records.disk c.take_next.new.disk (g.D.Disk.images c.records.disk) (g.D.Disk.images c.args.disk.now) c.records.invariant.images_kept c.take_next.ensures.quiet);
       steady = c.in-Ok-Some.ensures.steady (λ same. cc) ∙ c.records.invariant.steady;
       here = here_next told now (λ all is. journal_on all c.args.journal.now (g.D.Disk.content c.args.disk.now) (g.D.Disk.content c.records.disk) (g.D.Disk.images c.args.disk.now) (g.D.Disk.images c.records.disk) is c.records.invariant.kept c.records.invariant.images_kept)
-          c.args.rebuilt.now.mark c.records.rebuilt.mark c.records.invariant.mark c.records.at c.records.rebuilt here c.take_next.new.rebuilt c.in-Ok-Some.next
-          (subst (λ (o : Option ℕ). TakesNext now c.records.rebuilt.mark here.payloads c.records.at (Ok o) c.take_next.new.rebuilt) c.in-Ok-Some.field-0-is (c.in-Ok-Some.ensures.takes here.payloads here.taken));
+          c.records.at c.records.rebuilt here c.take_next.new.rebuilt c.in-Ok-Some.next
+          (subst (λ (o : Option ℕ). TakesNext now here.payloads c.records.at (Ok o) c.take_next.new.rebuilt) c.in-Ok-Some.field-0-is (c.in-Ok-Some.ensures.takes here.payloads here.taken));
     }
 
 pub returns-in-Ok-None-clause-takes : goal.returns-in-Ok-None-clause-takes
@@ -43,8 +43,8 @@ returns-in-Ok-None-clause-takes g c =
     let now = λ (all : List (List ℕ)). IsJournalOf all c.args.journal.now (g.D.Disk.content c.records.disk) (g.D.Disk.images c.records.disk) in
     let here = c.records.invariant.here in
     here_last told now (λ all is. journal_on all c.args.journal.now (g.D.Disk.content c.args.disk.now) (g.D.Disk.content c.records.disk) (g.D.Disk.images c.args.disk.now) (g.D.Disk.images c.records.disk) is c.records.invariant.kept c.records.invariant.images_kept)
-    c.args.rebuilt.now.mark c.records.rebuilt.mark c.records.invariant.mark c.records.at c.records.rebuilt here c.take_next.new.rebuilt
-    (subst (λ (o : Option ℕ). TakesNext now c.records.rebuilt.mark here.payloads c.records.at (Ok o) c.take_next.new.rebuilt) c.in-Ok-None.field-0-is (c.in-Ok-None.ensures.takes here.payloads here.taken))
+    c.records.at c.records.rebuilt here c.take_next.new.rebuilt
+    (subst (λ (o : Option ℕ). TakesNext now here.payloads c.records.at (Ok o) c.take_next.new.rebuilt) c.in-Ok-None.field-0-is (c.in-Ok-None.ensures.takes here.payloads here.taken))
 
 pub returns-in-Ok-None-clause-quiet : goal.returns-in-Ok-None-clause-quiet
 returns-in-Ok-None-clause-quiet g c =
@@ -57,7 +57,7 @@ returns-in-Err-clause-takes g c =
     let now = λ (all : List (List ℕ)). IsJournalOf all c.args.journal.now (g.D.Disk.content c.records.disk) (g.D.Disk.images c.records.disk) in
     let here = c.records.invariant.here in
     here_refused told now (λ all is. journal_on all c.args.journal.now (g.D.Disk.content c.args.disk.now) (g.D.Disk.content c.records.disk) (g.D.Disk.images c.args.disk.now) (g.D.Disk.images c.records.disk) is c.records.invariant.kept c.records.invariant.images_kept)
-    c.args.rebuilt.now.mark c.records.rebuilt.mark c.records.invariant.mark c.records.at c.records.rebuilt here c.take_next.new.rebuilt c.records.invariant.mark c.in-Err.fault (c.in-Err.ensures.takes here.payloads here.taken)
+    c.records.at c.records.rebuilt here c.take_next.new.rebuilt c.in-Err.fault (c.in-Err.ensures.takes here.payloads here.taken)
 
 pub returns-in-Err-clause-quiet : goal.returns-in-Err-clause-quiet
 returns-in-Err-clause-quiet g c =

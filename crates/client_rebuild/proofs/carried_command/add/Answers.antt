@@ -1,7 +1,7 @@
 use Rattle.std.proofs.Common.{◌-◌, ◌^◌, sym, ap, subst, ◌∙◌}
 use Rattle.client_registry.specs.Facts.{Facts}
 use Rattle.client_registry.specs.Registered.{facts}
-use Rattle.client_rebuild.proofs.RebuildLaws.{has_counters-counted}
+use Rattle.client_rebuild.proofs.LastLaws.{has_counters-counted}
 use Rattle.client_rebuild.specs.Updates.{AreCounted}
 use Rattle.client_rebuild.proofs.carried_command.add.Goals as goal
 

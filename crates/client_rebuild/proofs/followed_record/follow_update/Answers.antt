@@ -1,6 +1,6 @@
 use Rattle.std.proofs.Common.{◌+◌, sym, ap, refl, subst, ◌∙◌}
 use Rattle.client_registry.specs.Facts.{Facts}
-use Rattle.client_rebuild.proofs.RebuildLaws.{counted_last, fewer_last, free_after, is_followed}
+use Rattle.client_rebuild.proofs.LastLaws.{counted_last, fewer_last, free_after, is_followed}
 use Rattle.client_rebuild.specs.Updates.{AreCounted, command_of, fits}
 use Rattle.client_rebuild.specs.declared.last.Last.TheVariants as last
 use Rattle.client_rebuild.proofs.followed_record.follow_update.Goals as goal
@@ -25,4 +25,4 @@ pub invariant_of-result-in-Err-clause-counted : goal.invariant_of-result-in-Err-
 invariant_of-result-in-Err-clause-counted c = subst (λ (x : Facts). AreCounted x c.args.before.frames) (sym c.in-Err.ensures.err) c.args.before.counted
 
 pub returns-in-Ok : goal.returns-in-Ok
-returns-in-Ok c = is_followed (last.Update c.args.before) _ c.in-Ok.ensures.ok refl refl c.carry_out.ensures.keys
+returns-in-Ok c = is_followed (last.Update c.args.before) _ c.in-Ok.ensures.ok refl refl c.carry_out.ensures.keys refl refl

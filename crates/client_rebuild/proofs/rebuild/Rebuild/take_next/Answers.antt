@@ -8,7 +8,7 @@ returns-in-Ok-clause-takes c = λ payloads was. c.take_said.ensures.taken payloa
 
 pub returns-in-Err-BadRecord-clause-takes : goal.returns-in-Err-BadRecord-clause-takes
 returns-in-Err-BadRecord-clause-takes c = λ payloads was.
-    no_record_taken (Unit {0}) (hash_numbers c.args.self.now.hash_keys) c.args.self.now.mark payloads c.args.payload.now c.args.self.now.last was c.records.result c.records.ensures (c.in-Err-BadRecord.ensures.none (search c.in-Err-BadRecord.field-0-is))
+    no_record_taken (Unit {0}) (hash_numbers c.args.self.now.hash_keys) c.args.self.now.marks.items payloads c.args.payload.now c.args.self.now.last was c.records.result c.records.ensures (c.in-Err-BadRecord.ensures.none (search c.in-Err-BadRecord.field-0-is))
 
 pub returns-in-Err-NoMemory-clause-takes : goal.returns-in-Err-NoMemory-clause-takes
 returns-in-Err-NoMemory-clause-takes c = λ payloads was. (inl (c.in-Err-NoMemory.ensures.memory (search c.in-Err-NoMemory.field-0-is)), was)
