@@ -10,37 +10,41 @@ use Rattle.client_registry.proofs.OverLaws.{length-over, over-append}
 use Rattle.client_registry.proofs.HistoryLaws.{IsKept-first}
 use Rattle.client_registry.specs.Command.{Command, Add, Delete}
 use Rattle.client_registry.specs.Document.{Document}
-use Rattle.client_registry.specs.Epochs.{Does}
+use Rattle.client_registry.specs.Epochs.{Does, begins}
 use Rattle.client_registry.specs.Facts.{has_counters}
 use Rattle.client_registry.specs.Histories.{IsKept}
 use Rattle.client_registry.specs.Registered.{Registered, Represents, facts, known_words}
 use Rattle.client_registry.specs.Over.{over}
-use Rattle.client_registry.specs.Run.{From, History, Offsets, Renewed, Run, at_first}
+use Rattle.client_registry.specs.Run.{Epochs, From, History, Offsets, Renewed, Run, last_run}
 use Rattle.client_registry.specs.Setup.{Setup}
 use Rattle.client_registry.specs.Sized.{update_frames}
-use Rattle.client_records.specs.Openings.{Opens, OpensTo}
-use Rattle.client_rebuild.proofs.RebuildLaws.{facts-recalled, frames-recalled, has_counters-counted, one_more}
-use Rattle.client_rebuild.specs.Recalls.{Recalls, RecallsIn, facts_of_last, frames_of_last, setup_in}
+use Rattle.client_records.specs.Openings.{OpensTo}
+use Rattle.client_rebuild.proofs.LastLaws.{facts-recalled, frames-recalled, has_counters-counted, one_more, pad-recalled, shape-recalled}
+use Rattle.client_rebuild.specs.Rebuilds.{EndsUnder, marks_in}
+use Rattle.client_rebuild.specs.Recalls.{Recalls, RecallsIn, facts_of_last, frames_of_last, pad_of_last, setup_in, shape_of_last}
 use Rattle.client_rebuild.specs.Updates.{command_of, fits}
 use Rattle.client_rebuild.specs.declared.last.Last.{Last}
 use Rattle.client_rebuild.specs.declared.last.Last.TheVariants as last
 use Rattle.client_rebuild.specs.declared.recorded_update.RecordedUpdate.{RecordedUpdate}
 use Rattle.client_rebuild.specs.declared.update.Update.{Update as Recorded}
 use Rattle.client_rebuild.specs.declared.update.Update.TheVariants as recorded
+use Rattle.client_renewal.specs.declared.past.Past.{Past}
 use Rattle.keyed_fn.specs.KeyedFn.{KeyedFn}
 use Rattle.sse_frames.specs.Frames.{FrameText, frame_bytes}
 use Rattle.sse_model.proofs.Counts.{length-frames_of_setup}
 use Rattle.sse_model.specs.Compared.{Collision, Labels, Numbers, Places, collision_of, collision_of_setup}
 use Rattle.sse_model.specs.Names.{table}
 use Rattle.client_core.proofs.OwesLaws.{last_frames-with_command}
+use Rattle.client_core.proofs.StandsForLaws.{same_past}
 use Rattle.client_core.specs.Keys.{Keeps}
 use Rattle.client_core.specs.Owes.{AreNumbered, Owes, last_frames}
 use Rattle.client_core.specs.ResumeFaults.{collision_fault, update_fault}
-use Rattle.client_core.specs.Restores.{Remembers}
+use Rattle.client_core.specs.Renewals.{alone}
+use Rattle.client_core.specs.Restores.{IsRecordedIn, Remembers}
 use Rattle.client_core.specs.Resumes.{Lacks, Replans, Resumes, first_of_last, first_recorded, last_collision}
 use Rattle.client_core.specs.TakenViews.{first_number, to_send}
-use Rattle.client_core.specs.StandsFor.{StandsFor, collision_next, frames_next, with_command}
-use Rattle.client_core.specs.States.{BehindState, ClientOf, ReadyState}
+use Rattle.client_core.specs.StandsFor.{IsPastOf, StandsFor, collision_next, frames_next, with_command}
+use Rattle.client_core.specs.States.{BehindState, ClientOf, ReadyState, RecordedState}
 use Rattle.client_core.specs.UpdateFaults.{clash_fault}
 use Rattle.client_core.specs.declared.command_fault.CommandFault.{CommandFault}
 use Rattle.client_core.specs.declared.command_fault.CommandFault.TheVariants as commands
@@ -90,29 +94,30 @@ one_frame : (f : KeyedFn) (keys : ℕ → List ℕ) (o : Offsets) (run : Run) (u
 one_frame f keys o run (recorded.Add d) = refl
 one_frame f keys o run (recorded.Delete id) = refl
 
--- the first frame of a setup has the number 0
-pub first-setup : (f : KeyedFn) (key : List ℕ) (s : Setup) → first_of_last f key (record { setup = s; later = [] }) ≡ 0
-first-setup f key s = omega (arith, length-frames_of_setup (table f s.shape (λ epoch. key)) at_first s)
+-- the first frame of a setup has the number of those before it
+pub first-setup : (f : KeyedFn) (key : List ℕ) (o : Offsets) (s : Setup) → first_of_last f key o (alone s) ≡ o.frame
+first-setup f key o s = omega (arith, length-frames_of_setup (table f s.shape (λ epoch. key)) o s)
 
--- and that of an update the number of those before
-pub first-update : (f : KeyedFn) (key : List ℕ) (before : Run) (u : Recorded) → first_of_last f key (with_command before (command_of u)) ≡ update_frames before
-first-update f key before u =
-    omega (arith, one_more before u, ap length (last_frames-with_command f (λ epoch. key) at_first before (command_of u)), one_frame f (λ epoch. key) at_first before u)
+-- and so has that of an update
+pub first-update : (f : KeyedFn) (key : List ℕ) (o : Offsets) (before : Run) (u : Recorded) → first_of_last f key o (with_command before (command_of u)) ≡ o.frame + update_frames before
+first-update f key o before u =
+    omega (arith, one_more before u, ap length (last_frames-with_command f (λ epoch. key) o before (command_of u)), one_frame f (λ epoch. key) o before u)
 
-pub first-recorded : (f : KeyedFn) (key : List ℕ) (run : Run) (l : Last) → Recalls run l → first_recorded l ≡ first_of_last f key run
-first-recorded f key run (last.Setup s) is = sym (ap (first_of_last f key) is ∙ first-setup f key (setup_in s))
-first-recorded f key run (last.Update u) is = is.3 ∙ sym (ap (first_of_last f key) is.1 ∙ first-update f key is.0 u.update)
+pub first-recorded : (f : KeyedFn) (key : List ℕ) (o : Offsets) (run : Run) (l : Last) → Recalls o run l → first_recorded l ≡ first_of_last f key o run
+first-recorded f key o run (last.Setup s) is = sym (ap (first_of_last f key o) is.0 ∙ first-setup f key o (setup_in s) ∙ is.1)
+first-recorded f key o run (last.Update u) is = is.3 ∙ sym (ap (first_of_last f key o) is.1 ∙ first-update f key o is.0 u.update)
 
 -- a server that lacks none of a history's frames lacks none of its last command's
-pub none_lacking : (f : KeyedFn) (key : List ℕ) (run : Run) (l : Last) → Recalls run l → drop (update_frames run - first_of_last f key run) (last_frames f (λ epoch. key) at_first run) ≡ []
-none_lacking f key run l recalls = drop_of_length-le (last_frames f (λ epoch. key) at_first run) (omega (arith, within l recalls))
+pub none_lacking : (f : KeyedFn) (key : List ℕ) (o : Offsets) (run : Run) (l : Last) → Recalls o run l
+    → drop (o.frame + update_frames run - first_of_last f key o run) (last_frames f (λ epoch. key) o run) ≡ []
+none_lacking f key o run l recalls = drop_of_length-le (last_frames f (λ epoch. key) o run) (omega (arith, within l recalls))
   where
-    within : (l : Last) → Recalls run l → length (last_frames f (λ epoch. key) at_first run) ≤ update_frames run
+    within : (l : Last) → Recalls o run l → length (last_frames f (λ epoch. key) o run) ≤ update_frames run
     within (last.Setup s) is =
-        subst (λ r. length (last_frames f (λ epoch. key) at_first r) ≤ update_frames r) (sym is) (omega (arith, length-frames_of_setup (table f (setup_in s).shape (λ epoch. key)) at_first (setup_in s)))
+        subst (λ r. length (last_frames f (λ epoch. key) o r) ≤ update_frames r) (sym is.0) (omega (arith, length-frames_of_setup (table f (setup_in s).shape (λ epoch. key)) o (setup_in s)))
     within (last.Update u) is =
-        subst (λ r. length (last_frames f (λ epoch. key) at_first r) ≤ update_frames r) (sym is.1)
-        (omega (arith, one_more is.0 u.update, ap length (last_frames-with_command f (λ epoch. key) at_first is.0 (command_of u.update)), one_frame f (λ epoch. key) at_first is.0 u.update))
+        subst (λ r. length (last_frames f (λ epoch. key) o r) ≤ update_frames r) (sym is.1)
+        (omega (arith, one_more is.0 u.update, ap length (last_frames-with_command f (λ epoch. key) o is.0 (command_of u.update)), one_frame f (λ epoch. key) o is.0 u.update))
 
 -- An update that is planned again.
 
@@ -159,49 +164,71 @@ has_fault c (commands.UnknownDocument id) named = absurd (no_other c (commands.U
 has_fault c (commands.CounterFull place) named = absurd (no_other c (commands.CounterFull place) refl (named (λ e. absurd (cc))))
 has_fault c commands.HistoryFull named = absurd (no_other c commands.HistoryFull refl (named (λ e. absurd (cc))))
 
-module _ (f : KeyedFn) (key : List ℕ) (before : Run) (u : Recorded) (next : ℕ) where
+module _ (f : KeyedFn) (key : List ℕ) (o : Offsets) (before : Run) (u : Recorded) (next : ℕ) where
   abbrev run : Run
   run = with_command before (command_of u)
 
   -- the client owes the update's frame
-  pub replans-update : (client : ClientOf BehindState) → client.key ≡ key → first_number client.state ≡ next → next ≡ update_frames before → Owes f (λ epoch. key) at_first run 0 client.state
-      → None ≡ option_map clash_fault (collision_next f (λ epoch. key) at_first before (command_of u)) → Replans f key run next (Ok client)
+  pub replans-update : (client : ClientOf BehindState) → client.key ≡ key → first_number client.state ≡ next → next ≡ o.frame + update_frames before → Owes f (λ epoch. key) o run 0 client.state
+      → None ≡ option_map clash_fault (collision_next f (λ epoch. key) o before (command_of u)) → Replans f key o run next (Ok client)
   replans-update client same first is owes none =
-      let at : next - first_of_last f key run ≡ 0 = omega (arith, is, first-update f key before u) in (
+      let at : next - first_of_last f key o run ≡ 0 = omega (arith, is, first-update f key o before u) in (
         same,
         first,
-        subst (λ k. Owes f (λ epoch. key) at_first run k client.state) (sym at) owes,
-        last_collision-with_command f (λ epoch. key) at_first before (command_of u) ∙ unnamed _ none,
+        subst (λ k. Owes f (λ epoch. key) o run k client.state) (sym at) owes,
+        last_collision-with_command f (λ epoch. key) o before (command_of u) ∙ unnamed _ none,
       )
 
-  pub replans-refused : (cause : CommandFault) (fault : ResumeFault) → (cause ≢ commands.NoMemory → Some cause ≡ option_map clash_fault (collision_next f (λ epoch. key) at_first before (command_of u)))
-      → update_fault cause ≡ Some fault → Replans f key run next (Err fault)
+  pub replans-refused : (cause : CommandFault) (fault : ResumeFault) → (cause ≢ commands.NoMemory → Some cause ≡ option_map clash_fault (collision_next f (λ epoch. key) o before (command_of u)))
+      → update_fault cause ≡ Some fault → Replans f key o run next (Err fault)
   replans-refused cause fault named is =
-      subst (λ c. (option_map collision_fault c ≡ Some fault) ⊎ (fault ≡ faults.NoMemory)) (sym (last_collision-with_command f (λ epoch. key) at_first before (command_of u)))
-      (is_named (collision_next f (λ epoch. key) at_first before (command_of u)) cause fault named is)
+      subst (λ c. (option_map collision_fault c ≡ Some fault) ⊎ (fault ≡ faults.NoMemory)) (sym (last_collision-with_command f (λ epoch. key) o before (command_of u)))
+      (is_named (collision_next f (λ epoch. key) o before (command_of u)) cause fault named is)
 
 -- A client of records.
 
-pub restored-none : (mark : List ℕ) (payloads : List (List ℕ)) (h : History) → OpensTo mark payloads h → RecallsIn h None → payloads ≡ []
-restored-none mark payloads None opened recalls = opened
-restored-none mark payloads (Some (From o whole)) opened recalls = absurd recalls
-restored-none mark payloads (Some (Renewed before own whole)) opened recalls = absurd recalls
+pub restored-none : (mark first : List ℕ) (payloads : List (List ℕ)) (h : History) → OpensTo first payloads h → RecallsIn h None → payloads ≡ []
+restored-none mark first payloads None opened recalls = opened
+restored-none mark first payloads (Some es) opened recalls = absurd recalls
 
-pub restored-some : (mark : List ℕ) (payloads : List (List ℕ)) (h : History) (l : Last) → OpensTo mark payloads h → RecallsIn h (Some l) → (run : Run) × Opens mark payloads run × Remembers run l
-restored-some mark payloads None l opened recalls = absurd recalls
-restored-some mark payloads (Some (From o whole)) l opened recalls = (whole, opened.1, record { kept = opened.1.kept; recalls = recalls })
-restored-some mark payloads (Some (Renewed before own whole)) l opened recalls = absurd opened
+-- the last epoch keeps the rules of every history
+pub kept_last : (es : Epochs) → IsKept (Some es) → IsKept (Some (From (begins es) (last_run es)))
+kept_last (From o whole) kept = kept
+kept_last (Renewed before key whole) kept = (kept.0.2, kept.1)
+
+-- what is taken over is that of its setup
+pub past_of_last : (past : Past) (o : Offsets) (run : Run) (l : Last) → Recalls o run l → shape_of_last l ≡ record { b = past.b; big = past.big } → pad_of_last l ≡ past.pad → IsPastOf past run
+past_of_last past o run l is shape pad = record { shape = sym (shape-recalled l o run is) ∙ shape; pad = sym (pad-recalled l o run is) ∙ pad }
+
+pub restored-some : (mark : List ℕ) (payloads marks : List (List ℕ)) (l : Last) (state : RecordedState) (first : List ℕ) (h : History) → OpensTo first payloads h → marks ≡ marks_in first h → RecallsIn h (Some l)
+    → EndsUnder mark first h → state.last ≡ l → state.past.marks.items ≡ marks → shape_of_last l ≡ record { b = state.past.b; big = state.past.big } → pad_of_last l ≡ state.past.pad
+    → (key : List ℕ) × (es : Epochs) × IsRecordedIn mark payloads key es state
+restored-some mark payloads marks l state first None opened are recalls ends same marked shape pad = absurd recalls
+restored-some mark payloads marks l state first (Some es) opened are recalls ends same marked shape pad = (
+  first,
+  es,
+  record {
+    opened = opened;
+    under = ends;
+    marks = marked ∙ are;
+    remembers = record {
+      kept = kept_last es opened.kept;
+      recalls = subst (Recalls (begins es) (last_run es)) (sym same) recalls;
+      past = past_of_last state.past (begins es) (last_run es) l recalls shape pad;
+    };
+  },
+)
 
 -- which numbers a client expects of a server, by its last record and by its history
-module _ (f : KeyedFn) (key : List ℕ) (run : Run) (l : Last) (knows : Remembers run l) where
-  pub low_is : first_recorded l ≡ first_of_last f key run
-  low_is = first-recorded f key run l knows.recalls
+module _ (f : KeyedFn) (key : List ℕ) (o : Offsets) (run : Run) (l : RecordedState) (knows : Remembers o run l) where
+  pub low_is : first_recorded l.last ≡ first_of_last f key o run
+  low_is = first-recorded f key o run l.last knows.recalls
 
-  pub high_is : frames_of_last l ≡ update_frames run
-  high_is = frames-recalled l run knows.recalls
+  pub high_is : frames_of_last l.last ≡ o.frame + update_frames run
+  high_is = frames-recalled l.last o run knows.recalls
 
-  module _ (low high next : ℕ) (first : low ≡ first_recorded l) (total : high ≡ frames_of_last l) where
-    pub elsewhere : (next < low) ⊎ (high < next) → Lacks f key run next (Err (faults.PeerElsewhere low high next))
+  module _ (low high next : ℕ) (first : low ≡ first_recorded l.last) (total : high ≡ frames_of_last l.last) where
+    pub elsewhere : (next < low) ⊎ (high < next) → Lacks f key o run next (Err (faults.PeerElsewhere low high next))
     elsewhere out = (
       (λ i. faults.PeerElsewhere ((first ∙ low_is) i) ((total ∙ high_is) i) next),
       λ within. elim out [
@@ -210,26 +237,26 @@ module _ (f : KeyedFn) (key : List ℕ) (run : Run) (l : Last) (knows : Remember
       ],
     )
 
-    pub lacking : low ≤ next → next ≤ high → Lacks f key run next (Ok (high - next))
+    pub lacking : low ≤ next → next ≤ high → Lacks f key o run next (Ok (high - next))
     lacking from until = ((omega (arith, from, first, low_is), omega (arith, until, total, high_is)), omega (arith, until, total, high_is))
 
   -- a client that has nothing to send, and one that has
-  pub resumes-ready : (next : ℕ) (client : ClientOf ReadyState) → Lacks f key run next (Ok 0) → client.key ≡ key → StandsFor f (λ epoch. key) at_first run client.state → Resumes f key run next (Ok (resumed.Ready client))
+  pub resumes-ready : (next : ℕ) (client : ClientOf ReadyState) → Lacks f key o run next (Ok 0) → client.key ≡ key → StandsFor f (λ epoch. key) o run client.state → Resumes f key o run next (Ok (resumed.Ready client))
   resumes-ready next client lacks same stands = (same, omega (arith, lacks.1), stands)
 
-  pub resumes-behind : (next left : ℕ) (client : ClientOf BehindState) → Lacks f key run next (Ok left) → 0 < left → Replans f key run next (Ok client) → Resumes f key run next (Ok (resumed.Behind client))
+  pub resumes-behind : (next left : ℕ) (client : ClientOf BehindState) → Lacks f key o run next (Ok left) → 0 < left → Replans f key o run next (Ok client) → Resumes f key o run next (Ok (resumed.Behind client))
   resumes-behind next left client lacks some replans = (lacks.0, omega (arith, lacks.1, some), replans)
 
-  pub resumes-elsewhere : (next : ℕ) (fault : ResumeFault) → Lacks f key run next (Err fault) → Resumes f key run next (Err fault)
+  pub resumes-elsewhere : (next : ℕ) (fault : ResumeFault) → Lacks f key o run next (Err fault) → Resumes f key o run next (Err fault)
   resumes-elsewhere next fault lacks = inl lacks
 
-  pub resumes-refused : (next left : ℕ) (fault : ResumeFault) → Lacks f key run next (Ok left) → 0 < left → Replans f key run next (Err fault) → Resumes f key run next (Err fault)
+  pub resumes-refused : (next left : ℕ) (fault : ResumeFault) → Lacks f key o run next (Ok left) → 0 < left → Replans f key o run next (Err fault) → Resumes f key o run next (Err fault)
   resumes-refused next left fault lacks some replans = elim replans [
     | inl clash ↦ inr (inl (lacks.0, omega (arith, lacks.1, some), clash))
     | inr memory ↦ inr (inr (lacks.0, memory))
   ]
 
-  pub resumes-wanting : (next left : ℕ) (fault : ResumeFault) → Lacks f key run next (Ok left) → fault ≡ faults.NoMemory → Resumes f key run next (Err fault)
+  pub resumes-wanting : (next left : ℕ) (fault : ResumeFault) → Lacks f key o run next (Ok left) → fault ≡ faults.NoMemory → Resumes f key o run next (Err fault)
   resumes-wanting next left fault lacks memory = inr (inr (lacks.0, memory))
 
 -- What is so of an update that a record says, in the registry of the history before it.
@@ -254,33 +281,36 @@ module _ (u : RecordedUpdate) (r : Registered) (same : r ≡ u.registry) where
   live id is = subst (λ c. fits (facts r) c ≡ true) is fits_it
 
 -- a client of that registry, with as many frames, stands for the history before the last command
-pub stands_before : (f : KeyedFn) (key : List ℕ) (before : Run) (c : Command) (state : ReadyState) → IsKept (Some (From at_first (with_command before c))) → Represents state.registry before.setup before.later → state.frames ≡ update_frames before
-    → Keeps f key (known_words state.registry) state.keys → StandsFor f (λ epoch. key) at_first before state
-stands_before f key before c state kept represents frames keeps = record {
-  kept = IsKept-first (Some (From at_first before)) (Some (From at_first (with_command before c))) (Does c ∷ [], refl) kept;
+pub stands_before : (f : KeyedFn) (key : List ℕ) (o : Offsets) (before : Run) (c : Command) (state : ReadyState) → IsKept (Some (From o (with_command before c))) → Represents state.registry before.setup before.later
+    → state.frames ≡ o.frame + update_frames before → Keeps f key (known_words state.registry) state.keys → IsPastOf state.past before → StandsFor f (λ epoch. key) o before state
+stands_before f key o before c state kept represents frames keeps past = record {
+  kept = IsKept-first (Some (From o before)) (Some (From o (with_command before c))) (Does c ∷ [], refl) kept;
   registry = represents;
   number = omega (arith, frames);
   word_keys = keeps;
+  past = past;
 }
 
 -- and so does one whose registry tells the same, and that keeps more keys
-pub stands_still : (f : KeyedFn) (key : List ℕ) (before : Run) (old new : ReadyState) → StandsFor f (λ epoch. key) at_first before old → facts new.registry ≡ facts old.registry → new.frames ≡ old.frames
-    → (Keeps f key (known_words old.registry) old.keys → Keeps f key (known_words new.registry) new.keys) → StandsFor f (λ epoch. key) at_first before new
-stands_still f key before old new s told frames keeps = record {
+pub stands_still : (f : KeyedFn) (key : List ℕ) (o : Offsets) (before : Run) (old new : ReadyState) → StandsFor f (λ epoch. key) o before old → facts new.registry ≡ facts old.registry → new.frames ≡ old.frames → new.past ≡ old.past
+    → (Keeps f key (known_words old.registry) old.keys → Keeps f key (known_words new.registry) new.keys) → StandsFor f (λ epoch. key) o before new
+stands_still f key o before old new s told frames taken keeps = record {
   kept = s.kept;
   registry = told ∙ s.registry;
   number = frames ∙ s.number;
   word_keys = keeps s.word_keys;
+  past = same_past old.past new.past before before taken refl s.past;
 }
 
 -- the client of a whole history
-pub stands_whole : (f : KeyedFn) (keys : ℕ → List ℕ) (run : Run) (l : Last) (state : ReadyState) → Remembers run l → facts state.registry ≡ facts_of_last l → state.frames ≡ frames_of_last l
-    → Keeps f (keys 0) (known_words state.registry) state.keys → StandsFor f keys at_first run state
-stands_whole f keys run l state knows told frames keeps = record {
+pub stands_whole : (f : KeyedFn) (keys : ℕ → List ℕ) (o : Offsets) (run : Run) (l : RecordedState) (state : ReadyState) → Remembers o run l → facts state.registry ≡ facts_of_last l.last → state.frames ≡ frames_of_last l.last
+    → state.past ≡ l.past → Keeps f (keys o.epoch) (known_words state.registry) state.keys → StandsFor f keys o run state
+stands_whole f keys o run l state knows told frames taken keeps = record {
   kept = knows.kept;
-  registry = told ∙ facts-recalled l run knows.recalls;
-  number = omega (arith, frames, frames-recalled l run knows.recalls);
+  registry = told ∙ facts-recalled l.last o run knows.recalls;
+  number = omega (arith, frames, frames-recalled l.last o run knows.recalls);
   word_keys = keeps;
+  past = same_past l.past state.past run run taken refl knows.past;
 }
 
 -- a plan that failed for another cause than memory

@@ -12,6 +12,7 @@ use Rattle.client_registry.proofs.OrderLaws.{AreApart-from_IsDistinct}
 use Rattle.client_registry.proofs.Positions.{all_pass}
 use Rattle.client_registry.proofs.ShownLaws.{live_apart}
 use Rattle.client_registry.proofs.SizedLaws.{update_frames-push}
+use Rattle.client_registry.specs.Collected.{Collected}
 use Rattle.client_registry.specs.Command.{Add, Delete, is_update}
 use Rattle.client_registry.specs.Document.{Document}
 use Rattle.client_registry.specs.Facts.{Facts, facts_of, has_counter, has_counters}
@@ -21,6 +22,8 @@ use Rattle.client_registry.specs.Live.{live}
 use Rattle.client_registry.specs.Registered.{Registered, Represents, facts, known_words}
 use Rattle.client_registry.specs.Run.{From, Offsets, Run}
 use Rattle.client_registry.specs.Sized.{IsSizedCommand, is_accepted}
+use Rattle.client_renewal.specs.declared.past.Past.{Past}
+use Rattle.index_setup.specs.declared.index.Index.{Index}
 use Rattle.keyed_fn.specs.KeyedFn.{KeyedFn}
 use Rattle.keyed_fn.specs.KeyFormulas.{part_key}
 use Rattle.sse_frames.specs.Frames.{AddFrame, be64}
@@ -32,7 +35,8 @@ use Rattle.sse_model.specs.Wire.{next_number, words_live}
 use Rattle.word_keys.specs.KeyPair.{plus_keys}
 use Rattle.sse_model.proofs.LiveWords.{words_live-apart}
 use Rattle.client_core.specs.Keys.{Keeps, WordKeys}
-use Rattle.client_core.specs.StandsFor.{Fits, StandsFor, add_fault, add_refusal, collision_next, comes_of_add, comes_of_delete, delete_fault, delete_refusal, frames_next, full_refusal, refusal_to_add, refusal_to_delete, with_command}
+use Rattle.client_core.specs.PlanView.{setup_in}
+use Rattle.client_core.specs.StandsFor.{Fits, IsPastOf, StandsFor, add_fault, add_refusal, collision_next, comes_of_add, comes_of_delete, delete_fault, delete_refusal, frames_next, full_refusal, refusal_to_add, refusal_to_delete, with_command}
 use Rattle.client_core.specs.States.{ReadyState}
 use Rattle.client_core.specs.UpdateFaults.{clash_fault}
 use Rattle.client_core.specs.Updates.{command_of_update}
@@ -69,6 +73,14 @@ not_refused P o none = subst (λ x. IfSome x P) (sym none) tt
 
 pub is_refused : {X : Type 0} (P : X → Type 0) (o : Option X) (x : X) → o ≡ Some x → P x → IfSome o P
 is_refused P o x some p = subst (λ y. IfSome y P) (sym some) p
+
+-- a document that isn't live is refused for a counter, else for want of a number
+pub refused_new : (x : Facts) (n id : ℕ) (d : Document) (o : Option ℕ) → id ≡ d.id → is_some (x.live id) ≡ false → position (λ word. not (has_counter x d.id word)) d.words ≡ o
+    → refusal_to_add x n d ≡ option_or (option_map (λ p. faults.CounterFull p) o) (full_refusal n)
+refused_new x n id d o same dead is =
+    ap (λ b. if b then Some (faults.AlreadyLive d.id) else option_or (option_map (λ p. faults.CounterFull p) (position (λ word. not (has_counter x d.id word)) d.words)) (full_refusal n))
+    (ap (λ k. is_some (x.live k)) (sym same) ∙ dead)
+    ∙ ap (λ p. option_or (option_map (λ p. faults.CounterFull p) p) (full_refusal n)) is
 
 not_full : (n : ℕ) → full_refusal n ≡ None → n + 1 < 2 ^ 32
 not_full n none = by (nat_le (2 ^ 32 - 1) n) refl none
@@ -222,6 +234,13 @@ module _ (f : KeyedFn) (keys : ℕ → List ℕ) (o : Offsets) (run : Run) (key 
 
 -- A plan taken as done.
 
+-- a run of the same setup has the same parameters
+pub same_past : (old new : Past) (run next : Run) → new ≡ old → next.setup ≡ run.setup → IsPastOf old run → IsPastOf new next
+same_past old new run next same setup of = record {
+  shape = ap (λ s. s.shape) setup ∙ of.shape ∙ ap (λ (p : Past). record { b = p.b; big = p.big }) (sym same);
+  pad = ap (λ s. s.pad) setup ∙ of.pad ∙ ap (λ (p : Past). p.pad) (sym same);
+}
+
 -- a history that a registry stands for keeps all limits with one command more that fits
 kept_next : (r : Registered) (n : ℕ) (o : Offsets) (run : Run) (u : Update) (numbers : List ℕ) → IsKept (Some (From o run)) → Represents r run.setup run.later → n ≡ next_number o run.setup run.later
     → n + 1 < 2 ^ 32 → IsSizedCommand (command_of_update u) → Fits r u numbers → IsKept (Some (From o (with_command run (command_of_update u))))
@@ -240,6 +259,10 @@ kept_next r n o run (updates.Delete id) numbers kept is number within sized fits
     accepted : is_accepted run.setup run.later (Delete (id_number id)) ≡ true
     accepted = accepted-delete run.setup run.later (id_number id) ∙ ap (λ x. is_some (x.live (id_number id))) (sym is) ∙ fits
 
+-- what is taken over of an index is that of its setup
+pub index_past : (past : Past) (index : Index) (docs : Collected) → past.b ≡ index.b → past.big ≡ index.big → past.pad ≡ index.pad → IsPastOf past (record { setup = setup_in index docs; later = [] })
+index_past past index docs b big pad = record { shape = λ i. record { b = sym b i; big = sym big i }; pad = sym pad }
+
 pub one_update : (u : Update) → length (filter is_update (command_of_update u ∷ [])) ≡ 1
 one_update (updates.Add d) = refl
 one_update (updates.Delete id) = refl
@@ -247,10 +270,11 @@ one_update (updates.Delete id) = refl
 pub StandsFor-committed : (f : KeyedFn) (keys : ℕ → List ℕ) (o : Offsets) (run : Run) (u : Update) (numbers : List ℕ) (old new : ReadyState) → old.frames + 1 < 2 ^ 32 → IsSizedCommand (command_of_update u) → Fits old.registry u numbers
     → (Represents old.registry run.setup run.later → Represents new.registry run.setup (run.later ++ command_of_update u ∷ []))
     → take (length (known_words old.registry)) (known_words new.registry) ≡ known_words old.registry
-    → new.keys ≡ old.keys → new.frames ≡ old.frames + 1 → StandsFor f keys o run old → StandsFor f keys o (with_command run (command_of_update u)) new
-StandsFor-committed f keys o run u numbers old new within sized fits history words kept frames s = record {
+    → new.keys ≡ old.keys → new.frames ≡ old.frames + 1 → new.past ≡ old.past → StandsFor f keys o run old → StandsFor f keys o (with_command run (command_of_update u)) new
+StandsFor-committed f keys o run u numbers old new within sized fits history words kept frames taken s = record {
   kept = kept_next old.registry old.frames o run u numbers s.kept s.registry s.number within sized fits;
   registry = history s.registry;
   number = omega (arith, frames, s.number, update_frames-push run (command_of_update u), one_update u);
   word_keys = subst (Keeps f (keys o.epoch) (known_words new.registry)) (sym kept) (Keeps-more f (keys o.epoch) (known_words old.registry) (known_words new.registry) old.keys words s.word_keys);
+  past = same_past old.past new.past run (with_command run (command_of_update u)) taken refl s.past;
 }

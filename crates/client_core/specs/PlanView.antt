@@ -1,5 +1,5 @@
 -- The meaning of the fields of a plan of a setup.
-use Rattle.std.specs.Prelude.{◌≡◌, ℕ, ◌+◌, ◌*◌, List, None, map, vec_len}
+use Rattle.std.specs.Prelude.{◌≡◌, ℕ, ◌+◌, ◌*◌, List, [], ◌∷◌, None, map, vec_len}
 use Rattle.client_registry.specs.Acceptance.{frames_needed, size_refusal}
 use Rattle.client_registry.specs.Collected.{Collected}
 use Rattle.client_registry.specs.Setup.{Setup, setup_with}
@@ -38,7 +38,8 @@ pub record IsSendable (index : Index) (docs : Collected) : Type 0 where
 abbrev pub setup_plan_of : Inside → SetupPlan
 setup_plan_of p = plan_of p.mark p.index p.docs
 
--- and what is so of them: the index can be sent, and the room is that of the longest frame
+-- and what is so of them: the index can be sent, the mark is the only one, and the room is that of the longest frame
 pub record IsPlanned (p : Inside) : Type 0 where
   pub sendable : IsSendable p.index p.docs
+  pub alone : p.marks.items ≡ p.mark ∷ []
   pub fits : vec_len p.room ≡ 541709

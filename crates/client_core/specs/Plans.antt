@@ -23,14 +23,18 @@ pub record UpdatePlan : Type 0 where
   pub frame : List ℕ
   pub number : ℕ
 
--- of a renewal: the marks of the epochs' keys, that of the new one last; the documents that are set up again, with the numbers per
--- cell and per block and Q; the bytes of its frames in the order in which they are sent, and the number of the first
+-- of a renewal: the mark of the new key, and the marks of all epochs' keys with it last; the documents that are set up again, with the
+-- numbers per cell and per block and Q, how many words they have and how many blocks their lists take; the bytes of its frames in the
+-- order in which they are sent, and the number of the first
 pub record RenewalPlan : Type 0 where
+  pub mark : List ℕ
   pub marks : List (List ℕ)
   pub docs : Collected
   pub b : ℕ
   pub big : ℕ
   pub pad : ℕ
+  pub own_words : ℕ
+  pub own_blocks : ℕ
   pub frames : List (List ℕ)
   pub number : ℕ
 

@@ -9,21 +9,25 @@ use Rattle.client_core.specs.PlanView.{IsSendable}
 use Rattle.client_core.specs.Setup.{frames_in, index_frames}
 use Rattle.client_core.specs.declared.planned_renewal.PlannedRenewal.TheInside.{Inside}
 
--- the plan that sends an index of these documents, the first frame under this number, after epochs whose keys have these marks
-abbrev pub renewal_of : List (List ℕ) → Index → Collected → ℕ → RenewalPlan
-renewal_of marks index docs number = record {
+-- the plan that sends an index of these documents, the first frame under this number; the marks are those of the epochs' keys with that
+-- of the new one
+abbrev pub renewal_of : List ℕ → List (List ℕ) → Index → Collected → ℕ → RenewalPlan
+renewal_of mark marks index docs number = record {
+  mark = mark;
   marks = marks;
   docs = docs;
   b = index.b;
   big = index.big;
   pad = index.pad;
+  own_words = index.own_words;
+  own_blocks = index.own_blocks;
   frames = map frame_bytes (numbered number (index_frames index));
   number = number;
 }
 
 -- what contracts see of the fields
 abbrev pub renewal_plan_of : Inside → RenewalPlan
-renewal_plan_of p = renewal_of p.marks.items p.index p.docs p.number
+renewal_plan_of p = renewal_of p.mark p.marks.items p.index p.docs p.number
 
 -- and what is so of them: the index can be sent, each frame has a number, and the room is that of the longest frame
 pub record IsRenewalPlanned (p : Inside) : Type 0 where

@@ -1,7 +1,7 @@
 -- The faults of a command that is planned again, as faults of a client that resumes.
 use Rattle.std.specs.Prelude.{Option, None, Some}
-use Rattle.index_setup.specs.declared.fault.BuildFault.{BuildFault}
-use Rattle.index_setup.specs.declared.fault.BuildFault.TheVariants as builds
+use Rattle.client_renewal.specs.declared.renewal_fault.RenewalFault.{RenewalFault}
+use Rattle.client_renewal.specs.declared.renewal_fault.RenewalFault.TheVariants as renewals
 use Rattle.sse_model.specs.Compared.{Collision, Labels, Numbers, Places}
 use Rattle.client_core.specs.declared.command_fault.CommandFault.{CommandFault}
 use Rattle.client_core.specs.declared.command_fault.CommandFault.TheVariants as commands
@@ -14,14 +14,17 @@ collision_fault (Labels first second) = LabelClash first second
 collision_fault (Places first second) = PlaceClash first second
 collision_fault (Numbers first second) = NumberClash first second
 
--- the fault of a setup's plan; a size that was accepted isn't refused
-abbrev pub setup_fault : BuildFault → Option ResumeFault
-setup_fault (builds.LabelClash first second) = Some (LabelClash first second)
-setup_fault (builds.PlaceClash first second) = Some (PlaceClash first second)
-setup_fault builds.NoMemory = Some NoMemory
-setup_fault (builds.BadParameter which value) = None
-setup_fault (builds.ListTooLong word n) = None
-setup_fault (builds.TooManyBytes n) = None
+-- the fault of a setup's plan; one that was accepted isn't refused
+abbrev pub setup_fault : RenewalFault → Option ResumeFault
+setup_fault (renewals.LabelClash first second) = Some (LabelClash first second)
+setup_fault (renewals.PlaceClash first second) = Some (PlaceClash first second)
+setup_fault renewals.NoMemory = Some NoMemory
+setup_fault (renewals.KeyUsed epoch) = None
+setup_fault (renewals.TooManyDocuments n) = None
+setup_fault (renewals.TooManyPairs n) = None
+setup_fault (renewals.ListTooLong word n) = None
+setup_fault (renewals.TooManyBytes n) = None
+setup_fault renewals.HistoryFull = None
 
 -- and of an update's plan; one that was accepted isn't refused
 abbrev pub update_fault : CommandFault → Option ResumeFault

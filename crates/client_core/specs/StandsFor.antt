@@ -10,6 +10,7 @@ use Rattle.client_registry.specs.IdNumber.{id_number}
 use Rattle.client_registry.specs.Registered.{Registered, HasRoom, Represents, facts, known_words}
 use Rattle.client_registry.specs.Run.{Run, Offsets, From}
 use Rattle.client_registry.specs.Sized.{IsSizedCommand}
+use Rattle.client_renewal.specs.declared.past.Past.{Past}
 use Rattle.keyed_fn.specs.KeyedFn.{KeyedFn}
 use Rattle.sse_frames.specs.Frames.{FrameText}
 use Rattle.sse_model.specs.Compared.{Collision, collision_of}
@@ -25,13 +26,19 @@ use Rattle.client_core.specs.declared.command_fault.CommandFault.TheVariants as 
 use Rattle.client_core.specs.declared.update.Update.{Update}
 use Rattle.client_core.specs.declared.update.Update.TheVariants as updates
 
+-- what is taken over are the parameters of a run's index
+pub record IsPastOf (past : Past) (run : Run) : Type 0 where
+  pub shape : run.setup.shape ≡ record { b = past.b; big = past.big }
+  pub pad : run.setup.pad ≡ past.pad
+
 -- the client stands for a history that keeps all limits: its registry tells the facts of it, its next frame has the next
--- number, and the keys that it keeps are those of the words under the key of the history's epoch
+-- number, the keys that it keeps are those of the words under the key of the history's epoch, and a renewal takes over its parameters
 pub record StandsFor (f : KeyedFn) (keys : ℕ → List ℕ) (o : Offsets) (run : Run) (state : ReadyState) : Type 0 where
   pub kept : IsKept (Some (From o run))
   pub registry : Represents state.registry run.setup run.later
   pub number : state.frames ≡ next_number o run.setup run.later
   pub word_keys : Keeps f (keys o.epoch) (known_words state.registry) state.keys
+  pub past : IsPastOf state.past run
 
 -- one command more
 abbrev pub with_command : Run → Meant → Run

@@ -2,8 +2,8 @@ use std::marker::Model;
 use word_keys::MasterKey;
 
 /// A client of the store in the state `S`: `Fresh` has no setup, `Ready` has nothing that the server
-/// may lack, `Behind` has unacknowledged frames, `Spent` is terminal. `client_rebuild::Last` is the state of one that was
-/// rebuilt from records: which frames of the last one's command the server has isn't known yet.
+/// may lack, `Behind` has unacknowledged frames, `Spent` is terminal. `Recorded` was rebuilt from
+/// records: which frames of the last one's command the server has isn't known yet.
 #[derive(Drop)]
 pub struct Client<S> {
     pub(crate) key: MasterKey,

@@ -12,7 +12,7 @@ ghost use Rattle.keyed_fn.specs.KeyedFn.{KeyedFn, keyed_fn};
 ghost use Rattle.keyed_fn.specs.KeyFormulas.{token_of};
 ghost use Rattle.sse_frames.specs.Frames.{IsFrame, IsNumber, SearchFrame, frame_bytes};
 ghost use Rattle.client_core.specs.Keys.{Keeps};
-ghost use Rattle.client_core.specs.StandsFor.{AreNumbersOf, StandsFor, full_refusal, refusal_to_add, refusal_to_delete};
+ghost use Rattle.client_core.specs.StandsFor.{AreNumbersOf, IsPastOf, StandsFor, full_refusal, refusal_to_add, refusal_to_delete};
 ghost use Rattle.client_core.specs.UpdateFaults.{clash_fault};
 ghost use Rattle.client_core.specs.UpdateTexts.{add_collision, add_text, delete_collision, delete_text};
 
@@ -21,6 +21,7 @@ use crate::command_fault::{CommandFault, HistoryFull, frames_after};
 use crate::kept_keys::KeptKeys;
 use crate::update_plans::{add_update, delete_update};
 use client_registry::{Doc, DocId, Docs, MAX_WORDS, Registry, Word};
+use client_renewal::Past;
 use keyed_fn::Keyed;
 use sse_frames::search_frame;
 use std::alloc::Global;
@@ -28,12 +29,14 @@ use std::marker::Model;
 use word_keys::PreparedMaster;
 
 /// The state of a client with nothing that the server may lack: the registry of its documents, the keys of words that it
-/// derived, and how many update frames were planned, which is the number of the next one.
+/// derived, how many update frames were planned, which is the number of the next one, and what a renewal of its key takes
+/// over.
 #[derive(Drop)]
 pub struct Ready {
     pub(crate) registry: Registry,
     pub(crate) keys: KeptKeys,
     pub(crate) frames: u32,
+    pub(crate) past: Past,
 }
 
 impl Model for Ready {
@@ -41,7 +44,7 @@ impl Model for Ready {
 
     ghost Value = { ReadyState };
 
-    ghost view = { λ r. record { registry = r.registry; keys = r.keys; frames = r.frames } };
+    ghost view = { λ r. record { registry = r.registry; keys = r.keys; frames = r.frames; past = r.past } };
 }
 
 impl Client<Ready> {
@@ -58,29 +61,34 @@ impl Client<Ready> {
 }
 
 impl Ready {
-    /// What a client keeps after an accepted setup of these documents, with so many update frames in all. It takes no memory.
-    pub(crate) fn begun(alloc: Global, docs: Docs, frames: u32) -> Ready
+    /// What a client keeps after an accepted setup of these documents, with so many update frames in all and these parameters. It
+    /// takes no memory.
+    pub(crate) fn begun(alloc: Global, docs: Docs, frames: u32, past: Past) -> Ready
         ensures hash_keys { result.registry.keys ≡ docs.keys }
-        ensures stands { (f : KeyedFn) (keys : ℕ → List ℕ) (o : Offsets) (s : Setup) → s.documents ≡ docs.documents → size_refusal s ≡ None → frames ≡ o.frame + frames_needed s → StandsFor f keys o (record { setup = s; later = [] }) result }
+        ensures past { result.past ≡ past }
+        ensures stands { (f : KeyedFn) (keys : ℕ → List ℕ) (o : Offsets) (s : Setup) → s.documents ≡ docs.documents → IsPastOf past (record { setup = s; later = [] }) → size_refusal s ≡ None → frames ≡ o.frame + frames_needed s → StandsFor f keys o (record { setup = s; later = [] }) result }
     {
         Ready {
             registry: Registry::from_docs(docs),
             keys: KeptKeys::new(alloc),
             frames,
+            past,
         }
     }
 
-    /// What a client keeps of this registry, with no key derived yet, where so many update frames were planned. It takes no
-    /// memory.
-    pub(crate) fn of_registry(alloc: Global, registry: Registry, frames: u32) -> Ready
+    /// What a client keeps of this registry, with no key derived yet, where so many update frames were planned and a renewal takes
+    /// over this. It takes no memory.
+    pub(crate) fn of_registry(alloc: Global, registry: Registry, frames: u32, past: Past) -> Ready
         ensures registry { result.registry ≡ registry }
         ensures frames { result.frames ≡ frames }
+        ensures past { result.past ≡ past }
         ensures keeps { (f : KeyedFn) (master : List ℕ) → Keeps f master (known_words result.registry) result.keys }
     {
         Ready {
             registry,
             keys: KeptKeys::new(alloc),
             frames,
+            past,
         }
     }
 
@@ -97,6 +105,7 @@ impl Ready {
         ensures facts { facts self.new.registry ≡ facts self.old.registry }
         ensures hash_keys { self.new.registry.keys ≡ self.old.registry.keys }
         ensures frames { self.new.frames ≡ self.old.frames }
+        ensures past { self.new.past ≡ self.old.past }
         ensures keeps { Keeps (keyed_fn K.prf K.pad) master.now (known_words self.old.registry) self.old.keys → Keeps (keyed_fn K.prf K.pad) master.now (known_words self.new.registry) self.new.keys }
         ensures fault { Keeps (keyed_fn K.prf K.pad) master.now (known_words self.old.registry) self.old.keys → result ≢ Err CommandFault.NoMemory → result_err result ≡ option_map clash_fault (add_collision (keyed_fn K.prf K.pad) master.now (facts self.old.registry) doc.now) }
         ensures bytes { Keeps (keyed_fn K.prf K.pad) master.now (known_words self.old.registry) self.old.keys → IfOk result (λ made. made.0.items ≡ frame_bytes (add_text (keyed_fn K.prf K.pad) master.now (facts self.old.registry) self.old.frames doc.now)) }
@@ -131,6 +140,7 @@ impl Ready {
         requires number { IsNumber self.old.frames }
         ensures registry { self.new.registry ≡ self.old.registry }
         ensures frames { self.new.frames ≡ self.old.frames }
+        ensures past { self.new.past ≡ self.old.past }
         ensures keeps { Keeps (keyed_fn K.prf K.pad) master.now (known_words self.old.registry) self.old.keys → Keeps (keyed_fn K.prf K.pad) master.now (known_words self.new.registry) self.new.keys }
         ensures fault { Keeps (keyed_fn K.prf K.pad) master.now (known_words self.old.registry) self.old.keys → result ≢ Err CommandFault.NoMemory → result_err result ≡ option_map clash_fault (delete_collision (keyed_fn K.prf K.pad) master.now (id_number id) (unwrap_or ((facts self.old.registry).live (id_number id)) [])) }
         ensures bytes { Keeps (keyed_fn K.prf K.pad) master.now (known_words self.old.registry) self.old.keys → IfOk result (λ bytes. bytes.items ≡ frame_bytes (delete_text (keyed_fn K.prf K.pad) master.now self.old.frames (id_number id) (unwrap_or ((facts self.old.registry).live (id_number id)) []))) }

@@ -28,7 +28,7 @@ use word_keys::PreparedMaster;
 
 impl Client<Ready> {
     // Promise P67 (caller): An addition or deletion is refused for its first cause; else the plan holds the one frame that the definitions give.
-    //   clauses: key, stands, refused, fault, only, frame, grammar, command, commits; assumes: earlier calls, own keys; not: Out of memory may come, but never in place of a cause before
+    //   clauses: key, stands, past, refused, fault, only, frame, grammar, command, commits; assumes: earlier calls, own keys; not: Out of memory may come, but never in place of a cause before
     //     the equal values. Which keys are kept.
     // Promise P68, also here; clauses: payload
     /// Plans an addition, and takes its memory. The frame is that of the definitions.
@@ -45,6 +45,7 @@ impl Client<Ready> {
         requires prepared { master.now ≡ self.old.key }
         ensures key { self.new.key ≡ self.old.key }
         ensures hash_keys { self.new.state.registry.keys ≡ self.old.state.registry.keys }
+        ensures past { self.new.state.past ≡ self.old.state.past }
         ensures stands { (keys : ℕ → List ℕ) (o : Offsets) (run : Run) → keys o.epoch ≡ master.now → StandsFor (keyed_fn K.prf K.pad) keys o run self.old.state → StandsFor (keyed_fn K.prf K.pad) keys o run self.new.state }
         ensures refused { (keys : ℕ → List ℕ) (o : Offsets) (run : Run) → keys o.epoch ≡ master.now → StandsFor (keyed_fn K.prf K.pad) keys o run self.old.state → IfSome (add_refusal o run doc) (λ fault. result ≡ Err fault) }
         ensures fault { (keys : ℕ → List ℕ) (o : Offsets) (run : Run) → keys o.epoch ≡ master.now → StandsFor (keyed_fn K.prf K.pad) keys o run self.old.state → result ≢ Err CommandFault.NoMemory → result_err result ≡ add_fault (keyed_fn K.prf K.pad) keys o run doc }
@@ -67,7 +68,7 @@ impl Client<Ready> {
         })
     }
 
-    // Promise P67, also here; clauses: key, stands, refused, fault, only, frame, grammar, command, commits
+    // Promise P67, also here; clauses: key, stands, past, refused, fault, only, frame, grammar, command, commits
     // Promise P68, also here; clauses: payload
     /// Plans the deletion of the live document of this identifier, and takes its memory. The frame is that of the
     /// definitions.
@@ -83,6 +84,7 @@ impl Client<Ready> {
         requires prepared { master.now ≡ self.old.key }
         ensures key { self.new.key ≡ self.old.key }
         ensures hash_keys { self.new.state.registry.keys ≡ self.old.state.registry.keys }
+        ensures past { self.new.state.past ≡ self.old.state.past }
         ensures stands { (keys : ℕ → List ℕ) (o : Offsets) (run : Run) → keys o.epoch ≡ master.now → StandsFor (keyed_fn K.prf K.pad) keys o run self.old.state → StandsFor (keyed_fn K.prf K.pad) keys o run self.new.state }
         ensures refused { (keys : ℕ → List ℕ) (o : Offsets) (run : Run) → keys o.epoch ≡ master.now → StandsFor (keyed_fn K.prf K.pad) keys o run self.old.state → IfSome (delete_refusal o run (id_number id)) (λ fault. result ≡ Err fault) }
         ensures fault { (keys : ℕ → List ℕ) (o : Offsets) (run : Run) → keys o.epoch ≡ master.now → StandsFor (keyed_fn K.prf K.pad) keys o run self.old.state → result ≢ Err CommandFault.NoMemory → result_err result ≡ delete_fault (keyed_fn K.prf K.pad) keys o run (id_number id) }
@@ -107,13 +109,14 @@ impl Client<Ready> {
     }
 
     // Promise P54, also here; clauses: owed, first
-    // Promise P69, also here; clauses: key, stands, owed, first, owes
+    // Promise P69, also here; clauses: key, stands, past, owed, first, owes
     /// Takes a plan that this client made, as it stands now, as done: from here on its frame is owed to the server. A plan
     /// that was made before another one was committed has no longer the number of the client's next frame. It takes no memory.
     pub fn commit(self, planned: PlannedUpdate) -> Client<Behind>
         requires { CanCommit self.state planned }
         ensures key { result.key ≡ self.key }
         ensures hash_keys { result.state.ready.registry.keys ≡ self.state.registry.keys }
+        ensures past { result.state.ready.past ≡ self.state.past }
         ensures stands { (f : KeyedFn) (keys : ℕ → List ℕ) (o : Offsets) (run : Run) → StandsFor f keys o run self.state → StandsFor f keys o (with_command run (command_of_update planned.update)) result.state.ready }
         ensures owed { to_send result.state ≡ planned.frame ∷ [] }
         ensures first { first_number result.state ≡ planned.number }
@@ -124,6 +127,7 @@ impl Client<Ready> {
             mut registry,
             keys,
             frames,
+            past,
         } = state;
         let PlannedUpdate {
             update,
@@ -136,6 +140,7 @@ impl Client<Ready> {
             registry,
             keys,
             frames: frames + 1,
+            past,
         };
         let owed = Owed::Update(OwedUpdate { frame, number });
         Client {

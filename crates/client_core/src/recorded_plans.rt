@@ -5,26 +5,30 @@ ghost use Rattle.client_registry.specs.Facts.{has_counters};
 ghost use Rattle.client_registry.specs.Histories.{IsKept};
 ghost use Rattle.client_registry.specs.IdNumber.{id_number};
 ghost use Rattle.client_registry.specs.Registered.{Represents, facts, known_words};
-ghost use Rattle.client_registry.specs.Run.{From, Run, at_first};
+ghost use Rattle.client_registry.specs.Run.{From, Offsets, Run};
 ghost use Rattle.client_registry.specs.Sized.{update_frames};
 ghost use Rattle.client_rebuild.specs.Recalls.{frames_of_last, hash_keys_of, setup_in};
 ghost use Rattle.client_rebuild.specs.Updates.{command_of};
 ghost use Rattle.keyed_fn.specs.KeyedFn.{keyed_fn};
 ghost use Rattle.client_core.specs.Keys.{Keeps};
+ghost use Rattle.client_core.specs.Renewals.{alone};
 ghost use Rattle.client_core.specs.Restores.{Remembers};
 ghost use Rattle.client_core.specs.Resumes.{Replans, first_recorded};
 ghost use Rattle.client_core.specs.TakenViews.{to_send};
-ghost use Rattle.client_core.specs.StandsFor.{StandsFor, with_command};
+ghost use Rattle.client_core.specs.StandsFor.{IsPastOf, StandsFor, with_command};
 ghost use Rattle.sse_frames.specs.Frames.{IsFrame};
 
 use crate::behind::Behind;
 use crate::client::Client;
 use crate::planned_update::PlannedUpdate;
 use crate::ready::Ready;
+use crate::recorded::Recorded;
+use crate::renewals::{plan_of_docs, renewed};
 use crate::resume_fault::{ResumeFault, of_setup, of_update};
 use crate::update::Update;
-use client_rebuild::{Last, RecordedSetup, RecordedUpdate, Update as Recorded};
+use client_rebuild::{Last, RecordedSetup, RecordedUpdate, Update as Said};
 use client_registry::{Doc, DocId, Sizes};
+use client_renewal::Past;
 use keyed_fn::Keyed;
 use std::alloc::Global;
 use word_keys::MasterKey;
@@ -34,7 +38,7 @@ pub(crate) fn first_frame(last: &Last) -> u32
     ensures { result ≡ first_recorded last.now }
 {
     match last {
-        Last::Setup(_) => 0,
+        Last::Setup(setup) => setup.before,
         Last::Update(update) => update.frames,
     }
 }
@@ -44,32 +48,37 @@ pub(crate) fn replan<K: Keyed>(
     alloc: Global,
     keyed: &K,
     key: MasterKey,
-    last: Last,
+    state: Recorded,
     next: u32,
 ) -> Result<Client<Behind>, ResumeFault>
-    requires low { first_recorded last ≤ next }
-    requires high { next < frames_of_last last }
-    ensures replans { (run : Run) → Remembers run last → Replans (keyed_fn K.prf K.pad) key run next result }
+    requires low { first_recorded state.last ≤ next }
+    requires high { next < frames_of_last state.last }
+    ensures replans { (o : Offsets) (run : Run) → Remembers o run state → Replans (keyed_fn K.prf K.pad) key o run next result }
     ensures grammar { IfOk result (λ client. AllByRecursion IsFrame (to_send client.state)) }
-    ensures hash_keys { IfOk result (λ client. client.state.ready.registry.keys ≡ hash_keys_of last) }
+    ensures marks { IfOk result (λ client. client.state.ready.past.marks.items ≡ state.past.marks.items) }
+    ensures hash_keys { IfOk result (λ client. client.state.ready.registry.keys ≡ hash_keys_of state.last) }
 {
+    let Recorded { last, past } = state;
     match last {
-        Last::Setup(setup) => replan_setup(alloc, keyed, key, setup, next),
-        Last::Update(update) => replan_update(alloc, keyed, key, update),
+        Last::Setup(setup) => replan_setup(alloc, keyed, key, setup, past.marks, next),
+        Last::Update(update) => replan_update(alloc, keyed, key, update, past),
     }
 }
 
-/// The same of a setup.
+/// The same of a setup, which a renewal may have made.
 fn replan_setup<K: Keyed>(
     alloc: Global,
     keyed: &K,
     key: MasterKey,
     setup: RecordedSetup,
+    marks: Vec<[u8; 16]>,
     next: u32,
 ) -> Result<Client<Behind>, ResumeFault>
-    requires { next < setup.frames }
-    ensures replans { Replans (keyed_fn K.prf K.pad) key (record { setup = setup_in setup; later = [] }) next result }
+    requires low { setup.before ≤ next }
+    requires high { next < setup.before + setup.frames }
+    ensures replans { (o : Offsets) → o.frame ≡ setup.before → Replans (keyed_fn K.prf K.pad) key o (alone (setup_in setup)) next result }
     ensures grammar { IfOk result (λ client. AllByRecursion IsFrame (to_send client.state)) }
+    ensures marks { IfOk result (λ client. client.state.ready.past.marks.items ≡ marks.items) }
     ensures hash_keys { IfOk result (λ client. client.state.ready.registry.keys ≡ setup.docs.keys) }
 {
     let RecordedSetup {
@@ -77,6 +86,7 @@ fn replan_setup<K: Keyed>(
         b,
         big,
         pad,
+        before,
         ..
     } = setup;
     let sizes = Sizes {
@@ -84,10 +94,10 @@ fn replan_setup<K: Keyed>(
         big: big as u64,
         pad: pad as u64,
     };
-    let client = Client::fresh(key);
-    match client.plan_setup(alloc, keyed, docs, sizes) {
-        Ok(planned) => Ok(client.commit(alloc, planned).skip(next)),
-        Err((fault, _)) => Err(of_setup(fault)),
+    let mark = key.prepare(keyed).mark();
+    match plan_of_docs(alloc, keyed, &key, mark, marks, docs, sizes, before) {
+        Ok(planned) => Ok(renewed(alloc, key, planned).skip(next - before)),
+        Err(fault) => Err(of_setup(fault)),
     }
 }
 
@@ -97,9 +107,11 @@ fn replan_update<K: Keyed>(
     keyed: &K,
     key: MasterKey,
     recorded: RecordedUpdate,
+    past: Past,
 ) -> Result<Client<Behind>, ResumeFault>
-    ensures replans { (before : Run) → IsKept (Some (From at_first (with_command before (command_of recorded.update)))) → Represents recorded.registry before.setup before.later → recorded.frames ≡ update_frames before → Replans (keyed_fn K.prf K.pad) key (with_command before (command_of recorded.update)) recorded.frames result }
+    ensures replans { (o : Offsets) (before : Run) → IsPastOf past before → IsKept (Some (From o (with_command before (command_of recorded.update)))) → Represents recorded.registry before.setup before.later → recorded.frames ≡ o.frame + update_frames before → Replans (keyed_fn K.prf K.pad) key o (with_command before (command_of recorded.update)) recorded.frames result }
     ensures grammar { IfOk result (λ client. AllByRecursion IsFrame (to_send client.state)) }
+    ensures past { IfOk result (λ client. client.state.ready.past ≡ past) }
     ensures hash_keys { IfOk result (λ client. client.state.ready.registry.keys ≡ recorded.registry.keys) }
 {
     let RecordedUpdate {
@@ -108,10 +120,10 @@ fn replan_update<K: Keyed>(
         update,
         ..
     } = recorded;
-    let ready = Ready::of_registry(alloc, registry, frames);
+    let ready = Ready::of_registry(alloc, registry, frames, past);
     match update {
-        Recorded::Add(doc) => replan_addition(alloc, keyed, key, ready, doc),
-        Recorded::Delete(id) => replan_deletion(alloc, keyed, key, ready, id),
+        Said::Add(doc) => replan_addition(alloc, keyed, key, ready, doc),
+        Said::Delete(id) => replan_deletion(alloc, keyed, key, ready, id),
     }
 }
 
@@ -127,8 +139,9 @@ fn replan_addition<K: Keyed>(
     requires counters { has_counters (facts ready.registry) doc ≡ true }
     requires number { ready.frames + 1 < 2 ^ 32 }
     requires keeps { Keeps (keyed_fn K.prf K.pad) key (known_words ready.registry) ready.keys }
-    ensures replans { (before : Run) → StandsFor (keyed_fn K.prf K.pad) (λ epoch. key) at_first before ready → Replans (keyed_fn K.prf K.pad) key (with_command before (adds doc)) ready.frames result }
+    ensures replans { (o : Offsets) (before : Run) → StandsFor (keyed_fn K.prf K.pad) (λ epoch. key) o before ready → Replans (keyed_fn K.prf K.pad) key o (with_command before (adds doc)) ready.frames result }
     ensures grammar { IfOk result (λ client. AllByRecursion IsFrame (to_send client.state)) }
+    ensures past { IfOk result (λ client. client.state.ready.past ≡ ready.past) }
     ensures hash_keys { IfOk result (λ client. client.state.ready.registry.keys ≡ ready.registry.keys) }
 {
     let master = key.prepare(keyed);
@@ -158,8 +171,9 @@ fn replan_deletion<K: Keyed>(
     requires live { IsSome ((facts ready.registry).live (id_number id)) }
     requires number { ready.frames + 1 < 2 ^ 32 }
     requires keeps { Keeps (keyed_fn K.prf K.pad) key (known_words ready.registry) ready.keys }
-    ensures replans { (before : Run) → StandsFor (keyed_fn K.prf K.pad) (λ epoch. key) at_first before ready → Replans (keyed_fn K.prf K.pad) key (with_command before (deletes (id_number id))) ready.frames result }
+    ensures replans { (o : Offsets) (before : Run) → StandsFor (keyed_fn K.prf K.pad) (λ epoch. key) o before ready → Replans (keyed_fn K.prf K.pad) key o (with_command before (deletes (id_number id))) ready.frames result }
     ensures grammar { IfOk result (λ client. AllByRecursion IsFrame (to_send client.state)) }
+    ensures past { IfOk result (λ client. client.state.ready.past ≡ ready.past) }
     ensures hash_keys { IfOk result (λ client. client.state.ready.registry.keys ≡ ready.registry.keys) }
 {
     let master = key.prepare(keyed);

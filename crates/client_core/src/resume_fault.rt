@@ -2,7 +2,7 @@ ghost use Rattle.std.specs.Prelude.{◌≡◌, IsSome, Some};
 ghost use Rattle.client_core.specs.ResumeFaults.{setup_fault, update_fault};
 
 use crate::command_fault::CommandFault;
-use index_setup::BuildFault;
+use client_renewal::RenewalFault;
 use std::alloc::AllocError;
 
 /// Why a client doesn't go on from the last record of its journal.
@@ -31,18 +31,21 @@ impl From<AllocError> for ResumeFault {
     }
 }
 
-/// The fault of a setup of accepted size that is planned again.
-pub(crate) fn of_setup(fault: BuildFault) -> ResumeFault
+/// The fault of an accepted setup that is planned again.
+pub(crate) fn of_setup(fault: RenewalFault) -> ResumeFault
     requires { IsSome (setup_fault fault) }
     ensures { setup_fault fault ≡ Some result }
 {
     match fault {
-        BuildFault::LabelClash { first, second } => ResumeFault::LabelClash { first, second },
-        BuildFault::PlaceClash { first, second } => ResumeFault::PlaceClash { first, second },
-        BuildFault::NoMemory => ResumeFault::NoMemory,
-        BuildFault::BadParameter { .. }
-        | BuildFault::ListTooLong { .. }
-        | BuildFault::TooManyBytes(_) => unreachable!(),
+        RenewalFault::LabelClash { first, second } => ResumeFault::LabelClash { first, second },
+        RenewalFault::PlaceClash { first, second } => ResumeFault::PlaceClash { first, second },
+        RenewalFault::NoMemory => ResumeFault::NoMemory,
+        RenewalFault::KeyUsed(_)
+        | RenewalFault::TooManyDocuments(_)
+        | RenewalFault::TooManyPairs(_)
+        | RenewalFault::ListTooLong { .. }
+        | RenewalFault::TooManyBytes(_)
+        | RenewalFault::HistoryFull => unreachable!(),
     }
 }
 

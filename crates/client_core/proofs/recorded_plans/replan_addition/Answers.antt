@@ -1,7 +1,6 @@
 use Rattle.std.proofs.Common.{◌≡◌, ◌∷◌, [], ℕ, List, ap, map, refl, sym, subst, ◌∙◌, arith}
 use Rattle.client_registry.specs.Facts.{has_counters}
 use Rattle.client_registry.specs.Registered.{known_words}
-use Rattle.client_registry.specs.Run.{at_first}
 use Rattle.client_rebuild.specs.declared.update.Update.TheVariants as recorded
 use Rattle.keyed_fn.specs.KeyedFn.{keyed_fn}
 use Rattle.sse_frames.specs.Frames.{frame_bytes}
@@ -26,7 +25,7 @@ commit-requires g c = record {
 
 pub returns-in-Ok-clause-replans : goal.returns-in-Ok-clause-replans
 returns-in-Ok-clause-replans g c =
-    λ before stands.
+    λ o before stands.
     let f = keyed_fn g.K.Keyed.prf g.K.Keyed.pad in
     let key = c.args.key in
     let master = c.prepare-master.result in
@@ -35,11 +34,11 @@ returns-in-Ok-clause-replans g c =
     let d = c.args.doc in
     let keys : ℕ → List ℕ = λ epoch. key in
     let under : key ≡ master = sym c.prepare-master.ensures in
-    let had = keeps f keys at_first before master under old stands in
-    let still = stands_still f key before old new stands c.addition.ensures.facts c.addition.ensures.frames (subst (λ k. Keeps f k (known_words old.registry) old.keys → Keeps f k (known_words new.registry) new.keys) (sym under) c.addition.ensures.keeps) in
-    let frame = ap (λ bytes. bytes ∷ []) (c.in-Ok.ensures.bytes had) ∙ ap (map frame_bytes) (frames_are f keys at_first before master under old stands d) in
-    let none = c.in-Ok.ensures.fault had (ok_not_wanting _ _ refl) ∙ collision_is f keys at_first before master under old stands d in
-    replans-update f key before (recorded.Add d) old.frames c.commit.result c.commit.ensures.key (c.commit.ensures.first ∙ c.number-number.ensures ∙ c.addition.ensures.frames) (omega (arith, stands.number)) (c.commit.ensures.owes f keys at_first before still frame) none
+    let had = keeps f keys o before master under old stands in
+    let still = stands_still f key o before old new stands c.addition.ensures.facts c.addition.ensures.frames c.addition.ensures.past (subst (λ k. Keeps f k (known_words old.registry) old.keys → Keeps f k (known_words new.registry) new.keys) (sym under) c.addition.ensures.keeps) in
+    let frame = ap (λ bytes. bytes ∷ []) (c.in-Ok.ensures.bytes had) ∙ ap (map frame_bytes) (frames_are f keys o before master under old stands d) in
+    let none = c.in-Ok.ensures.fault had (ok_not_wanting _ _ refl) ∙ collision_is f keys o before master under old stands d in
+    replans-update f key o before (recorded.Add d) old.frames c.commit.result c.commit.ensures.key (c.commit.ensures.first ∙ c.number-number.ensures ∙ c.addition.ensures.frames) (omega (arith, stands.number)) (c.commit.ensures.owes f keys o before still frame) none
 
 pub of_update-requires : goal.of_update-requires
 of_update-requires g c =
@@ -48,14 +47,14 @@ of_update-requires g c =
 
 pub returns-in-Err-clause-replans : goal.returns-in-Err-clause-replans
 returns-in-Err-clause-replans g c =
-    λ before stands.
+    λ o before stands.
     let f = keyed_fn g.K.Keyed.prf g.K.Keyed.pad in
     let key = c.args.key in
     let master = c.prepare-master.result in
     let old = c.args.ready in
     let keys : ℕ → List ℕ = λ epoch. key in
     let under : key ≡ master = sym c.prepare-master.ensures in
-    let had = keeps f keys at_first before master under old stands in
-    replans-refused f key before (recorded.Add c.args.doc) old.frames c.in-Err.fault c.of_update.result
-    (λ other. c.in-Err.ensures.fault had (differs _ c.in-Err.fault refl other) ∙ collision_is f keys at_first before master under old stands c.args.doc)
+    let had = keeps f keys o before master under old stands in
+    replans-refused f key o before (recorded.Add c.args.doc) old.frames c.in-Err.fault c.of_update.result
+    (λ other. c.in-Err.ensures.fault had (differs _ c.in-Err.fault refl other) ∙ collision_is f keys o before master under old stands c.args.doc)
     c.of_update.ensures

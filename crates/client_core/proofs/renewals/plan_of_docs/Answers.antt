@@ -82,3 +82,20 @@ returns-clause-frames g c =
     ap (λ plan. plan.frames) c.new.ensures.plan
     ∙ (λ i. map frame_bytes (numbered (sym at i) (frames_of_joined (was.b i) (was.big i) (was.entries i) (was.array i))))
     ∙ bytes_from-index f laws c.args.key.now s c.requires.accepted o
+
+pub returns-clause-plan : goal.returns-clause-plan
+returns-clause-plan g c =
+    let was = c.in-Ok.ensures in
+    let plan = c.new.ensures.plan in
+    record {
+      mark = ap (λ p. p.mark) plan;
+      marks = ap (λ p. p.marks) plan;
+      docs = ap (λ p. p.docs) plan;
+      b = ap (λ p. p.b) plan ∙ was.b;
+      big = ap (λ p. p.big) plan ∙ was.big;
+      pad = ap (λ p. p.pad) plan ∙ was.pad;
+      number = ap (λ p. p.number) plan;
+      own_words = ap (λ p. p.own_words) plan ∙ was.own_words;
+      own_blocks = ap (λ p. p.own_blocks) plan ∙ was.own_blocks;
+      grammar = c.new.ensures.grammar;
+    }

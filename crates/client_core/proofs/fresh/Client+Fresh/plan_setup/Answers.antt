@@ -111,6 +111,17 @@ returns-in-Err-frame_buffer-clause-refused g c =
 pub returns-in-Err-frame_buffer-clause-clash : goal.returns-in-Err-frame_buffer-clause-clash
 returns-in-Err-frame_buffer-clause-clash g c = λ _ some. absurd (some refl)
 
+-- and the same without memory for the mark
+pub returns-in-Err-first_marks-clause-refused : goal.returns-in-Err-first_marks-clause-refused
+returns-in-Err-first_marks-clause-refused g c =
+    let f = keyed_fn g.K.Keyed.prf g.K.Keyed.pad in
+    let s = setup_with c.args.docs.documents c.args.sizes.b c.args.sizes.big c.args.sizes.pad in
+    let memory : Result Planned BuildFault = Err NoMemory in
+    subst (λ o. IfSome o (λ fault. memory ≡ Err (refused_by_size fault))) (sym (size_accepted f c.self.inside.key s c.in-Ok.ensures.accepted)) tt
+
+pub returns-in-Err-first_marks-clause-clash : goal.returns-in-Err-first_marks-clause-clash
+returns-in-Err-first_marks-clause-clash g c = λ _ some. absurd (some refl)
+
 pub returns-clause-accepted : goal.returns-clause-accepted
 returns-clause-accepted g c = rw (← c.self.view_is) c.in-Ok.ensures.accepted
 

@@ -5,7 +5,7 @@ use Rattle.client_core.proofs.IndexGrammar.{frames_are}
 use Rattle.client_core.proofs.planned.Planned.new.Goals as goal
 
 pub invariant_of-result : goal.invariant_of-result
-invariant_of-result c = record { sendable = c.requires.sendable; fits = c.requires.fits }
+invariant_of-result c = record { sendable = c.requires.sendable; alone = c.requires.alone; fits = c.requires.fits }
 
 pub returns-clause-grammar : goal.returns-clause-grammar
 returns-clause-grammar c =

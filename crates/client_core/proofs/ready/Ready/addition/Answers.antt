@@ -29,6 +29,14 @@ returns-in_err-frame-clause-keeps g c =
     (Keeps-more (keyed_fn g.K.Keyed.prf g.K.Keyed.pad) c.args.master.now (known_words old.registry) (known_words c.reserve_numbered.new.self) old.keys c.reserve_numbered.ensures.words kept)
     )
 
+pub returns-in_err-numbers-clause-keeps : goal.returns-in_err-numbers-clause-keeps
+returns-in_err-numbers-clause-keeps g c =
+    rw (← c.self.view_is) (
+    λ kept.
+    let old = c.self.inside in
+    Keeps-more (keyed_fn g.K.Keyed.prf g.K.Keyed.pad) c.args.master.now (known_words old.registry) (known_words c.reserve_numbered.new.self) old.keys c.reserve_numbered.ensures.words kept
+    )
+
 pub returns-clause-fault : goal.returns-clause-fault
 returns-clause-fault g c =
     rw (← c.self.view_is) (

@@ -12,7 +12,7 @@ returns-clause-stands c =
     let can = subst (CanCommit _) (sym c.planned.view_is) (subst (λ state. CanCommit state c.args.planned) (sym is) c.requires) in
     rw (← c.planned.view_is)
     (StandsFor-committed f keys o run plan.update plan.words.items _ _ can.number can.sized can.fits
-    (c.apply_to_registry.ensures.history run.setup run.later) c.apply_to_registry.ensures.words refl refl (subst (StandsFor f keys o run) (sym is) s))
+    (c.apply_to_registry.ensures.history run.setup run.later) c.apply_to_registry.ensures.words refl refl refl (subst (StandsFor f keys o run) (sym is) s))
 
 pub returns-clause-owes : goal.returns-clause-owes
 returns-clause-owes c =
