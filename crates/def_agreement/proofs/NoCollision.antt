@@ -55,7 +55,7 @@ first_clash-none xs differ = by (first_clash xs) refl
         absurd (omega (arith, places.order, places_apart xs i j differ (omega (arith, places.order, places.within)) places.within places.same))
 
 -- a run without collisions has none in its setup
-setup-none : (t : Table) (o : Offsets) (s : Setup) → IsCollisionFree t o (record { setup = s; later = [] }) → collision_of_setup t o.epoch s ≡ None
+pub setup-none : (t : Table) (o : Offsets) (s : Setup) → IsCollisionFree t o (record { setup = s; later = [] }) → collision_of_setup t o.epoch s ≡ None
 setup-none t o s free =
     let run : Run = record { setup = s; later = [] } in
     let apart = AreDistinct-drawn t o run free in

@@ -92,7 +92,7 @@ module _ (seed k : ℕ) (few : k < 10000) where
 
 -- all of them keep the limits
 pub collected-made : (seed k : ℕ) → k ≤ 10000 → IsCollected (made_docs seed k)
-collected-made seed zero few = let kept = IsKeptAt-opened 0 [] in kept.documents
+collected-made seed zero few = let kept = IsKeptAt-opened None 0 [] in kept.documents
 collected-made seed (suc k) few =
     let same : k + 1 ≡ suc k = omega arith in
     subst (λ m. IsCollected (made_docs seed m)) same (collected-next seed k (omega (arith, few)) (collected-made seed k (omega (arith, few))))

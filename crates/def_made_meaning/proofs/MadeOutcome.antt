@@ -23,6 +23,7 @@ use Rattle.client_registry.specs.Run.{History, From, at_first}
 use Rattle.client_registry.specs.Setup.{Setup, setup_with}
 use Rattle.client_registry.specs.WordRule.{word_refusal}
 use Rattle.client_registry.specs.declared.faults.WordFault.{WordFault}
+use Rattle.keyed_fn.specs.KeyFormulas.{mark_of}
 use Rattle.keyed_fn.specs.KeyedFn.{KeyedFn}
 use Rattle.script_documents.specs.Refused.{bad_word, word_refused}
 use Rattle.script_documents.proofs.Passed.{document_passed}
@@ -92,21 +93,21 @@ all_lines seed n = map (collected_line seed) (range_with_len 1 n) ++ Some (lines
 -- ---- the documents
 
 -- while they are collected
-abbrev collecting : (seed : ℕ) (key : List ℕ) (k : ℕ) → Place
-collecting seed key k = record { key = key; documents = made_docs seed k; history = empty }
+abbrev collecting : (seed : ℕ) (mark : Option (List ℕ → List ℕ)) (key : List ℕ) (k : ℕ) → Place
+collecting seed mark key k = record { key = key; mark = mark; used = []; documents = made_docs seed k; history = empty }
 
-collects : (seed : ℕ) (key : List ℕ) (k more n : ℕ) (left : List (Option Line)) → k + more ≡ n → n ≤ 10000 → EndsWell (collecting seed key n) left
-    → EndsWell (collecting seed key k) (map (collected_line seed) (range_with_len (k + 1) more) ++ left)
-collects seed key k zero n left sum few rest =
+collects : (seed : ℕ) (mark : Option (List ℕ → List ℕ)) (key : List ℕ) (k more n : ℕ) (left : List (Option Line)) → k + more ≡ n → n ≤ 10000 → EndsWell (collecting seed mark key n) left
+    → EndsWell (collecting seed mark key k) (map (collected_line seed) (range_with_len (k + 1) more) ++ left)
+collects seed mark key k zero n left sum few rest =
     let same : n ≡ k = omega (arith, sum) in
-    subst (λ m. EndsWell (collecting seed key m) left) same rest
-collects seed key k (suc more) n left sum few rest =
-    let next : EndsWell (collecting seed key (k + 1)) (map (collected_line seed) (range_with_len (k + 1 + 1) more) ++ left) =
-    collects seed key (k + 1) more n left (omega (arith, sum)) few rest in
-    one_line (collecting seed key k) (lines.Doc (k + 1) (made_words seed (k + 1))) (Collects (made_doc seed (k + 1)))
+    subst (λ m. EndsWell (collecting seed mark key m) left) same rest
+collects seed mark key k (suc more) n left sum few rest =
+    let next : EndsWell (collecting seed mark key (k + 1)) (map (collected_line seed) (range_with_len (k + 1 + 1) more) ++ left) =
+    collects seed mark key (k + 1) more n left (omega (arith, sum)) few rest in
+    one_line (collecting seed mark key k) (lines.Doc (k + 1) (made_words seed (k + 1))) (Collects (made_doc seed (k + 1)))
     (map (collected_line seed) (range_with_len (k + 1 + 1) more) ++ left)
     (ap (λ (r : Option Refusal). unless r (Collects (made_doc seed (k + 1)))) (collect_refusal-next seed k (omega (arith, sum, few)))) refl
-    (subst (λ (docs : List Document). EndsWell (record { key = key; documents = docs; history = empty }) (map (collected_line seed) (range_with_len (k + 1 + 1) more) ++ left))
+    (subst (λ (docs : List Document). EndsWell (record { key = key; mark = mark; used = []; documents = docs; history = empty }) (map (collected_line seed) (range_with_len (k + 1 + 1) more) ++ left))
     (map-range_with_len_more (made_doc seed) 1 k (k + 1) (omega arith)) next)
 
 -- ---- behind the setup
@@ -118,7 +119,7 @@ record AreTenthsDeleted (seed n t : ℕ) (cs : List Command) : Type 0 where
   gone : (j : ℕ) → 1 ≤ j → j ≤ t → is_live (live (made_docs seed n) cs) (10 * j) ≡ false
   above : (x : ℕ) → n < x → is_live (live (made_docs seed n) cs) x ≡ false
 
-module _ (seed : ℕ) (key : List ℕ) (n : ℕ) (few : n ≤ 10000) where
+module _ (seed : ℕ) (mark : Option (List ℕ → List ℕ)) (key : List ℕ) (n : ℕ) (few : n ≤ 10000) where
   abbrev setup : Setup
   setup = setup_with (made_docs seed n) 16 64 1
 
@@ -126,14 +127,14 @@ module _ (seed : ℕ) (key : List ℕ) (n : ℕ) (few : n ≤ 10000) where
   with_commands cs = Some (From at_first (record { setup = setup; later = cs }))
 
   abbrev behind : List Command → Place
-  behind cs = record { key = key; documents = made_docs seed n; history = with_commands cs }
+  behind cs = record { key = key; mark = mark; used = []; documents = made_docs seed n; history = with_commands cs }
 
   abbrev live_now : List Command → ℕ → Bool
   live_now cs id = is_live (live (made_docs seed n) cs) id
 
-  sets_up : (left : List (Option Line)) → EndsWell (behind []) left → EndsWell (collecting seed key n) (Some (lines.Command (lines.SetupLine 16 64 1)) ∷ left)
+  sets_up : (left : List (Option Line)) → EndsWell (behind []) left → EndsWell (collecting seed mark key n) (Some (lines.Command (lines.SetupLine 16 64 1)) ∷ left)
   sets_up left rest =
-      one_line (collecting seed key n) (lines.SetupLine 16 64 1) (SetsUp setup) left
+      one_line (collecting seed mark key n) (lines.SetupLine 16 64 1) (SetsUp setup) left
       (ap (λ (r : Option Refusal). unless r (SetsUp setup)) (index_refusal-made seed n few)) refl rest
 
   updates_few : (cs : List Command) → length (filter is_update cs) ≤ length cs
@@ -345,9 +346,9 @@ module _ (seed : ℕ) (key : List ℕ) (n : ℕ) (few : n ≤ 10000) where
           let tenth : 10 * (2 * j) ≡ x = omega (arith, is) in
           subst (λ m. live_now cs m ≡ false) tenth (deleted.gone (2 * j) (omega (arith, low)) (omega (arith, high)))
 
-  behind_key : EndsWell (collecting seed key 0) (all_lines seed n)
+  behind_key : EndsWell (collecting seed mark key 0) (all_lines seed n)
   behind_key =
-      collects seed key 0 n n (Some (lines.Command (lines.SetupLine 16 64 1)) ∷ behind_lines seed n) (omega arith) few
+      collects seed mark key 0 n n (Some (lines.Command (lines.SetupLine 16 64 1)) ∷ behind_lines seed n) (omega arith) few
       (sets_up (behind_lines seed n) (deletes 0 (n / 10) (n / 10) [] (added_lines seed n) (omega arith) (omega arith) none_deleted added_back))
 
 -- ---- the script
@@ -379,13 +380,13 @@ script_lines-made seed n few =
 
 -- Promise P163 (inside): No line of a made script is bad or refused: a run of it that ends with 0, 1 or 2 reached its end.
 -- the script is carried out to its end, and nothing is refused
-pub made_text-end : (seed n : ℕ) → n ≤ 10000 → (meaning (made_text seed n)).end ≡ AtEnd false
-made_text-end seed n few =
-    ap (λ (items : List (Option Line)). (meant_from 1 items).end) (script_lines-made seed n few)
-    ∙ behind_key seed (made_key seed) n few 2
+pub made_text-end : (mark : Option (List ℕ → List ℕ)) (seed n : ℕ) → n ≤ 10000 → (meaning mark (made_text seed n)).end ≡ AtEnd false
+made_text-end mark seed n few =
+    ap (λ (items : List (Option Line)). (meant_from mark 1 items).end) (script_lines-made seed n few)
+    ∙ behind_key seed mark (made_key seed) n few 2
 
 -- Promise P163, also here
 -- so a run of it that no bad line and no want stopped came to its end, and nothing was refused
 pub made_text-ran : (f : KeyedFn) (seed n : ℕ) → n ≤ 10000 → (now : Outside) (end : Ended) → Opens f 1 (script_lines (made_text seed n)) now end → status_of end.stop ≤ 2
     → end.stop ≡ AtEnd false
-made_text-ran f seed n few now end opens low = let all = goes f (made_text seed n) now end opens in (all.ended low).0 ∙ made_text-end seed n few
+made_text-ran f seed n few now end opens low = let all = goes f (made_text seed n) now end opens in (all.ended low).0 ∙ made_text-end (Some (mark_of f)) seed n few

@@ -5,6 +5,7 @@ use Rattle.std.specs.Prelude.{replicate}
 use Rattle.client_registry.specs.Command.{Command, Add, Delete}
 use Rattle.client_registry.specs.Run.{From, at_first}
 use Rattle.client_registry.specs.Setup.{setup_of}
+use Rattle.keyed_fn.specs.KeyFormulas.{mark_of}
 use Rattle.keyed_fn.specs.KeyedFn.{KeyedFn, keyed_fn}
 use Rattle.keyed_fn.specs.Toy.{toy_prf, toy_pad}
 use Rattle.sse_script.specs.Shown.{LabelClash, PlaceClash, NumberClash}
@@ -36,12 +37,12 @@ ac = 0x61 ∷ 0x63 ∷ []
 
 -- after a setup of one document, and these commands
 abbrev behind : List Command → Place
-behind commands = record { key = key; documents = []; history = Some (From at_first (record { setup = setup_of (document 1 (a ∷ []) ∷ []) 1 1; later = commands })) }
+behind commands = record { key = key; mark = Some (mark_of toy); used = []; documents = []; history = Some (From at_first (record { setup = setup_of (document 1 (a ∷ []) ∷ []) 1 1; later = commands })) }
 
-labels_of_a_setup : clash_in_hand toy (opened key) (SetsUp (setup_of (document 1 (da ∷ ac ∷ []) ∷ []) 1 1)) ≡ Some (LabelClash 0 1)
+labels_of_a_setup : clash_in_hand toy (opened (Some (mark_of toy)) key) (SetsUp (setup_of (document 1 (da ∷ ac ∷ []) ∷ []) 1 1)) ≡ Some (LabelClash 0 1)
 labels_of_a_setup = refl
 
-places_of_a_setup : clash_in_hand toy (opened key) (SetsUp (setup_of (document 1 (a ∷ e ∷ []) ∷ document 2 (a ∷ e ∷ []) ∷ document 3 (a ∷ e ∷ []) ∷ []) 2 2)) ≡ Some (PlaceClash 1 2)
+places_of_a_setup : clash_in_hand toy (opened (Some (mark_of toy)) key) (SetsUp (setup_of (document 1 (a ∷ e ∷ []) ∷ document 2 (a ∷ e ∷ []) ∷ document 3 (a ∷ e ∷ []) ∷ []) 2 2)) ≡ Some (PlaceClash 1 2)
 places_of_a_setup = refl
 
 -- the first of its words has another label

@@ -3,19 +3,19 @@
 use Rattle.std.proofs.Common.{◌≡◌, ◌≤◌, ℕ, ◌+◌, Bool, false, ◌||◌, List, [], ◌∷◌, ◌++◌, length, Some, None, refl, sym, ap, ◌∙◌, subst, arith, append_assoc}
 use Rattle.std.specs.Prelude.{Option, option_map, map}
 use Rattle.std.proofs.lemmas.List.{append-nil, length-map}
-use Rattle.client_registry.proofs.HistoryLaws.{IsFirstOf-same, IsFirstOf-trans, IsFirstOf-before, IsFirstOf-longer, found_in_turn-before, found_in_turn-update, found_in_turn-search}
+use Rattle.client_registry.proofs.HistoryLaws.{IsFirstOf-same, IsFirstOf-trans, IsFirstOf-before, IsFirstOf-longer, IsFirstOf-renewed, found_in_turn-before, found_in_turn-update, found_in_turn-search, found_in_turn-renewed}
 use Rattle.client_registry.specs.Command.{Command, Add, Delete, Search}
-use Rattle.client_registry.specs.Histories.{begun_by, IsKept, IsFirstOf, found_in_turn, longer}
-use Rattle.client_registry.specs.Epochs.{next_begins}
-use Rattle.client_registry.specs.Run.{History, Offsets, From, Renewed, at_first}
+use Rattle.client_registry.specs.Histories.{begun_by, IsKept, IsFirstOf, found_in_turn, longer, renewed}
+use Rattle.client_registry.specs.Epochs.{next_begins, setup_renewed}
+use Rattle.client_registry.specs.Run.{History, Offsets, From, Renewed, last_run, at_first}
 use Rattle.client_registry.specs.Setup.{Setup, setup_with}
 use Rattle.keyed_fn.specs.KeyedFn.{KeyedFn}
 use Rattle.sse_frames.specs.Exchange.{searches}
-use Rattle.def_agreement.proofs.NoCollision.{collision_of_first-none, collision_of_next-none}
-use Rattle.sse_model.proofs.ExchangeLaws.{searches-setup, searches_behind-update}
-use Rattle.sse_model.proofs.HistoryLaws.{frames_sent-before, frames_sent-begun, frames_sent-longer, frames_of_next-search, collision_of_next-search}
+use Rattle.def_agreement.proofs.NoCollision.{collision_of_first-none, collision_of_renewal-none, collision_of_next-none}
+use Rattle.sse_model.proofs.ExchangeLaws.{searches-setup, searches_behind-update, searches_behind-renewal}
+use Rattle.sse_model.proofs.HistoryLaws.{frames_sent-before, frames_sent-begun, frames_sent-longer, frames_sent-renewed, frames_of_next-search, collision_of_next-search}
 use Rattle.sse_model.proofs.Counts.{length-frames_of_setup}
-use Rattle.sse_model.specs.Histories.{frames_sent, frames_of_first, frames_of_next, table_at, HasNoCollision}
+use Rattle.sse_model.specs.Histories.{frames_sent, frames_of_first, frames_of_renewal, frames_of_next, table_at, HasNoCollision}
 use Rattle.sse_model.specs.Names.{Table, table}
 use Rattle.sse_model.specs.Wire.{frames_of, next_number}
 use Rattle.script_documents.specs.LineDocument.{document}
@@ -28,7 +28,7 @@ use Rattle.def_script_meaning.specs.Goes.{frames_in_hand, frames_of_last, update
 use Rattle.def_script_meaning.specs.Lines as script
 use Rattle.def_script_meaning.specs.Lines.{Line, Empty, Key, Request}
 use Rattle.def_script_meaning.specs.Meaning.{follow, meant_from}
-use Rattle.def_script_meaning.specs.Outcome.{Place, Printed, Says, Finds, Matches, Outcome, Collects, Refuses, SetsUp, Does, opened, outcome, after, shown_by, is_refusal}
+use Rattle.def_script_meaning.specs.Outcome.{Place, Printed, Says, Finds, Matches, Outcome, Collects, Refuses, SetsUp, Does, Renews, opened, outcome, after, shown_by, is_refusal}
 use Rattle.def_script_meaning.proofs.Outcomes.{by_cases}
 
 -- the answers in printed lines
@@ -65,6 +65,13 @@ one_command f key h c commands e = subst (λ cs. length (frames_of_next f key h 
 one_alone : (f : KeyedFn) (key : List ℕ) (h : History) (c : Command) → (commands : List Command) → commands ≡ c ∷ [] → updates_count (frames_of_next f key h commands) ≤ frames_in_hand (longer commands h)
 one_alone f key h c commands e = let one = one_command f key h c commands e in omega (arith, one, updates_fewer (frames_of_next f key h commands))
 
+-- a renewal is the last command of the history with it
+one_renewal : (f : KeyedFn) (own : List ℕ) (h : History) → updates_count (frames_of_renewal f own h) ≤ frames_in_hand (renewed own h)
+one_renewal f own None = omega arith
+one_renewal f own (Some es) =
+    let s = setup_renewed (last_run es) in
+    omega (arith, updates_fewer (frames_of_renewal f own (Some es)), length-frames_of_setup (table f s.shape (λ epoch. own)) (next_begins es) s)
+
 module _ (place : Place) (line : Request) where
   abbrev result : Outcome
   result = outcome place line
@@ -78,6 +85,7 @@ module _ (place : Place) (line : Request) where
     collects = λ id words is none e. IsFirstOf-same place.history;
     sets_up = λ b big pad none e. IsFirstOf-before place.history (begun_by (setup_with place.documents b big pad)) none;
     adds = λ id words is up e. IsFirstOf-longer place.history _;
+    renews = λ key up e. IsFirstOf-renewed place.history key;
     deletes = λ id is up e. IsFirstOf-longer place.history _;
     finds = λ word up e. IsFirstOf-longer place.history _;
     queries = λ fields up e. IsFirstOf-longer place.history _;
@@ -90,6 +98,7 @@ module _ (place : Place) (line : Request) where
     collects = λ id words is none e. sym (append-nil (found_in_turn place.history));
     sets_up = λ b big pad none e. sym (append-nil (found_in_turn place.history) ∙ found_in_turn-before place.history none);
     adds = λ id words is up e. found_in_turn-update place.history _ refl ∙ sym (append-nil (found_in_turn place.history));
+    renews = λ key up e. found_in_turn-renewed place.history key ∙ sym (append-nil (found_in_turn place.history));
     deletes = λ id is up e. found_in_turn-update place.history _ refl ∙ sym (append-nil (found_in_turn place.history));
     finds = λ word up e. found_in_turn-search place.history word up;
     queries = λ fields up e.
@@ -108,6 +117,7 @@ module _ (place : Place) (line : Request) where
     deletes = λ id is up e. frames_sent-longer f place.key place.history _;
     finds = λ word up e. frames_sent-longer f place.key place.history _;
     queries = λ fields up e. frames_sent-longer f place.key place.history _;
+    renews = λ key up e. frames_sent-renewed f place.key place.history key;
   })
 
   -- and are at most those of the history's last command
@@ -120,6 +130,7 @@ module _ (place : Place) (line : Request) where
     deletes = λ id is up e. one_alone f place.key place.history _ _ refl;
     finds = λ word up e. one_alone f place.key place.history _ _ refl;
     queries = λ fields up e. omega (arith, no_updates-searches f place.key place.history (words_of fields));
+    renews = λ key up e. one_renewal f key place.history;
   })
 
   -- a line sends as many searches as it prints answers
@@ -135,6 +146,7 @@ module _ (place : Place) (line : Request) where
         searches-searches f place.key place.history (words_of fields) up
         ∙ sym (length-map (words_of fields) (matching_in place.history))
         ∙ ap length (sym (append-nil (map (matching_in place.history) (words_of fields))));
+    renews = λ key up e. searches_behind-renewal f place.key place.history key;
   })
 
 -- where the history after a line keeps the limits and has no collision, there is none in hand
@@ -149,6 +161,7 @@ no_clash-next f place line = by_cases place line (λ r. IsKept (after r place).h
   deletes = λ id is up e kept free. ap (option_map collision_cause) (collision_of_next-none f place.key place.history (Delete id) kept free);
   finds = λ word up e kept free. ap (option_map collision_cause) (collision_of_next-search f place.key place.history word);
   queries = λ fields up e kept free. ap (option_map collision_cause) (collision-searches f place.key place.history (words_of fields));
+  renews = λ key up e kept free. ap (option_map collision_cause) (collision_of_renewal-none f place.key key place.history free);
 })
 
 -- no line changes the key
@@ -157,6 +170,7 @@ after-key (Collects d) place = refl
 after-key (Refuses refusal) place = refl
 after-key (SetsUp s) place = refl
 after-key (Does commands shown) place = refl
+after-key (Renews key s) place = refl
 
 -- All lines.
 
@@ -193,9 +207,9 @@ finds-follow place number (Some (script.Command line) ∷ lines) refused =
     ∙ ap (λ found. found_in_turn place.history ++ found) (sym (finds-append (shown_by r) rest.shown))
 
 -- the answers in the printed lines of a script are what the searches of its history find
-pub finds-meant : (number : ℕ) (lines : List (Option Line)) → found_in_turn (meant_from number lines).history ≡ finds (meant_from number lines).shown
-finds-meant number [] = refl
-finds-meant number (None ∷ lines) = refl
-finds-meant number (Some Empty ∷ lines) = finds-meant (number + 1) lines
-finds-meant number (Some (Key key) ∷ lines) = finds-follow (opened key) (number + 1) lines false
-finds-meant number (Some (script.Command line) ∷ lines) = refl
+pub finds-meant : (mark : Option (List ℕ → List ℕ)) (number : ℕ) (lines : List (Option Line)) → found_in_turn (meant_from mark number lines).history ≡ finds (meant_from mark number lines).shown
+finds-meant mark number [] = refl
+finds-meant mark number (None ∷ lines) = refl
+finds-meant mark number (Some Empty ∷ lines) = finds-meant mark (number + 1) lines
+finds-meant mark number (Some (Key key) ∷ lines) = finds-follow (opened mark key) (number + 1) lines false
+finds-meant mark number (Some (script.Command line) ∷ lines) = refl

@@ -1,6 +1,7 @@
 -- The headline, as a law of runs; and that no run over an honest link ends with a collision or a bad reply, where the history
 -- up to its stop has no collision. Both begin with laws of any frames, sent after the greeting to a server in any state that
 -- answers them so.
+use Rattle.keyed_fn.specs.KeyFormulas.{mark_of}
 use Rattle.std.proofs.Common.{◌≡◌, ◌⊎◌, ℕ, suc, false, ◌+◌, ◌^◌, ◌<◌, ◌≤◌, inl, inr, List, [], ◌∷◌, ◌++◌, length, map, take, drop, Some, None, refl, sym, ap, ◌∙◌, subst, arith}
 use Rattle.std.specs.Prelude.{flat_map, Option, All, option_map}
 use Rattle.std.specs.Io.KnownBytes.{append_known}
@@ -46,7 +47,7 @@ use Rattle.def_script_meaning.specs.Stops.{status_of, stop_text}
 use Rattle.def_script_meaning.proofs.FollowedPlaces.{finds, follow-key, finds-meant}
 use Rattle.def_script_meaning.proofs.GoneAsMeant.{Adds-nothing, Adds-joined}
 use Rattle.def_script_meaning.proofs.Honest.{IsServed-bare, behind, cut_outside, behind_greeted, turned_outside}
-use Rattle.def_script_meaning.proofs.OneEpoch.{IsWhole-first, expects_first, meaning_is_whole}
+use Rattle.def_script_meaning.proofs.Whole.{IsWhole-first, expects_first, meaning_is_whole}
 use Rattle.def_script_meaning.proofs.PartsLeft.{part_left, part_of_left, steps-next, turned_state}
 use Rattle.def_script_meaning.proofs.Recorded.{KeepsFirst-all, recorded}
 use Rattle.def_script_meaning.proofs.RunGoes.{goes, turned_status}
@@ -224,12 +225,12 @@ IsFree-first f key whole_key part whole (inr same) first free = subst (λ k. IsF
     by (Some key) free = HasNoCollision-first f key part whole first free
 
 -- without a key there is no history
-keyless : (number : ℕ) (lines : List (Option Line)) → (meant_from number lines).key ≡ None → (meant_from number lines).history ≡ empty
-keyless number [] none = refl
-keyless number (None ∷ lines) none = refl
-keyless number (Some Empty ∷ lines) none = keyless (number + 1) lines none
-keyless number (Some (Key key) ∷ lines) none = absurd (let no : Some key ≡ None = sym (follow-key (opened key) (number + 1) lines false) ∙ none in cc)
-keyless number (Some (Command line) ∷ lines) none = refl
+keyless : (mark : Option (List ℕ → List ℕ)) (number : ℕ) (lines : List (Option Line)) → (meant_from mark number lines).key ≡ None → (meant_from mark number lines).history ≡ empty
+keyless mark number [] none = refl
+keyless mark number (None ∷ lines) none = refl
+keyless mark number (Some Empty ∷ lines) none = keyless mark (number + 1) lines none
+keyless mark number (Some (Key key) ∷ lines) none = absurd (let no : Some key ≡ None = sym (follow-key (opened mark key) (number + 1) lines false) ∙ none in cc)
+keyless mark number (Some (Command line) ∷ lines) none = refl
 
 pub few : (status : ℕ) → status ≤ 7 → IsUndisturbed status → status ≤ 2
 few status outside calm =
@@ -242,16 +243,16 @@ few status outside calm =
 
 module _ (f : KeyedFn) (laws : IsKeyedFn f) (bytes : List ℕ) (now : Outside) (end : Ended) (opens : Opens f 1 (script_lines bytes) now end) where
   abbrev m : Meaning
-  m = meaning bytes
+  m = meaning (Some (mark_of f)) bytes
 
-  abbrev g : GoesFirst f (meaning bytes) now end
+  abbrev g : GoesFirst f (meaning (Some (mark_of f)) bytes) now end
   g = goes f bytes now end opens
 
   kept : IsKept m.history
-  kept = (meaning_is_kept bytes).0
+  kept = (meaning_is_kept (Some (mark_of f)) bytes).0
 
   is_whole : IsWhole end.history
-  is_whole = IsWhole-first end.history m.history g.history (meaning_is_whole bytes)
+  is_whole = IsWhole-first end.history m.history g.history (meaning_is_whole (Some (mark_of f)) bytes)
 
   -- from any state of a server that expects the first frame of a history
   module _ (before state : ServerState) (expects : Expects 0 before) (honest : IsOverHonest f before now.told end.outside.told state) where
@@ -294,7 +295,7 @@ module _ (f : KeyedFn) (laws : IsKeyedFn f) (bytes : List ℕ) (now : Outside) (
               events = [];
               adds = u.nothing ∙ Adds-nothing now.told;
               session = ap (λ k. map as_event (session_with f k m.history)) (sym none);
-              answers = u.none ∙ ap shown_in_turn (sym (keyless 1 (script_lines bytes) none));
+              answers = u.none ∙ ap shown_in_turn (sym (keyless (Some (mark_of f)) 1 (script_lines bytes) none));
               stored = sym (served [] (u.nothing ∙ Adds-nothing now.told)).0 ∙ ap (λ k. (steps f before (frames_with f k m.history)).0) (sym none);
             }
         | inr (inl u) ↦ absurd (omega (arith, low, ap status_of u.stops, turned_status 0 0 u.away.events u.cause u.away.turned))
@@ -321,7 +322,7 @@ module _ (f : KeyedFn) (laws : IsKeyedFn f) (bytes : List ℕ) (now : Outside) (
       -- so the lines that were printed are the meaning's
       own_text : text_with g.answers m.shown ≡ flat_map text_of (map said m.shown)
       own_text = ap (λ answers. flat_map text_of (with_answers answers m.shown))
-          (ap (map in_order) whole.answers ∙ in_order-shown_in_turn m.history kept ∙ finds-meant 1 (script_lines bytes))
+          (ap (map in_order) whole.answers ∙ in_order-shown_in_turn m.history kept ∙ finds-meant (Some (mark_of f)) 1 (script_lines bytes))
           ∙ ap (flat_map text_of) (with_answers-finds m.shown)
 
     -- Promise P162, also here
@@ -343,7 +344,7 @@ module _ (f : KeyedFn) (laws : IsKeyedFn f) (bytes : List ℕ) (now : Outside) (
           events = all.events;
           adds = subst (λ told. Adds now.told told all.events) (sym ends.told) all.adds;
           session = all.session;
-          simulated = record { passed = session_of f m; made = session_with-simulated f m.key m.history (meaning_is_whole bytes) kept; same = all.session };
+          simulated = record { passed = session_of f m; made = session_with-simulated f m.key m.history (meaning_is_whole (Some (mark_of f)) bytes) kept; same = all.session };
           kept = ends.kept ∙ KeepsFirst-all _ _ (status_of end.stop) now.kept end.outside.kept (λ e. absurd (omega (arith, low, e))) (λ e. absurd (omega (arith, low, e))) records.kept ∙ (λ i. with_records (records_with f (well.1 i) (history i)) now.kept);
           stored = all.stored;
         }

@@ -5,18 +5,19 @@ use Rattle.std.specs.List.{list_all, position_from, AllByRecursion, IsDistinct}
 use Rattle.std.specs.Option.{option_and_then, option_map}
 use Rattle.std.proofs.lemmas.Bool.{true≢false, eqb-false, lt-ltb, ltb-false}
 use Rattle.std.proofs.lemmas.List.Elements.{All-nil}
-use Rattle.client_registry.proofs.HistoryLaws.{IsKept-begun, IsKept-longer, commands_in-longer, frames_in-below, counter_in-below, accepts-add, accepts-delete, accepts-search}
+use Rattle.client_registry.proofs.HistoryLaws.{IsKept-begun, IsKept-renewed, IsKept-longer, commands_in-longer, frames_in-below, counter_in-below, accepts-add, accepts-delete, accepts-search}
 use Rattle.client_registry.proofs.PushLaws.{IsCollected-push}
 use Rattle.client_registry.specs.declared.faults.SizeFault.{SizeFault}
 use Rattle.client_registry.specs.WordRule.{word_refusal}
 use Rattle.client_registry.specs.Document.{Document}
 use Rattle.client_registry.specs.DocumentRule.{IsDocument}
 use Rattle.client_registry.specs.Documents.{IsCollected}
-use Rattle.client_registry.specs.Acceptance.{size_refusal}
+use Rattle.client_registry.specs.Acceptance.{frames_needed, size_refusal}
+use Rattle.client_registry.specs.Epochs.{setup_renewed}
 use Rattle.client_registry.specs.Command.{Command, Add, Delete, Search, is_update}
-use Rattle.client_registry.specs.Histories.{is_set_up, longer, is_live_in, is_listed_in, counter_in, frames_in, accepts, commands_in, IsKept}
-use Rattle.client_registry.specs.Run.{History}
-use Rattle.client_registry.specs.Setup.{setup_with}
+use Rattle.client_registry.specs.Histories.{is_set_up, longer, renewed, commands_in, is_live_in, is_listed_in, counter_in, frames_in, accepts, IsKept}
+use Rattle.client_registry.specs.Run.{History, last_run}
+use Rattle.client_registry.specs.Setup.{Setup, setup_with}
 use Rattle.client_registry.specs.Sized.{IsSizedCommand}
 use Rattle.sse_script.specs.declared.refusal.Refusal.TheVariants.{Zero, AlreadyLive, UnknownDocument, CounterFull, HistoryFull}
 use Rattle.script_documents.specs.LineDocument.{document}
@@ -26,11 +27,12 @@ use Rattle.std.proofs.lemmas.List.{length-map}
 use Rattle.bool_search.specs.Fields.{words_of}
 use Rattle.def_script_meaning.proofs.QueryWords.{IsWord, words_are_words, words_few}
 use Rattle.def_script_meaning.proofs.QueryLaws.{searching, longer-none, longer-twice, set_up-longer}
-use Rattle.def_script_meaning.specs.Refused.{size_refused, index_refusal, frame_refusal, counter_refusal, add_refusal, delete_refusal}
-use Rattle.def_script_meaning.specs.Outcome.{Place, Outcome, opened, outcome, after, is_refusal}
-use Rattle.def_script_meaning.specs.Lines.{Request, Doc, SetupLine, AddLine, Del, Find, Query, Line, Empty, Key, Command as CommandLine}
+use Rattle.def_script_meaning.specs.Refused.{size_refused, index_refusal, frame_refusal, live_refusal, frames_refusal, renewal_refusal, counter_refusal, add_refusal, delete_refusal}
+use Rattle.def_script_meaning.specs.Outcome.{Place, Outcome, opened, setup_after, outcome, after, is_refusal}
+use Rattle.def_script_meaning.specs.Lines.{Request, Doc, SetupLine, AddLine, Del, Find, Query, RebuildLine, Line, Empty, Key, Command as CommandLine}
 use Rattle.def_script_meaning.specs.Meaning.{follow, meant_from}
 use Rattle.def_script_meaning.proofs.Outcomes.{ByCases, by_cases}
+use Rattle.def_script_meaning.proofs.Renewals.{IsCollected-renewed}
 
 index_passed : (docs : List Document) (b big pad : ℕ) → index_refusal docs b big pad ≡ None → size_refusal (setup_with docs b big pad) ≡ None
 index_passed docs b big pad h = by (size_refusal (setup_with docs b big pad)) h
@@ -38,6 +40,20 @@ index_passed docs b big pad h = by (size_refusal (setup_with docs b big pad)) h
     by : (r : Option SizeFault) → option_map size_refused r ≡ None → r ≡ None
     by None h = refl
     by (Some fault) h = absurd (some-none _ h)
+
+size_passed : (s : Setup) → option_map size_refused (size_refusal s) ≡ None → size_refusal s ≡ None
+size_passed s h = by (size_refusal s) h
+  where
+    by : (r : Option SizeFault) → option_map size_refused r ≡ None → r ≡ None
+    by None h = refl
+    by (Some fault) h = absurd (some-none _ h)
+
+renewal_frames : (n : ℕ) → (if nat_lt (2 ^ 32 - 1) n then Some HistoryFull else None) ≡ None → n < 2 ^ 32
+renewal_frames n = by (nat_lt (2 ^ 32 - 1) n) refl
+  where
+    by : (b : Bool) → nat_lt (2 ^ 32 - 1) n ≡ b → (if b then Some HistoryFull else None) ≡ None → n < 2 ^ 32
+    by true e h = absurd (some-none _ h)
+    by false e h' = let le : n ≤ 2 ^ 32 - 1 = ltb-false _ _ e in omega (arith, le)
 
 -- no update frame is missing for one update more
 frame_passed : (h : History) → frame_refusal h ≡ None → frames_in h + 1 < 2 ^ 32
@@ -97,6 +113,7 @@ IsWithin (AddLine id words) = id < 2 ^ 64
 IsWithin (Del id) = id < 2 ^ 64
 IsWithin (Find word) = Unit {0}
 IsWithin (Query fields) = Unit {0}
+IsWithin (RebuildLine key) = Unit {0}
 
 abbrev pub IsWithinItem : Option Line → Type 0
 IsWithinItem None = Unit {0}
@@ -114,8 +131,8 @@ no_documents : IsCollected []
 unfolding IsDistinct
 no_documents = record { documents = omega arith; pairs = omega arith; different = tt; are_documents = All-nil IsDocument }
 
-pub IsKeptAt-opened : (n : ℕ) (key : List ℕ) → IsKeptAt n (opened key)
-IsKeptAt-opened n key = record { documents = no_documents; history = tt; few = omega arith }
+pub IsKeptAt-opened : (mark : Option (List ℕ → List ℕ)) (n : ℕ) (key : List ℕ) → IsKeptAt n (opened mark key)
+IsKeptAt-opened mark n key = record { documents = no_documents; history = tt; few = omega arith }
 
 kept_longer : (n : ℕ) (place : Place) → IsKeptAt n place → IsKeptAt (n + 32) place
 kept_longer n place kept = record { documents = kept.documents; history = kept.history; few = omega (arith, kept.few) }
@@ -141,6 +158,19 @@ module _ (n : ℕ) (place : Place) (line : Request) (within : IsWithin line) (ke
     few = omega (arith, kept.few, commands_in-longer place.history (c ∷ []));
   }
 
+  kept_renewal : (h : History) (key : List ℕ) → IsKept h → is_set_up h ≡ true → renewal_refusal h (setup_after h) ≡ None → commands_in h ≤ n → IsCollected place.documents
+      → IsKeptAt (n + 32) (record place { history = renewed key h })
+  kept_renewal None key was up e few docs = absurd (true≢false (sym up))
+  kept_renewal (Some es) key was up e few docs =
+      let s = setup_renewed (last_run es) in
+      let first = neither (live_refusal s.documents) _ e in
+      let second = neither (option_map size_refused (size_refusal s)) (frames_refusal (Some es) s) first.1 in
+      let below : frames_in (Some es) + frames_needed s < 2 ^ 32 = renewal_frames (frames_in (Some es) + frames_needed s) second.1 in record {
+        documents = docs;
+        history = IsKept-renewed es key was (IsCollected-renewed es was.0 first.0) (size_passed s second.0) below;
+        few = omega (arith, few);
+      }
+
   cases : ByCases place line Kept
   cases = record {
     refuses = λ refusal. kept_longer n place kept;
@@ -162,6 +192,7 @@ module _ (n : ℕ) (place : Place) (line : Request) (within : IsWithin line) (ke
     deletes = λ id is up e.
         let known = delete_passed place.history id up e in
         kept_command (Delete id) ((known.0, subst IsWithin is within), known.1) known.2;
+    renews = λ key up e. kept_renewal place.history key kept.history up (neither _ _ e).1 kept.few kept.documents;
     finds = λ word up e.
         kept_command (Search word) (word_passed 0 word (neither (option_and_then (word_refused 0) (word_refusal word)) None e).0, accepts-search place.history word up) (omega (arith, frames_in-below place.history kept.history));
     queries = λ fields up e. record {
@@ -186,11 +217,11 @@ kept_follow n place number (Some (CommandLine line) ∷ lines) refused within ke
     let rest = kept_follow (n + 32) (after (outcome place line) place) (number + 1) lines (refused || is_refusal (outcome place line)) within.1 (kept_next n place line within.0 kept) in
     (rest.0, omega (arith, rest.1))
 
-pub kept_meant : (number : ℕ) (lines : List (Option Line)) → AllByRecursion IsWithinItem lines
-    → IsKept (meant_from number lines).history × (commands_in (meant_from number lines).history ≤ 32 * length lines)
-kept_meant number [] within = (tt, omega arith)
-kept_meant number (None ∷ lines) within = (tt, omega arith)
-kept_meant number (Some Empty ∷ lines) within = let rest = kept_meant (number + 1) lines within.1 in (rest.0, omega (arith, rest.1))
-kept_meant number (Some (Key key) ∷ lines) within =
-    let rest = kept_follow 0 (opened key) (number + 1) lines false within.1 (IsKeptAt-opened 0 key) in (rest.0, omega (arith, rest.1))
-kept_meant number (Some (CommandLine line) ∷ lines) within = (tt, omega arith)
+pub kept_meant : (mark : Option (List ℕ → List ℕ)) (number : ℕ) (lines : List (Option Line)) → AllByRecursion IsWithinItem lines
+    → IsKept (meant_from mark number lines).history × (commands_in (meant_from mark number lines).history ≤ 32 * length lines)
+kept_meant mark number [] within = (tt, omega arith)
+kept_meant mark number (None ∷ lines) within = (tt, omega arith)
+kept_meant mark number (Some Empty ∷ lines) within = let rest = kept_meant mark (number + 1) lines within.1 in (rest.0, omega (arith, rest.1))
+kept_meant mark number (Some (Key key) ∷ lines) within =
+    let rest = kept_follow 0 (opened mark key) (number + 1) lines false within.1 (IsKeptAt-opened mark 0 key) in (rest.0, omega (arith, rest.1))
+kept_meant mark number (Some (CommandLine line) ∷ lines) within = (tt, omega arith)

@@ -1,6 +1,6 @@
 -- What holds of the words of a query that isn't refused: each of them is a word, and there are 1 to 32.
-use Rattle.std.proofs.Common.{◌≡◌, ℕ, zero, suc, ◌+◌, ◌*◌, ◌≤◌, Bool, true, false, not, List, [], ◌∷◌, length, nat_lt, refl, sym, ap, ◌∙◌, arith}
-use Rattle.std.specs.Prelude.{filter, map, filter_map, bytes_eq, codes, Option, None, Some, if◌then◌else◌}
+use Rattle.std.proofs.Common.{◌≡◌, ℕ, zero, suc, ◌+◌, ◌*◌, ◌≤◌, Bool, true, false, not, List, [], ◌∷◌, length, nat_lt, refl, ap, ◌∙◌, arith}
+use Rattle.std.specs.Prelude.{filter, map, bytes_eq, codes, Option, None, Some, if◌then◌else◌}
 use Rattle.std.specs.List.{AllByRecursion, cons_option}
 use Rattle.std.specs.Option.{option_and_then, option_map, option_or}
 use Rattle.std.proofs.lemmas.Bool.{ltb-false}
@@ -17,7 +17,7 @@ use Rattle.client_registry.specs.declared.faults.WordFault.{WordFault}
 use Rattle.client_registry.specs.declared.faults.WordFault.TheVariants as words
 use Rattle.client_registry.specs.Documents.{first_seen}
 use Rattle.client_registry.specs.WordRule.{word_refusal}
-use Rattle.script_documents.proofs.Passed.{some-none, neither}
+use Rattle.script_documents.proofs.Passed.{some-none}
 use Rattle.script_documents.specs.Refused.{word_refused}
 
 abbrev pub IsWord : List ℕ → Type 0

@@ -4,10 +4,10 @@ use Rattle.std.specs.Prelude.{filter, Option}
 use Rattle.std.proofs.Math.Seq.{take-add, take-append-add, take-length}
 use Rattle.std.proofs.lemmas.List.{append-nil, map-append, take-map}
 use Rattle.client_records.proofs.RecordedLaws as recorded_laws
-use Rattle.client_records.specs.Records.{update_record}
+use Rattle.client_records.specs.Records.{renewal_record, update_record}
 use Rattle.client_registry.proofs.HistoryLaws.{IsFirstOf-same, IsFirstOf-trans}
 use Rattle.client_registry.specs.Command.{Command, is_update}
-use Rattle.client_registry.specs.Histories.{empty, is_set_up, longer, IsFirstOf, IsOneEpoch}
+use Rattle.client_registry.specs.Histories.{empty, is_set_up, longer, renewed, IsFirstOf}
 use Rattle.client_registry.specs.Run.{History}
 use Rattle.keyed_fn.specs.KeyFormulas.{mark_of}
 use Rattle.keyed_fn.specs.KeyedFn.{KeyedFn}
@@ -29,7 +29,6 @@ use Rattle.def_script_meaning.specs.Session.{session_with}
 use Rattle.def_script_meaning.specs.Stops.{Stop, status_of}
 use Rattle.def_script_meaning.proofs.FollowedPlaces.{first-next, frames-next, after-key}
 use Rattle.def_script_meaning.proofs.GoneAsMeant.{Adds-nothing, Adds-joined, Keeps-nothing, Keeps-joined}
-use Rattle.def_script_meaning.proofs.OneEpoch.{one_next}
 use Rattle.def_script_meaning.proofs.Outcomes.{by_cases}
 use Rattle.def_script_meaning.proofs.RunGoes.{clash_status}
 use Rattle.def_script_meaning.proofs.Sent.{sent_in-append, sent_in-bare, sent_in-exchange, sent_in-cut, sent_in-turned, frames_with_hello}
@@ -39,7 +38,12 @@ use Rattle.def_script_meaning.proofs.Simulated.{frames_among}
 
 pub records-longer : (f : KeyedFn) (key : List ℕ) (h : History) (commands : List Command) → is_set_up h ≡ true
     → records_in f key (longer commands h) ≡ records_in f key h ++ map update_record (filter is_update commands)
-records-longer f key h commands up = recorded_laws.records-longer (mark_of f key) h commands up
+records-longer f key h commands up = recorded_laws.records-longer (mark_of f) key h commands up
+
+-- those after a renewal are those before it, and then its own
+pub records-renewed : (f : KeyedFn) (key own : List ℕ) (h : History) → is_set_up h ≡ true → records_in f key (renewed own h) ≡ records_in f key h ++ renewal_record (mark_of f own) ∷ []
+records-renewed f key own None up = absurd (cc)
+records-renewed f key own (Some es) up = refl
 
 module _ (f : KeyedFn) (place : Place) (line : Request) where
   abbrev result : Outcome
@@ -55,6 +59,7 @@ module _ (f : KeyedFn) (place : Place) (line : Request) where
     deletes = λ id is up e. omega arith;
     finds = λ word up e. omega arith;
     queries = λ fields up e. omega (arith, ap (λ updates. length (map update_record updates)) (no_updates (words_of fields)));
+    renews = λ key up e. omega arith;
   })
 
   -- the records after a line are those before it, and then its own
@@ -67,6 +72,7 @@ module _ (f : KeyedFn) (place : Place) (line : Request) where
     deletes = λ id is up e. records-longer f place.key place.history _ up;
     finds = λ word up e. records-longer f place.key place.history _ up;
     queries = λ fields up e. records-longer f place.key place.history _ up;
+    renews = λ key up e. records-renewed f place.key key place.history up;
   })
     where
       before : (h : History) → is_set_up h ≡ false → (records : List (List ℕ)) → records ≡ records_in f place.key h ++ records
@@ -124,7 +130,6 @@ pub record KeptSince (f : KeyedFn) (key : List ℕ) (h : History) (now : Outside
   pub count : ℕ
   pub sent : sent_in events ≡ map frame_bytes (take count more)
   pub whole : status_of end.stop ≢ 6 → status_of end.stop ≢ 7 → status_of end.stop ≢ 8 → held ≡ end.history
-  pub one_epoch : IsOneEpoch h → IsOneEpoch end.history
 
 module _ (f : KeyedFn) where
   -- A run that stops between two lines.
@@ -148,7 +153,6 @@ module _ (f : KeyedFn) where
     count = 0;
     sent = refl;
     whole = λ disk memory clash. refl;
-    one_epoch = λ one. one;
   })
 
   since-reading : (key : List ℕ) (h : History) (now : Outside) (end : Ended) → StopsReading now (Some key) h end → KeptSince f key h now end
@@ -187,7 +191,6 @@ module _ (f : KeyedFn) where
         count = 0;
         sent = refl;
         whole = λ disk memory clash. absurd (elim status [ inl e ↦ disk e | inr (inl e) ↦ memory e | inr (inr e) ↦ clash e ]);
-        one_epoch = λ one. subst IsOneEpoch (sym s.history) (one_next place line one);
       }
 
       -- its records were taken, and of its frames a front was sent
@@ -211,7 +214,6 @@ module _ (f : KeyedFn) where
         count = sent.0;
         sent = sent.1;
         whole = λ disk memory clash. refl;
-        one_epoch = λ one. subst IsOneEpoch (sym s.history) (one_next place line one);
       }
 
       -- nothing was handed over
@@ -289,7 +291,6 @@ module _ (f : KeyedFn) where
               ∙ sym (map-append frame_bytes (frames_by f place came) (take w.count w.more))
               ∙ ap (map frame_bytes) (sym (take-append-add (frames_by f place came) w.more w.count));
           whole = w.whole;
-          one_epoch = λ one. w.one_epoch (one_next place line one);
         }
 
   -- All lines.
@@ -353,10 +354,10 @@ module _ (f : KeyedFn) where
         whole = λ disk memory clash. refl;
       }))
 
-  recorded-greeted : (key : List ℕ) (number : ℕ) (lines : List (Option Line)) (now next : Outside) (end : Ended) → IsGreeted 0 0 now next → Runs f (opened key) number lines false next end
+  recorded-greeted : (key : List ℕ) (number : ℕ) (lines : List (Option Line)) (now next : Outside) (end : Ended) → IsGreeted 0 0 now next → Runs f (opened (Some (mark_of f)) key) number lines false next end
       → IsRecorded f end.key end.history (status_of end.stop) now end.outside
   recorded-greeted key number lines now next end greeted runs =
-      let w = kept_since (opened key) number lines false next end runs in
+      let w = kept_since (opened (Some (mark_of f)) key) number lines false next end runs in
       subst (λ k. IsRecorded f k end.history (status_of end.stop) now end.outside) (sym w.same_key)
       (record {
         held = w.held;

@@ -1,17 +1,23 @@
 -- What short scripts print and how they end, by their meaning; each line was computed apart from these definitions.
-use Rattle.std.proofs.Common.{◌≡◌, ℕ, List, [], ◌∷◌, ◌++◌, flat_map, map, refl}
+use Rattle.std.proofs.Common.{◌≡◌, ℕ, List, [], ◌∷◌, ◌++◌, drop, flat_map, get_or, map, Some, None, refl}
 use Rattle.std.specs.Prelude.{codes, replicate}
 use Rattle.std.specs.Fmt.{digits}
 use Rattle.std.specs.Str.{is_utf8, chars}
 use Rattle.std.specs.Str.Lossy.{utf8_valid_len}
+use Rattle.client_records.specs.Records.{renewal_record}
 use Rattle.hex.proofs.OnLiterals.{hex_on_literals}
+use Rattle.keyed_fn.specs.KeyFormulas.{mark_of}
+use Rattle.keyed_fn.specs.KeyedFn.{KeyedFn, keyed_fn}
+use Rattle.keyed_fn.specs.Toy.{toy_prf, toy_pad}
+use Rattle.sse_frames.specs.Frames.{frame_bytes}
 use Rattle.sse_script.specs.Shown.{Found}
 use Rattle.sse_script.specs.Texts.{text_of}
-use Rattle.def_script_meaning.specs.Outcome.{Finds, said}
 use Rattle.def_script_meaning.specs.Carries.{with_answers}
 use Rattle.def_script_meaning.specs.Lines.{lines_in}
 use Rattle.def_script_meaning.specs.Meaning.{Meaning, meant}
 use Rattle.def_script_meaning.specs.Outcome.{Finds, said}
+use Rattle.def_script_meaning.specs.Recorded.{records_with}
+use Rattle.def_script_meaning.specs.Session.{frames_of}
 use Rattle.def_script_meaning.specs.Stops.{stop_text, status_of}
 use lib.Utf8.{encode}
 
@@ -20,7 +26,7 @@ abbrev key_zero : List ℕ
 key_zero = codes "key " ++ replicate 64 48
 
 abbrev of_lines : List (List ℕ) → Meaning
-of_lines lines = meant (lines_in lines)
+of_lines lines = meant (Some (λ key. key)) (lines_in lines)
 
 -- all that is printed for these lines after the key line
 abbrev printed : List (List ℕ) → List ℕ
@@ -168,6 +174,70 @@ status_of_refused = refl
 status_of_bad_line : status_of (of_lines (key_zero ∷ codes "find a" ∷ codes "setup 1" ∷ [])).end ≡ 2
 unfolding hex_on_literals utf8_valid_len is_utf8 chars encode
 status_of_bad_line = refl
+
+-- A new key: a document of the setup deleted, another added, and then this line.
+abbrev with_renewal : List ℕ → List (List ℕ)
+with_renewal line = codes "doc 1 a" ∷ codes "doc 2 a" ∷ codes "setup 1 2" ∷ codes "del 1" ∷ codes "add 3 a" ∷ line ∷ codes "find a" ∷ []
+
+-- 32 bytes 01
+abbrev of_ones : List ℕ
+of_ones = codes "rebuild " ++ flat_map (λ b. b) (replicate 32 (codes "01"))
+
+abbrev of_zeros : List ℕ
+of_zeros = codes "rebuild " ++ replicate 64 48
+
+rebuilt :
+    printed (with_renewal of_ones)
+    ≡ codes "set up 1 words 1 blocks\ndeleted 1\nadded 3\nrebuilt 1 words 1 blocks\nfound 2: 2 3\n"
+unfolding digits hex_on_literals utf8_valid_len is_utf8 chars encode
+rebuilt = refl
+
+status_of_rebuilt : status_of (of_lines (key_zero ∷ with_renewal of_ones)).end ≡ 0
+unfolding hex_on_literals utf8_valid_len is_utf8 chars encode
+status_of_rebuilt = refl
+
+-- the same under the toy function; frame 7 is that of the renewed setup's dictionary
+abbrev toy : KeyedFn
+toy = keyed_fn toy_prf toy_pad
+
+abbrev under_toy : Meaning
+under_toy = meant (Some (mark_of toy)) (lines_in (key_zero ∷ with_renewal of_ones))
+
+rebuilt_under_toy : flat_map text_of (map said under_toy.shown) ≡ codes "set up 1 words 1 blocks\ndeleted 1\nadded 3\nrebuilt 1 words 1 blocks\nfound 2: 2 3\n"
+unfolding digits hex_on_literals utf8_valid_len is_utf8 chars encode
+rebuilt_under_toy = refl
+
+seventh_frame : get_or (map frame_bytes (frames_of toy under_toy)) 7 []
+    ≡ 0x00 ∷ 0x00 ∷ 0x00 ∷ 0x22 ∷ 0x03 ∷ 0x00 ∷ 0x00 ∷ 0x00 ∷ 0x07 ∷ 0x00 ∷ 0x09 ∷ 0x00 ∷ 0x01 ∷ 0xc4 ∷ 0xc6 ∷ 0xc8 ∷ 0xca ∷ 0xcc ∷ 0xce ∷ 0xd0 ∷ 0xd2 ∷ 0xd4 ∷ 0xd6 ∷ 0xd8 ∷ 0xda ∷ 0xdc ∷ 0xde ∷ 0xe0 ∷ 0xe2 ∷ 0xc4 ∷ 0xc6 ∷ 0xc7 ∷ 0xc8 ∷ 0xc9 ∷ 0xca ∷ 0xcb ∷ 0xcc ∷ 0xcc ∷ []
+unfolding hex_on_literals utf8_valid_len is_utf8 chars encode
+seventh_frame = refl
+
+-- the record of the renewal stands behind those of the setup and of two updates
+fourth_record : drop 3 (records_with toy under_toy.key under_toy.history) ≡ renewal_record (mark_of toy (replicate 32 1)) ∷ []
+unfolding hex_on_literals utf8_valid_len is_utf8 chars encode
+fourth_record = refl
+
+-- the first epoch's key, and that of the one after it
+used_key :
+    printed (with_renewal of_zeros)
+    ≡ codes "set up 1 words 1 blocks\ndeleted 1\nadded 3\nrefused: key of epoch 0\nfound 2: 2 3\n"
+unfolding digits hex_on_literals utf8_valid_len is_utf8 chars encode
+used_key = refl
+
+status_of_used_key : status_of (of_lines (key_zero ∷ with_renewal of_zeros)).end ≡ 1
+unfolding hex_on_literals utf8_valid_len is_utf8 chars encode
+status_of_used_key = refl
+
+used_later :
+    printed (of_ones ∷ codes "setup 1 1" ∷ of_ones ∷ of_ones ∷ of_zeros ∷ codes "find a" ∷ [])
+    ≡ codes "refused: not set up\nset up 0 words 0 blocks\nrebuilt 0 words 0 blocks\nrefused: key of epoch 1\nrefused: key of epoch 0\nfound 0:\n"
+unfolding digits hex_on_literals utf8_valid_len is_utf8 chars encode
+used_later = refl
+
+-- where keys aren't compared none is refused
+uncompared : status_of (meant None (lines_in (key_zero ∷ with_renewal of_zeros))).end ≡ 0
+unfolding hex_on_literals utf8_valid_len is_utf8 chars encode
+uncompared = refl
 
 -- other answers than the right ones stand in their places
 other_answers : with_answers ((77 ∷ []) ∷ []) (Finds (3 ∷ 9 ∷ []) ∷ Finds (4 ∷ []) ∷ []) ≡ Found (77 ∷ []) ∷ Found [] ∷ []

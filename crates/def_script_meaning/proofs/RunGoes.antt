@@ -1,4 +1,5 @@
 -- A run goes as its script means: by induction over the lines that are left.
+use Rattle.keyed_fn.specs.KeyFormulas.{mark_of}
 use Rattle.std.proofs.Common.{◌≡◌, ◌⊎◌, ℕ, ◌+◌, ◌≤◌, inl, inr, Bool, true, false, ◌||◌, List, [], ◌∷◌, ◌++◌, length, take, drop, Some, None, refl, sym, ap, ◌∙◌, subst, arith, append_assoc}
 use Rattle.std.specs.Prelude.{Option, option_map}
 use Rattle.std.specs.Io.KnownBytes.{append_known}
@@ -327,7 +328,7 @@ module _ (f : KeyedFn) where
   goes-reading m now end (inr e) = goes-here m now _ end e (omega arith) (λ few. absurd (omega (arith, few)))
 
   -- a run goes as its lines mean, whose identifiers are below 2^64
-  pub goes_from : (number : ℕ) (lines : List (Option Line)) (now : Outside) (end : Ended) → AllByRecursion IsWithinItem lines → Opens f number lines now end → GoesFirst f (meant_from number lines) now end
+  pub goes_from : (number : ℕ) (lines : List (Option Line)) (now : Outside) (end : Ended) → AllByRecursion IsWithinItem lines → Opens f number lines now end → GoesFirst f (meant_from (Some (mark_of f)) number lines) now end
   goes_from number [] now end within (inl e) = goes-here _ now _ end e (omega arith) (λ few. (refl, refl, refl, refl))
   goes_from number [] now end within (inr reading) = goes-reading _ now end reading
   goes_from number (None ∷ lines) now end within (inl e) = goes-here _ now _ end e (omega arith) (λ few. (refl, refl, refl, refl))
@@ -338,8 +339,8 @@ module _ (f : KeyedFn) where
   goes_from number (Some Empty ∷ lines) now end within (inr opens) = goes_from (number + 1) lines now end within.1 opens
   goes_from number (Some (Key key) ∷ lines) now end within (inl reading) = goes-reading _ now end reading
   goes_from number (Some (Key key) ∷ lines) now end within (inr (inl away)) =
-      let m = follow (opened key) (number + 1) lines false in record {
-        key = inr (away.same_key ∙ sym (follow-key (opened key) (number + 1) lines false));
+      let m = follow (opened (Some (mark_of f)) key) (number + 1) lines false in record {
+        key = inr (away.same_key ∙ sym (follow-key (opened (Some (mark_of f)) key) (number + 1) lines false));
         history = subst (λ h. IsFirstOf h m.history) (sym away.history) tt;
         answers = [];
         passes = inr (inl (record { key = key; same_key = away.same_key; cause = away.cause; stops = away.stops; away = away.away; none = refl; most = λ next least most. omega (arith, ap updates_count (λ i. frames_with f (away.same_key i) (away.history i))) }));
@@ -347,9 +348,9 @@ module _ (f : KeyedFn) where
         ended = λ few. absurd (omega (arith, few, ap status_of away.stops, turned_status 0 0 away.away.events away.cause away.away.turned));
       }
   goes_from number (Some (Key key) ∷ lines) now end within (inr (inr (next, greeted, runs))) =
-      let m = follow (opened key) (number + 1) lines false in
-      let w = went 0 (opened key) (number + 1) lines false next end within.1 (IsKeptAt-opened 0 key) runs in record {
-        key = inr (w.same_key ∙ sym (follow-key (opened key) (number + 1) lines false));
+      let m = follow (opened (Some (mark_of f)) key) (number + 1) lines false in
+      let w = went 0 (opened (Some (mark_of f)) key) (number + 1) lines false next end within.1 (IsKeptAt-opened (Some (mark_of f)) 0 key) runs in record {
+        key = inr (w.same_key ∙ sym (follow-key (opened (Some (mark_of f)) key) (number + 1) lines false));
         history = w.history;
         answers = w.answers;
         passes = inr (inr (record {
@@ -362,10 +363,10 @@ module _ (f : KeyedFn) where
         prints = record { p = w.prints.p; written = w.prints.written ∙ ap (λ o. append_known o (take w.prints.p (text_with w.answers m.shown))) greeted.unprinted };
         ended = λ few.
             let well = w.ended_well few in
-            (well.0, w.same_key ∙ sym (follow-key (opened key) (number + 1) lines false), well.1, well.2 ∙ ap (λ o. append_known o (text_with w.answers m.shown)) greeted.unprinted);
+            (well.0, w.same_key ∙ sym (follow-key (opened (Some (mark_of f)) key) (number + 1) lines false), well.1, well.2 ∙ ap (λ o. append_known o (text_with w.answers m.shown)) greeted.unprinted);
       }
 
   -- Promise P162, also here
   -- so a run goes as its script means
-  pub goes : (bytes : List ℕ) (now : Outside) (end : Ended) → Opens f 1 (script_lines bytes) now end → GoesFirst f (meaning bytes) now end
+  pub goes : (bytes : List ℕ) (now : Outside) (end : Ended) → Opens f 1 (script_lines bytes) now end → GoesFirst f (meaning (Some (mark_of f)) bytes) now end
   goes bytes now end opens = goes_from 1 (script_lines bytes) now end (IsWithin-lines_in (lines_of bytes)) opens

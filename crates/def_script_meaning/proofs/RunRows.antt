@@ -79,10 +79,10 @@ abbrev pub received : ReplyText → Event
 received reply = Received (reply_bytes reply)
 
 abbrev pub place : Place
-place = record { key = key; documents = document 1 (a ∷ []) ∷ []; history = None }
+place = record { key = key; mark = Some (mark_of toy); used = []; documents = document 1 (a ∷ []) ∷ []; history = None }
 
 abbrev searching : Place
-searching = record { key = key; documents = document 1 (a ∷ []) ∷ []; history = Some (From at_first (record { setup = setup; later = [] })) }
+searching = record { key = key; mark = Some (mark_of toy); used = []; documents = document 1 (a ∷ []) ∷ []; history = Some (From at_first (record { setup = setup; later = [] })) }
 
 abbrev pub setting_up : List FrameText
 setting_up = frames_by toy place (SetsUp setup)
@@ -129,7 +129,7 @@ set_up_records = setup_record (mark_of toy key) setup ∷ []
 
 -- The run.
 
-pub collects_row : (o : Outside) → Carries toy (opened key) (Collects (document 1 (a ∷ []))) o o
+pub collects_row : (o : Outside) → Carries toy (opened (Some (mark_of toy)) key) (Collects (document 1 (a ∷ []))) o o
 collects_row o = record {
   kept = Keeps-nothing o.kept;
   answers = [];
@@ -225,7 +225,7 @@ free_row = IsCollisionFree-from_test (table_at toy key run) at_first run refl
 
 kept_row : IsKept (Some (From at_first run))
 unfolding hex_on_literals utf8_valid_len is_utf8 chars encode
-kept_row = (meaning_is_kept script).0
+kept_row = (meaning_is_kept (Some (mark_of toy)) script).0
 
 honest_row : IsOverHonest toy server.at_first (Some []) (Some passing) (steps toy server.at_first frames).0
 unfolding stepped
@@ -248,7 +248,7 @@ calm_row = record {
 }
 
 -- so what is said of such runs is said of this one
-headline_row : Headline toy server.at_first (meaning script) (seen [] [] []) (seen passing set_up_records (set_up_text ++ found_text)) 0 (steps toy server.at_first frames).0
+headline_row : Headline toy server.at_first (meaning (Some (mark_of toy)) script) (seen [] [] []) (seen passing set_up_records (set_up_text ++ found_text)) 0 (steps toy server.at_first frames).0
 unfolding hex_on_literals utf8_valid_len is_utf8 chars encode
 headline_row = headline toy toy_laws script (seen [] [] []) end opens_row server.at_first (steps toy server.at_first frames).0 (record { next = refl; stage = refl }) honest_row (seen passing set_up_records (set_up_text ++ found_text))
     (record { told = refl; kept = refl; q = 0; printed = sym (append_known-nothing (Some (set_up_text ++ found_text))) }) free_row calm_row

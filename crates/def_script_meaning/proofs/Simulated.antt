@@ -9,7 +9,7 @@ use Rattle.keyed_fn.specs.KeyedFn.{KeyedFn}
 use Rattle.sse_frames.specs.Exchange.{sent_among}
 use Rattle.sse_frames.specs.Frames.{FrameText, frame_bytes}
 use Rattle.sse_model.proofs.HistoryLaws.{sent_among-session}
-use Rattle.def_script_meaning.proofs.OneEpoch.{IsWhole-first}
+use Rattle.def_script_meaning.proofs.Whole.{IsWhole-first}
 use Rattle.def_script_meaning.proofs.Sent.{frames_with_hello, sent_first}
 use Rattle.def_script_meaning.specs.Carries.{Outside}
 use Rattle.def_script_meaning.specs.Goes.{GoesFirst}

@@ -1,15 +1,15 @@
 -- The traffic of a history is that of its first part and then that of the steps after it, which depends only on the last epoch of the first part.
-use Rattle.std.proofs.Common.{◌≡◌, ℕ, ◌+◌, List, [], ◌∷◌, ◌++◌, Some, refl, sym, ap, ◌∙◌, append_assoc}
+use Rattle.std.proofs.Common.{◌≡◌, ℕ, List, [], ◌∷◌, ◌++◌, None, Some, refl, sym, ap, ◌∙◌, append_assoc}
 use Rattle.std.specs.Prelude.{flat_map, fold}
 use Rattle.std.proofs.lemmas.List.{append-nil}
 use Rattle.std.proofs.lemmas.List.Concat.{flat_map-append}
 use Rattle.client_registry.proofs.HistoryLaws.{joined-longer, begins-with_commands, last_run-with_commands}
 use Rattle.client_registry.proofs.OverLaws.{over-append}
 use Rattle.client_registry.specs.Command.{Command}
-use Rattle.client_registry.specs.Epochs.{begins, behind, key_now, with_commands, setup_renewed, Step, Does, Renews, step_after}
-use Rattle.client_registry.specs.Histories.{shown_by, shown_in_turn}
+use Rattle.client_registry.specs.Epochs.{begins, behind, first_begins, key_now, with_commands, setup_renewed, Step, Does, Renews, step_after}
+use Rattle.client_registry.specs.Histories.{IsFirstOf, shown_by, shown_in_turn}
 use Rattle.client_registry.specs.Over.{over}
-use Rattle.client_registry.specs.Run.{Run, Epochs, From, Renewed, last_run}
+use Rattle.client_registry.specs.Run.{Run, History, Epochs, From, Renewed, last_run}
 use Rattle.keyed_fn.specs.KeyedFn.{KeyedFn}
 use Rattle.def_agreement.specs.Agreement.{shown_behind}
 use Rattle.sse_frames.specs.Exchange.{exchange, greeting}
@@ -19,7 +19,23 @@ use Rattle.sse_model.specs.Histories.{frames_sent, frames_behind, table_at}
 use Rattle.sse_model.specs.Names.{table}
 use Rattle.sse_model.specs.Transcript.{session}
 use Rattle.sse_model.specs.Wire.{frames_of_setup}
-use Rattle.def_script_meaning.specs.Since.{frames_of_step, frames_since, shown_of_step, shown_since}
+use Rattle.def_script_meaning.specs.Since.{frames_of_step, frames_since, last_epoch, records_of_step, records_since, shown_of_step, shown_since}
+use Rattle.def_script_meaning.specs.Recorded.{records_in}
+use Rattle.def_script_meaning.proofs.Recorded.{records-longer}
+use Rattle.def_script_meaning.proofs.Whole.{first_begins-step}
+
+-- a history that begins with these epochs is they with steps after them
+pub since : (es : Epochs) (h : History) → IsFirstOf (Some es) h → (more : List Step) × (h ≡ Some (fold step_after es more))
+since es None first = absurd first
+since es (Some whole) first = (first.0, ap (λ es. Some es) first.1)
+
+pub first-since : (es : Epochs) (more : List Step) → IsFirstOf (Some es) (Some (fold step_after es more))
+first-since es more = (more, refl)
+
+-- steps leave where the first epoch begins
+pub begins-since : (es : Epochs) (more : List Step) → first_begins (fold step_after es more) ≡ first_begins es
+begins-since es [] = refl
+begins-since es (step ∷ more) = begins-since (step_after es step) more ∙ first_begins-step es step
 
 module _ (f : KeyedFn) (key : List ℕ) where
   frames_sent-step : (es : Epochs) (step : Step) → frames_sent f key (Some (step_after es step)) ≡ frames_sent f key (Some es) ++ frames_of_step f key es step
@@ -33,6 +49,18 @@ module _ (f : KeyedFn) (key : List ℕ) where
       frames_sent-since (step_after es step) more
       ∙ ap (λ front. front ++ frames_since f key (step_after es step) more) (frames_sent-step es step)
       ∙ append_assoc (frames_sent f key (Some es)) (frames_of_step f key es step) (frames_since f key (step_after es step) more)
+
+  -- the records
+  records-step : (es : Epochs) (step : Step) → records_in f key (Some (step_after es step)) ≡ records_in f key (Some es) ++ records_of_step f step
+  records-step es (Does c) = records-longer f key (Some es) (c ∷ []) refl
+  records-step es (Renews own) = refl
+
+  pub records_in-since : (es : Epochs) (more : List Step) → records_in f key (Some (fold step_after es more)) ≡ records_in f key (Some es) ++ records_since f more
+  records_in-since es [] = sym (append-nil (records_in f key (Some es)))
+  records_in-since es (step ∷ more) =
+      records_in-since (step_after es step) more
+      ∙ ap (λ front. front ++ records_since f more) (records-step es step)
+      ∙ append_assoc (records_in f key (Some es)) (records_of_step f step) (records_since f more)
 
 -- what its searches show
 shown_over : (run : Run) (cs : List Command) → flat_map (λ r. r) (over (shown_by run.setup) [] (run.later ++ cs)) ≡ flat_map (λ r. r) (over (shown_by run.setup) [] run.later) ++ flat_map (λ r. r) (over (shown_by run.setup) run.later cs)
@@ -101,19 +129,15 @@ shown_since-alike k m es fs [] a = refl
 shown_since-alike k m es fs (step ∷ more) a = λ i. alike-shown k m es fs step a i ++ shown_since-alike k m (step_after es step) (step_after fs step) more (alike-step k m es fs step a) i
 
 module _ (f : KeyedFn) (key : List ℕ) (es : Epochs) where
-  -- the last epoch as a history of its own, which begins where it does
-  abbrev pub last_alone : Epochs
-  last_alone = From (begins es) (last_run es)
-
-  alone : EndAlike key (key_now key es) es last_alone
+  alone : EndAlike key (key_now key es) es (last_epoch es)
   alone = record { keys = refl; places = refl; runs = refl }
 
-  pub frames_since-last : (more : List Step) → frames_since f key es more ≡ frames_since f (key_now key es) last_alone more
-  frames_since-last more = frames_since-alike f key (key_now key es) es last_alone more alone
+  pub frames_since-last : (more : List Step) → frames_since f key es more ≡ frames_since f (key_now key es) (last_epoch es) more
+  frames_since-last more = frames_since-alike f key (key_now key es) es (last_epoch es) more alone
 
-  pub shown_since-last : (more : List Step) → shown_since es more ≡ shown_since last_alone more
-  shown_since-last more = shown_since-alike key (key_now key es) es last_alone more alone
+  pub shown_since-last : (more : List Step) → shown_since es more ≡ shown_since (last_epoch es) more
+  shown_since-last more = shown_since-alike key (key_now key es) es (last_epoch es) more alone
 
   -- so a session that resumes, knowing the last epoch, its key and where it begins, is the rest of the whole history's
-  pub session-last : (more : List Step) → session f key (Some (fold step_after es more)) ≡ session f key (Some es) ++ exchange (shown_since last_alone more) (frames_since f (key_now key es) last_alone more)
+  pub session-last : (more : List Step) → session f key (Some (fold step_after es more)) ≡ session f key (Some es) ++ exchange (shown_since (last_epoch es) more) (frames_since f (key_now key es) (last_epoch es) more)
   session-last more = session-since f key es more ∙ (λ i. session f key (Some es) ++ exchange (shown_since-last more i) (frames_since-last more i))

@@ -1,13 +1,13 @@
 -- Over an honest link that knows how each frame was answered: frames whose replies were those that are to come were each answered by the
 -- server's step, and none of them was refused. So a server that keeps its updates in a file keeps those among them.
-use Rattle.std.proofs.Common.{◌≡◌, ℕ, Bool, true, false, List, [], ◌∷◌, ◌++◌, map, drop, Option, None, Some, refl, sym, ap, ◌∙◌, subst, lit≤, append_assoc}
-use Rattle.std.specs.Prelude.{IfSome, filter, if◌then◌else◌}
+use Rattle.std.proofs.Common.{◌≡◌, ℕ, Bool, true, false, List, [], ◌∷◌, ◌++◌, ◌-◌, drop, map, Option, None, Some, refl, sym, ap, ◌∙◌, subst, lit≤, append_assoc}
+use Rattle.std.specs.Prelude.{IfSome, fold, if◌then◌else◌}
 use Rattle.std.specs.List.{AllByRecursion}
 use Rattle.std.specs.Option.{option_map_or}
 use Rattle.std.proofs.lemmas.Bool.{true≢false}
-use Rattle.client_registry.specs.Command.{Command, is_update}
-use Rattle.client_registry.specs.Histories.{IsKept, IsWhole, longer}
-use Rattle.client_registry.specs.Run.{History, Run, From, at_first}
+use Rattle.client_registry.specs.Epochs.{Step, first_begins, step_after}
+use Rattle.client_registry.specs.Histories.{IsKept, IsWhole}
+use Rattle.client_registry.specs.Run.{History, Epochs}
 use Rattle.keyed_fn.specs.KeyedFn.{KeyedFn, IsKeyedFn}
 use Rattle.def_link_events.proofs.Honest.{IsServed-exchange, Serves-frame}
 use Rattle.def_link_events.specs.Events.{Event, Sent, Received, IsKnown, AreKnown, IsStepped, AreStepped}
@@ -19,7 +19,6 @@ use Rattle.list_packing.specs.Parts.{parts}
 use Rattle.server_core.specs.Refusal.{clash, clash_at, first_known, first_of_two, in_place, is_next, refusal}
 use Rattle.server_core.specs.State.{ServerState}
 use Rattle.server_core.specs.Step.{answers, step, steps, taken}
-use Rattle.def_agreement.specs.Agreement.{shown_behind}
 use Rattle.def_agreement.specs.TakenFrames.{Expects}
 use Rattle.sse_frames.specs.Exchange as texts
 use Rattle.sse_frames.specs.Exchange.{Asked, ForNext, ForTook, ForAnswer, answers_behind, asked, exchange, expected, first_answer, greeting, replied}
@@ -29,11 +28,13 @@ use Rattle.sse_frames.specs.Replies.{ReplyText, Number, Clash, OutOfPlace, reply
 use Rattle.sse_frames.specs.SentParts.{pages_of}
 use Rattle.sse_model.proofs.ExchangeLaws.{session-exchange}
 use Rattle.def_script_meaning.proofs.Headline.{AreAnswered, history_is_answered, shown_with}
-use Rattle.def_script_meaning.proofs.RejoinedSessions.{frames_behind, rest_is_answered}
 use Rattle.def_script_meaning.proofs.Honest.{IsBehindGreeting, behind_greeting, not_lacking}
 use Rattle.def_script_meaning.specs.Exchange.{as_event, bare}
+use Rattle.def_script_meaning.proofs.RejoinedSessions.{frames_behind, rest_is_answered}
+use Rattle.def_script_meaning.proofs.TakenLast.{HasNoSearch}
 use Rattle.def_script_meaning.specs.Rejoins.{HasTaken, frames_under}
 use Rattle.def_script_meaning.specs.Session.{IsFree, frames_with, session_with}
+use Rattle.def_script_meaning.specs.Since.{shown_since}
 
 head_same : {A : Type 0} {x y : A} {xs ys : List A} → x ∷ xs ≡ y ∷ ys → x ≡ y
 head_same e = cc
@@ -234,7 +235,7 @@ pub record AreTaken (s : ServerState) (frames : List FrameText) (events : List E
   pub updates : updates_among all ≡ updates_among frames
 
 module _ (f : KeyedFn) (start : Served) (events : List Event) (known : AreKnown events) (end : Served) (served : IsServed f start events end) where
-  taken_behind_greeting : (next : ℕ) (shown : List (List ℕ)) (frames : List FrameText) → AreAnswered f start.state frames shown → map bare events ≡ map as_event (greeting next ++ exchange shown frames) → AreTaken start.state frames events
+  pub taken_behind_greeting : (next : ℕ) (shown : List (List ℕ)) (frames : List FrameText) → AreAnswered f start.state frames shown → map bare events ≡ map as_event (greeting next ++ exchange shown frames) → AreTaken start.state frames events
   taken_behind_greeting next shown frames are e =
       let both = greeting_stepped f start end next shown frames events are.grammar (none_greets f start.state frames shown are.replies) known served e in
       record { all = Hello ∷ frames; sent = both.0; stepped = both.1; accepted = (refl, none_refused f start.state frames shown are.replies); updates = refl }
@@ -253,11 +254,11 @@ module _ (f : KeyedFn) (start : Served) (events : List Event) (known : AreKnown 
   session_taken laws (Some key) h whole kept free expects e =
       taken_behind_greeting 0 (shown_with (Some key) h) (frames_with f (Some key) h) (history_is_answered f laws (Some key) h start.state whole kept free expects) (e ∙ ap (map as_event) (session-exchange f key h))
 
-  -- and one that was sent the first frames of a run those of a session that goes on with it
-  pub rejoined_taken : IsKeyedFn f → (key : List ℕ) (run : Run) → filter is_update run.later ≡ run.later → (next : ℕ) → HasTaken f key run next start.state → (more : List Command) → IsKept (longer more (Some (From at_first run)))
-      → IsFree f (Some key) (longer more (Some (From at_first run))) → map bare events ≡ map as_event (greeting next ++ exchange (shown_behind run more) (drop next (frames_under f key (longer more (Some (From at_first run))))))
-      → AreTaken start.state (drop next (frames_under f key (longer more (Some (From at_first run))))) events
-  rejoined_taken laws key run updates next had more kept free e =
-      taken_behind_greeting next (shown_behind run more) (drop next (frames_under f key (longer more (Some (From at_first run)))))
-      (subst (λ frames. AreAnswered f start.state frames (shown_behind run more)) (sym (frames_behind f laws key run updates next start.state had next more had.within))
-      (rest_is_answered f laws key run updates next start.state had more kept free)) e
+  -- and one that was sent the first frames of a history those of a session that goes on with it
+  pub rejoined_taken : IsKeyedFn f → (key : List ℕ) (es : Epochs) → HasNoSearch es → (next : ℕ) → HasTaken f key es next start.state → (more : List Step) → IsKept (Some (fold step_after es more))
+      → IsFree f (Some key) (Some (fold step_after es more)) → map bare events ≡ map as_event (greeting next ++ exchange (shown_since es more) (drop (next - (first_begins es).frame) (frames_under f key (Some (fold step_after es more)))))
+      → AreTaken start.state (drop (next - (first_begins es).frame) (frames_under f key (Some (fold step_after es more)))) events
+  rejoined_taken laws key es updates next had more kept free e =
+      taken_behind_greeting next (shown_since es more) (drop (next - (first_begins es).frame) (frames_under f key (Some (fold step_after es more))))
+      (subst (λ frames. AreAnswered f start.state frames (shown_since es more)) (sym (frames_behind f laws key es updates next start.state had more))
+      (rest_is_answered f laws key es updates next start.state had more kept free)) e

@@ -1,6 +1,7 @@
 -- One step of a run over the lines that are left: the reading stops, no line is left, a bad line, an empty one, a line that
 -- is carried out, and one in which the run stops. A loop over the lines keeps that whatever runs from here runs from its
 -- start, so each way out of it is one of these.
+use Rattle.keyed_fn.specs.KeyFormulas.{mark_of}
 use Rattle.std.proofs.Common.{◌≡◌, ℕ, ◌+◌, inl, inr, Bool, false, ◌||◌, List, [], ◌∷◌, refl, sym, ap, ◌∙◌, subst}
 use Rattle.std.specs.Prelude.{Option, Some, None, option_map, IfSome}
 use Rattle.client_registry.specs.Histories.{empty}
@@ -187,5 +188,5 @@ module _ (f : KeyedFn) (key : List ℕ) (number : ℕ) (behind : Option (List (L
   at_key-away away = at_key (λ texts e. inr (inl away))
 
   -- the session is opened, and what follows runs from there
-  pub at_key-greeted : (next : Outside) → IsGreeted 0 0 now next → RunsFrom f (moment (opened key) (number + 1) behind false next) end → OpensAtKey f key number behind now end
-  at_key-greeted next greeted runs = at_key (λ texts e. inr (inr (next, greeted, subst (λ l. RunsFrom f (moment (opened key) (number + 1) l false next) end) e runs)))
+  pub at_key-greeted : (next : Outside) → IsGreeted 0 0 now next → RunsFrom f (moment (opened (Some (mark_of f)) key) (number + 1) behind false next) end → OpensAtKey f key number behind now end
+  at_key-greeted next greeted runs = at_key (λ texts e. inr (inr (next, greeted, subst (λ l. RunsFrom f (moment (opened (Some (mark_of f)) key) (number + 1) l false next) end) e runs)))

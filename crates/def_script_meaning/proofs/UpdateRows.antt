@@ -26,6 +26,7 @@ use Rattle.sse_model.specs.Drawn.{IsCollisionFree}
 use Rattle.sse_model.specs.Histories.{table_at}
 use Rattle.sse_script.specs.Shown.{LinkFault, LabelClash}
 use Rattle.sse_script.specs.Shown.{Added, Deleted}
+use Rattle.keyed_fn.specs.KeyFormulas.{mark_of}
 use Rattle.script_documents.specs.LineDocument.{document}
 use Rattle.def_script_meaning.proofs.GoneAsMeant.{AreExchanged-none, append_known-nothing}
 use Rattle.def_script_meaning.proofs.Headline.{headline}
@@ -211,7 +212,7 @@ free_row = IsCollisionFree-from_test (table_at toy key run) at_first run refl
 
 kept_row : IsKept (Some (From at_first run))
 unfolding hex_on_literals utf8_valid_len is_utf8 chars encode
-kept_row = (meaning_is_kept script).0
+kept_row = (meaning_is_kept (Some (mark_of toy)) script).0
 
 expects_row : Expects 0 server.at_first
 expects_row = record { next = refl; stage = refl }
@@ -229,7 +230,7 @@ honest_row = record {
 }
 
 -- so what is said of such runs is said of this one
-headline_row : Headline toy server.at_first (meaning script) (seen [] [] []) (seen passing records text) 0 (steps toy server.at_first frames).0
+headline_row : Headline toy server.at_first (meaning (Some (mark_of toy)) script) (seen [] [] []) (seen passing records text) 0 (steps toy server.at_first frames).0
 unfolding hex_on_literals utf8_valid_len is_utf8 chars encode
 headline_row = headline toy toy_laws script (seen [] [] []) end opens_row server.at_first (steps toy server.at_first frames).0 expects_row honest_row (seen passing records text)
     (record { told = refl; kept = refl; q = 0; printed = sym (append_known-nothing (Some text)) }) free_row calm_row

@@ -11,8 +11,8 @@ use Rattle.client_registry.specs.Histories.{IsKept, commands_in}
 use Rattle.client_registry.specs.Run.{History, last_run}
 use Rattle.client_registry.specs.Sized.{IsSized, run_words}
 use Rattle.sse_script.specs.Fields.{fields_of}
-use Rattle.sse_script.specs.Numbers.{number_of, key_of, is_numeral}
-use Rattle.sse_script.specs.Lines.{Line, Key, Doc, AddLine, Del, Query, key_line, document_line, setup_numbers, setup_line, delete_line, find_line, line_by_kind}
+use Rattle.sse_script.specs.Numbers.{number_of, is_numeral}
+use Rattle.sse_script.specs.Lines.{Line, Key, Doc, AddLine, Del, Query, Rebuild, key_alone, document_line, setup_numbers, setup_line, delete_line, find_line, line_by_kind}
 use Rattle.sse_script.specs.TextLines.{lines_of}
 use Rattle.def_script_meaning.specs.Lines.{line_read, line_in, lines_in, script_lines}
 use Rattle.def_script_meaning.specs.Meaning.{meant}
@@ -29,14 +29,12 @@ number-within field = by (is_numeral field && nat_lt (digits_value 10 field) (2 
     by true e = ltb-true (digits_value 10 field) (2 ^ 64) (and_parts (is_numeral field) (nat_lt (digits_value 10 field) (2 ^ 64)) e).1
     by false e = tt
 
-key-within : (fields : List (List ℕ)) → IfSome (key_line fields) IsWithinRead
-key-within [] = tt
-key-within (key ∷ []) = by (key_of key)
+key-within : (line : List ℕ → Line) → ((key : List ℕ) → IsWithinRead (line key)) → (fields : List (List ℕ)) → IfSome (option_map line (key_alone fields)) IsWithinRead
+key-within line rule fields = by (key_alone fields)
   where
-    by : (k : Option (List ℕ)) → IfSome (option_map Key k) IsWithinRead
+    by : (k : Option (List ℕ)) → IfSome (option_map line k) IsWithinRead
     by None = tt
-    by (Some key) = tt
-key-within (key ∷ other ∷ fields) = tt
+    by (Some key) = rule key
 
 document-within : (make : ℕ → List (List ℕ) → Line) → ((n : ℕ) (words : List (List ℕ)) → n < 2 ^ 64 → IsWithinRead (make n words)) → (fields : List (List ℕ)) → IfSome (document_line make fields) IsWithinRead
 document-within make rule [] = tt
@@ -76,18 +74,19 @@ find-within (word ∷ other ∷ fields) = tt
 kind-within : (fields : List (List ℕ)) → IfSome (line_by_kind fields) IsWithinRead
 kind-within [] = tt
 kind-within (kind ∷ fields) =
-    by (bytes_eq kind (codes "key")) (bytes_eq kind (codes "doc")) (bytes_eq kind (codes "setup")) (bytes_eq kind (codes "add")) (bytes_eq kind (codes "del")) (bytes_eq kind (codes "find")) (bytes_eq kind (codes "query"))
+    by (bytes_eq kind (codes "key")) (bytes_eq kind (codes "doc")) (bytes_eq kind (codes "setup")) (bytes_eq kind (codes "add")) (bytes_eq kind (codes "del")) (bytes_eq kind (codes "find")) (bytes_eq kind (codes "query")) (bytes_eq kind (codes "rebuild"))
   where
-    by : (a b c d e g h : Bool) →
-        IfSome (if a then key_line fields else if b then document_line Doc fields else if c then setup_line fields else if d then document_line AddLine fields else if e then delete_line fields else if g then find_line fields else if h then Some (Query fields) else None) IsWithinRead
-    by true b c d e g h = key-within fields
-    by false true c d e g h = document-within Doc (λ n words h. h) fields
-    by false false true d e g h = setup-within fields
-    by false false false true e g h = document-within AddLine (λ n words h. h) fields
-    by false false false false true g h = delete-within fields
-    by false false false false false true h = find-within fields
-    by false false false false false false true = tt
-    by false false false false false false false = tt
+    by : (a b c d e g h k : Bool) →
+        IfSome (if a then option_map Key (key_alone fields) else if b then document_line Doc fields else if c then setup_line fields else if d then document_line AddLine fields else if e then delete_line fields else if g then find_line fields else if h then Some (Query fields) else if k then option_map Rebuild (key_alone fields) else None) IsWithinRead
+    by true b c d e g h k = key-within Key (λ key. tt) fields
+    by false true c d e g h k = document-within Doc (λ n words h. h) fields
+    by false false true d e g h k = setup-within fields
+    by false false false true e g h k = document-within AddLine (λ n words h. h) fields
+    by false false false false true g h k = delete-within fields
+    by false false false false false true h k = find-within fields
+    by false false false false false false true k = tt
+    by false false false false false false false true = key-within Rebuild (λ key. tt) fields
+    by false false false false false false false false = tt
 
 IsWithin-line_in : (bytes : List ℕ) → IsWithinItem (line_in bytes)
 IsWithin-line_in bytes = by (nat_lt (2 ^ 19) (length bytes))
@@ -107,17 +106,17 @@ IsWithin-lines_in (text ∷ texts) = (IsWithin-line_in text, IsWithin-lines_in t
 -- Promise P162 (inside): A run sends and prints a prefix of its script's meaning with the answers received; ending with 0, 1 or 2, all of it.
 --   assumes: keyed function, honest link, no collision
 -- what a script means keeps the rules of every history, and has at most 32 commands for each line
-pub meaning_is_kept : (bytes : List ℕ) → IsKept (meant (script_lines bytes)).history × (commands_in (meant (script_lines bytes)).history ≤ 32 * length (lines_of bytes))
-meaning_is_kept bytes =
-    let kept = kept_meant 1 (script_lines bytes) (IsWithin-lines_in (lines_of bytes)) in
+pub meaning_is_kept : (mark : Option (List ℕ → List ℕ)) (bytes : List ℕ) → IsKept (meant mark (script_lines bytes)).history × (commands_in (meant mark (script_lines bytes)).history ≤ 32 * length (lines_of bytes))
+meaning_is_kept mark bytes =
+    let kept = kept_meant mark 1 (script_lines bytes) (IsWithin-lines_in (lines_of bytes)) in
     (kept.0, omega (arith, kept.1, length-map (lines_of bytes) line_in))
 
 -- and is sized, where its lines and its words can be numbered in 32 bits
-pub meaning_is_sized : (bytes : List ℕ) → 32 * length (lines_of bytes) + 1 < 2 ^ 32 → IfSome (meant (script_lines bytes)).history (λ es. length (run_words (last_run es)) < 2 ^ 32)
-    → IfSome (meant (script_lines bytes)).history (λ es. IsSized (last_run es))
-meaning_is_sized bytes few words =
-    let kept = meaning_is_kept bytes in
-    sized (meant (script_lines bytes)).history kept.0 (omega (arith, few, kept.1)) words
+pub meaning_is_sized : (mark : Option (List ℕ → List ℕ)) (bytes : List ℕ) → 32 * length (lines_of bytes) + 1 < 2 ^ 32 → IfSome (meant mark (script_lines bytes)).history (λ es. length (run_words (last_run es)) < 2 ^ 32)
+    → IfSome (meant mark (script_lines bytes)).history (λ es. IsSized (last_run es))
+meaning_is_sized mark bytes few words =
+    let kept = meaning_is_kept mark bytes in
+    sized (meant mark (script_lines bytes)).history kept.0 (omega (arith, few, kept.1)) words
   where
     sized : (h : History) → IsKept h → commands_in h + 1 < 2 ^ 32 → IfSome h (λ es. length (run_words (last_run es)) < 2 ^ 32) → IfSome h (λ es. IsSized (last_run es))
     sized None kept commands words = tt

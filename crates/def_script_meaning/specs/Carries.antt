@@ -1,7 +1,7 @@
 -- The effect of one line of a script: its traffic, its printed lines, and how a run stops within it.
 use Rattle.std.specs.Prelude.{◌≡◌, ◌≢◌, ◌⊎◌, ℕ, List, [], ◌∷◌, drop, take, length, filter, flat_map, map, Option, Some, None, option_map}
 use Rattle.std.specs.Io.KnownBytes.{append_known}
-use Rattle.client_records.specs.Records.{setup_record, update_record}
+use Rattle.client_records.specs.Records.{setup_record, renewal_record, update_record}
 use Rattle.client_registry.specs.Command.{is_update}
 use Rattle.client_registry.specs.Live.{in_order}
 use Rattle.keyed_fn.specs.KeyFormulas.{mark_of}
@@ -11,14 +11,14 @@ use Rattle.sse_frames.specs.Frames.{FrameText}
 use Rattle.def_link_events.specs.Events.{Event}
 use Rattle.sse_model.specs.Compared.{Collision, Labels, Places, Numbers}
 use Rattle.sse_model.specs.Epochs.{keys_under}
-use Rattle.sse_model.specs.Histories.{frames_of_first, frames_of_next, collision_of_first, collision_of_next}
+use Rattle.sse_model.specs.Histories.{frames_of_first, frames_of_renewal, frames_of_next, collision_of_first, collision_of_renewal, collision_of_next}
 use Rattle.sse_script.specs.Shown.{Cause, DiskFault, LabelClash, PlaceClash, NumberClash, NoMemory}
 use Rattle.sse_script.specs.Shown.{Shown, Found, Matched}
 use Rattle.sse_outside.specs.Fronts.{TookFront}
 use Rattle.sse_outside.specs.Kept.{Kept, with_records, with_refused}
 use Rattle.sse_script.specs.Texts.{text_of}
 use Rattle.def_script_meaning.specs.Exchange.{Told, Adds, AreExchanged, AreCut}
-use Rattle.def_script_meaning.specs.Outcome.{Place, Printed, Says, Finds, Matches, Outcome, Collects, Refuses, SetsUp, Does, shown_by}
+use Rattle.def_script_meaning.specs.Outcome.{Place, Printed, Says, Finds, Matches, Outcome, Collects, Refuses, SetsUp, Does, Renews, shown_by}
 use Rattle.bool_search.specs.Chosen.{chosen_by}
 use Rattle.def_script_meaning.specs.Stops.{Stop, SinkFault, At}
 
@@ -42,6 +42,7 @@ frames_by f place (Collects d) = []
 frames_by f place (Refuses refusal) = []
 frames_by f place (SetsUp s) = frames_of_first f place.key s
 frames_by f place (Does commands shown) = frames_of_next f place.key place.history commands
+frames_by f place (Renews key s) = frames_of_renewal f key place.history
 
 -- the records that it adds to those that the client keeps: of a setup one, under the mark of the key, and of each update one
 abbrev pub records_by : KeyedFn → Place → Outcome → List (List ℕ)
@@ -49,6 +50,7 @@ records_by f place (Collects d) = []
 records_by f place (Refuses refusal) = []
 records_by f place (SetsUp s) = setup_record (mark_of f place.key) s ∷ []
 records_by f place (Does commands shown) = map update_record (filter is_update commands)
+records_by f place (Renews key s) = renewal_record (mark_of f key) ∷ []
 
 -- two equal values of what it sends, which a client that looks finds
 abbrev pub collision_by : KeyedFn → Place → Outcome → Option Collision
@@ -56,6 +58,7 @@ collision_by f place (Collects d) = None
 collision_by f place (Refuses refusal) = None
 collision_by f place (SetsUp s) = collision_of_first f place.key s
 collision_by f place (Does commands shown) = collision_of_next f place.key place.history commands
+collision_by f place (Renews key s) = collision_of_renewal f key place.history
 
 abbrev pub collision_cause : Collision → Cause
 collision_cause (Labels first second) = LabelClash first second

@@ -1,6 +1,6 @@
 -- The consequences of a run over any link, by the meaning of its script. The traffic is a prefix of the session of the history up to the stop, and
 -- the printed text is a prefix of the meaning's lines with the answers that came.
-use Rattle.std.specs.Prelude.{◌≡◌, ◌⊎◌, ◌≤◌, ℕ, ◌+◌, List, [], ◌∷◌, ◌++◌, length, filter, take, drop, None, Some, Option}
+use Rattle.std.specs.Prelude.{◌≡◌, ◌⊎◌, ◌≤◌, ℕ, List, [], ◌∷◌, ◌++◌, length, filter, take, drop, None, Some, Option}
 use Rattle.std.specs.Io.KnownBytes.{append_known}
 use Rattle.client_registry.specs.Acceptance.{frames_needed}
 use Rattle.client_registry.specs.Command.{Command}

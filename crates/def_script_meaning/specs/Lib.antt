@@ -11,10 +11,9 @@ pub mod Session
 pub mod Goes
 pub mod Recorded
 pub mod Headline
+pub mod Since
 pub mod Continues
 pub mod SimulatedAfter
 pub mod Rejoins
 pub mod Joined
 pub mod SessionsInARow
-pub mod Since
-pub mod TakenEpochs

@@ -12,6 +12,7 @@ pub data Request : Type 0 where
   Del : (id : ℕ) → Request
   Find : (word : List ℕ) → Request
   Query : (fields : List (List ℕ)) → Request
+  RebuildLine : (key : List ℕ) → Request
 
 pub data Line : Type 0 where
   Empty : Line
@@ -27,6 +28,7 @@ line_read (read.AddLine id words) = Command (AddLine id words)
 line_read (read.Del id) = Command (Del id)
 line_read (read.Find word) = Command (Find word)
 line_read (read.Query fields) = Command (Query fields)
+line_read (read.Rebuild key) = Command (RebuildLine key)
 
 -- the line that these bytes are; None where they aren't in the grammar
 abbrev pub line_in : List ℕ → Option Line

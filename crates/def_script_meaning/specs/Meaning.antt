@@ -35,15 +35,15 @@ follow place number (Some (Command line) ∷ lines) refused =
     showing (shown_by result) (follow (after result place) (number + 1) lines (refused || is_refusal result))
 
 -- the meaning of lines, the first of which has this number: empty ones, then the key line and those after it
-abbrev pub meant_from : (number : ℕ) → List (Option Line) → Meaning
-meant_from number (Some Empty ∷ lines) = meant_from (number + 1) lines
-meant_from number (Some (Key key) ∷ lines) = follow (opened key) (number + 1) lines false
-meant_from number _ = ends_at None empty (At (BadLine number))
+abbrev pub meant_from : (mark : Option (List ℕ → List ℕ)) → (number : ℕ) → List (Option Line) → Meaning
+meant_from mark number (Some Empty ∷ lines) = meant_from mark (number + 1) lines
+meant_from mark number (Some (Key key) ∷ lines) = follow (opened mark key) (number + 1) lines false
+meant_from mark number _ = ends_at None empty (At (BadLine number))
 
 -- the meaning of a script's lines, which are numbered from 1
-abbrev pub meant : List (Option Line) → Meaning
-meant lines = meant_from 1 lines
+abbrev pub meant : (mark : Option (List ℕ → List ℕ)) → List (Option Line) → Meaning
+meant mark lines = meant_from mark 1 lines
 
 -- the meaning of a script's bytes
-abbrev pub meaning : List ℕ → Meaning
-meaning bytes = meant (script_lines bytes)
+abbrev pub meaning : (mark : Option (List ℕ → List ℕ)) → List ℕ → Meaning
+meaning mark bytes = meant mark (script_lines bytes)

@@ -15,7 +15,7 @@ use Rattle.def_script_meaning.specs.Session.{session_with}
 
 -- the records of a history under this key; before a setup there is none
 abbrev pub records_in : KeyedFn → (key : List ℕ) → History → List (List ℕ)
-records_in f key h = records_of_history (mark_of f key) h
+records_in f key h = records_of_history (mark_of f) key h
 
 -- the same where there may be no key
 abbrev pub records_with : KeyedFn → Option (List ℕ) → History → List (List ℕ)

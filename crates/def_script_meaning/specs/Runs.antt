@@ -3,6 +3,7 @@ use Rattle.std.specs.Prelude.{◌≡◌, ◌⊎◌, ℕ, ◌+◌, Bool, false, �
 use Rattle.std.specs.Io.KnownBytes.{append_known}
 use Rattle.client_registry.specs.Histories.{empty}
 use Rattle.client_registry.specs.Run.{History}
+use Rattle.keyed_fn.specs.KeyFormulas.{mark_of}
 use Rattle.keyed_fn.specs.KeyedFn.{KeyedFn}
 use Rattle.sse_script.specs.Shown.{Cause, BadLine, SourceFault, NoMemory}
 use Rattle.def_script_meaning.specs.Carries.{Outside, Carries, StopsIn, IsUnprinted}
@@ -74,7 +75,7 @@ Opens f number (Some Empty ∷ lines) now end = StopsReading now None empty end 
 Opens f number (Some (Key key) ∷ lines) now end =
     StopsReading now None empty end
     ⊎ IsTurnedAway 0 0 key empty now end
-    ⊎ ((next : Outside) × IsGreeted 0 0 now next × Runs f (opened key) (number + 1) lines false next end)
+    ⊎ ((next : Outside) × IsGreeted 0 0 now next × Runs f (opened (Some (mark_of f)) key) (number + 1) lines false next end)
 Opens f number _ now end = StopsHere now None empty (At (BadLine number)) end
 
 -- what follows the stop: a front of the last line is printed, and nothing else passes or is kept

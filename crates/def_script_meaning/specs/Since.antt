@@ -1,7 +1,10 @@
--- The traffic of commands and renewals after a history of any epochs.
-use Rattle.std.specs.Prelude.{ℕ, List, [], ◌∷◌, ◌++◌, Some}
-use Rattle.client_registry.specs.Epochs.{Step, Does, Renews, step_after}
-use Rattle.client_registry.specs.Run.{Epochs, last_run}
+-- The traffic and the records of commands and renewals after a history of any epochs, and the last epoch by itself.
+use Rattle.std.specs.Prelude.{ℕ, List, [], ◌∷◌, ◌++◌, flat_map, Some}
+use Rattle.client_records.specs.Recorded.{recorded}
+use Rattle.client_records.specs.Records.{renewal_record}
+use Rattle.client_registry.specs.Epochs.{Step, Does, Renews, begins, step_after}
+use Rattle.client_registry.specs.Run.{Epochs, From, last_run}
+use Rattle.keyed_fn.specs.KeyFormulas.{mark_of}
 use Rattle.keyed_fn.specs.KeyedFn.{KeyedFn}
 use Rattle.def_agreement.specs.Agreement.{shown_behind}
 use Rattle.sse_frames.specs.Frames.{FrameText}
@@ -25,3 +28,15 @@ shown_of_step es (Renews own) = []
 abbrev pub shown_since : Epochs → List Step → List (List ℕ)
 shown_since es [] = []
 shown_since es (step ∷ more) = shown_of_step es step ++ shown_since (step_after es step) more
+
+-- and the records that they leave
+abbrev pub records_of_step : KeyedFn → Step → List (List ℕ)
+records_of_step f (Does c) = recorded (c ∷ [])
+records_of_step f (Renews own) = renewal_record (mark_of f own) ∷ []
+
+abbrev pub records_since : KeyedFn → List Step → List (List ℕ)
+records_since f more = flat_map (records_of_step f) more
+
+-- the last of these epochs by itself: a session that goes on after a history knows no more of it
+abbrev pub last_epoch : Epochs → Epochs
+last_epoch es = From (begins es) (last_run es)

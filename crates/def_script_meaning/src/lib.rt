@@ -6,7 +6,7 @@
 //! has all its frames exchanged and its output printed before the next begins. Definitions and laws, no calls.
 //! Proved: a run that goes line by line comes to what the script means, also one that resumes; two runs in a row are
 //! one session (`one_session`), and the simulator makes what any number of sessions in a row send
-//! (`sessions_are_simulated`); an acknowledged update stops a run only in its printing (`acknowledged_stops_not`;
-//! laws).
+//! (`sessions_are_simulated`); no two epochs of a script have keys with the same mark (`meaning_differs`); an
+//! acknowledged update stops a run only in its printing (`acknowledged_stops_not`; laws).
 //! Side: client.
 #![tactic(auto)]
