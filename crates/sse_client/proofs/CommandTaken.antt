@@ -1,9 +1,11 @@
 -- How a session takes a command: what it comes to where the session stands, and that this is done.
 use Rattle.std.proofs.Common.{◌≡◌, ◌⊎◌, inl, inr, ℕ, true, false, List, [], ◌∷◌, ◌++◌, length, refl, sym, ap, subst, ◌∙◌}
 use Rattle.std.specs.Prelude.{Option, None, Some, Result, Ok, Err, IfOk, IfErr, option_map, if◌then◌else◌}
-use Rattle.client_core.specs.StandsFor.{StandsFor, with_command}
+use Rattle.client_core.specs.StandsFor.{StandsFor}
 use Rattle.client_core.specs.declared.client.Client.{Client}
+use Rattle.client_core.specs.declared.fresh.Fresh.{Fresh}
 use Rattle.client_core.specs.declared.ready.Ready.{Ready}
+use Rattle.client_registry.specs.Collected.{Collected}
 use Rattle.client_records.specs.Records.{setup_record}
 use Rattle.client_registry.specs.Acceptance.{blocks_of, size_refusal}
 use Rattle.client_registry.specs.Command.{Search}
@@ -11,7 +13,8 @@ use Rattle.client_registry.specs.Document.{Document}
 use Rattle.client_registry.specs.Documents.{words_of}
 use Rattle.client_registry.specs.Histories.{is_set_up, longer}
 use Rattle.client_registry.specs.Live.{matching_in}
-use Rattle.client_registry.specs.Run.{Run, at_first, From}
+use Rattle.client_registry.specs.Epochs.{begins, with_commands}
+use Rattle.client_registry.specs.Run.{Run, at_first, From, last_run}
 use Rattle.client_registry.specs.Setup.{Setup, setup_with}
 use Rattle.index_setup.proofs.BuildErrors.{size_accepted}
 use Rattle.index_setup.specs.Entries.{key_table, label_clash, place_clash}
@@ -38,15 +41,15 @@ use Rattle.def_script_meaning.specs.Carries.{Keeps, keys_at, frames_by, records_
 use Rattle.sse_outside.specs.Kept.{Kept, with_refused}
 use Rattle.def_script_meaning.specs.Exchange.{Told, AreExchanged, AreCut}
 use Rattle.def_script_meaning.specs.Lines.{Line, Command, Request, Doc, SetupLine, Find}
-use Rattle.def_script_meaning.specs.Outcome.{Place, Finds, Outcome, Collects, Refuses, SetsUp, Does, unless, before_setup, after_setup, outcome, after}
+use Rattle.def_script_meaning.specs.Outcome.{Place, Finds, Outcome, Collects, Refuses, SetsUp, Does, unless, before_setup, after_setup, marks_in, outcome, after}
 use Rattle.def_script_meaning.specs.Refused.{index_refusal, size_refused}
 use Rattle.def_script_meaning.specs.Stops.{At}
 use Rattle.sse_client.specs.SetupFaults.{setup_answer}
-use Rattle.sse_client.specs.Stages.{key_of, hash_keys_of, hash_keys_under}
+use Rattle.sse_client.specs.Stages.{key_of, hash_keys_of, hash_keys_under, marks_of}
 use Rattle.sse_client.specs.Exchanges.{HasExchanged, HasSearched, HasCut}
 use Rattle.sse_client.specs.RecordKept.{SendsKept}
 use Rattle.script_run_texts.specs.LineResultViews.{line_result_view, refuses}
-use Rattle.sse_client.specs.Stands.{IsReady, IsStage, IsAt, Seen, seen, GoesOn, Takes, StopsWithin, outside_of}
+use Rattle.sse_client.specs.Stands.{HasMarks, IsReady, IsStage, IsAt, Seen, seen, GoesOn, Takes, StopsWithin, outside_of}
 use Rattle.script_run_texts.specs.Stops.{command_cause, keep_cause}
 use Rattle.script_run_texts.specs.declared.line_result.LineResult.{LineResult}
 use Rattle.script_run_texts.specs.declared.line_result.LineResult.TheVariants as line_results
@@ -56,7 +59,7 @@ use Rattle.sse_outside.specs.declared.device_fault.DeviceFault.{DeviceFault}
 use Rattle.sse_outside.specs.declared.device_fault.DeviceFault.TheVariants as devices
 use Rattle.sse_client.specs.declared.session.Stage.{Stage}
 use Rattle.sse_client.specs.declared.session.Stage.TheVariants.{Collecting, Searching}
-use Rattle.sse_client.proofs.PlansOfUpdates.{StandsFor-longer, StandsFor-search}
+use Rattle.sse_client.proofs.PlansOfUpdates.{StandsFor-longer, StandsFor-search, key_in-before, key_in-longer, marks_in-longer}
 use Rattle.sse_client.proofs.DocumentCollected.{IsAnswer, IsAdded, inside}
 use Rattle.sse_client.proofs.SetupPlan.{clash_cause, no_clash-planned, IsRefusedPlan, refused_size, stopped_plan}
 
@@ -64,10 +67,10 @@ use Rattle.sse_client.proofs.SetupPlan.{clash_cause, no_clash-planned, IsRefused
 
 module _ (place : Place) (line : Request) where
   pub before : is_set_up place.history ≡ false → outcome place line ≡ before_setup place.documents line
-  before e = ap (λ up. if up then after_setup place.history line else before_setup place.documents line) e
+  before e = ap (λ up. if up then after_setup place place.history line else before_setup place.documents line) e
 
-  pub behind : is_set_up place.history ≡ true → outcome place line ≡ after_setup place.history line
-  behind e = ap (λ up. if up then after_setup place.history line else before_setup place.documents line) e
+  pub behind : is_set_up place.history ≡ true → outcome place line ≡ after_setup place place.history line
+  behind e = ap (λ up. if up then after_setup place place.history line else before_setup place.documents line) e
 
 -- Commands that send nothing.
 
@@ -205,19 +208,21 @@ is_up f client place at = ap is_set_up at.stands.1
 
 -- and has the key of the last epoch
 pub key_at : (f : KeyedFn) (client : Client Ready) (place : Place) → IsAt f (Searching client) place → client.key ≡ key_in place.key place.history
-key_at f client place at = at.key ∙ sym (ap (key_in place.key) at.stands.1)
+key_at f client place at = at.key
 
 -- after a search the session stands for the history with it
 pub searching_still : (f : KeyedFn) (client : Client Ready) (place : Place) (word : List ℕ) → bad_word 0 (word ∷ []) ≡ None → IsAt f (Searching client) place → IsAt f (Searching client) (after (searching f place word) place)
 searching_still f client place word good at = record {
-  key = at.key;
+  key = at.key ∙ key_in-longer place.key place.history (Search word ∷ []);
   stands = (
-    with_command at.stands.0 (Search word),
+    with_commands (Search word ∷ []) at.stands.0,
     ap (longer (Search word ∷ [])) at.stands.1,
-    StandsFor-longer f place.key place.history (Search word ∷ []) (with_command at.stands.0 (Search word)) client.state
-        (StandsFor-search f (keys_at place) at.stands.0 word client.state (word_passed 0 word (neither _ None good).0) at.stands.2),
+    StandsFor-longer f place.key place.history (Search word ∷ []) at.stands.0 client.state at.stands.1
+        (StandsFor-search f (keys_at place) (begins at.stands.0) (last_run at.stands.0) word client.state (word_passed 0 word (neither _ None good).0) at.stands.2),
   );
-  hashed = at.hashed;
+  hashed = at.hashed ∙ ap (hash_keys_under f) (key_in-longer place.key place.history (Search word ∷ []));
+  mark = at.mark;
+  marks = at.marks ∙ ap (λ marks. place.used ++ marks) (marks_in-longer (mark_of f) place.key place.history (Search word ∷ []));
 }
 
 -- What is kept and sent.
@@ -258,9 +263,14 @@ stops-kept T f place result old new written frames payload same spelled no_clash
 -- A setup.
 
 -- a session that is set up stands where its history is this run
-at_ready : (f : KeyedFn) (run : Run) (stage : Stage) (place : Place) → place.history ≡ Some (From at_first run) → IsReady f place.key run stage → IsStage f stage place
+at_ready : (f : KeyedFn) (run : Run) (stage : Stage) (place : Place) → place.history ≡ Some (From at_first run) → IsReady f place.key at_first run stage → IsStage f stage place
 at_ready f run (Collecting client docs) place is ready = absurd ready
-at_ready f run (Searching client) place is ready = (run, is, subst (λ h. StandsFor f (keys_under place.key h) at_first run client.state) (sym is) ready)
+at_ready f run (Searching client) place is ready = (From at_first run, is, subst (λ h. StandsFor f (keys_under place.key h) at_first run client.state) (sym is) ready)
+
+-- and keeps the mark of its key
+marks_ready : (f : KeyedFn) (run : Run) (stage : Stage) (place : Place) → place.history ≡ Some (From at_first run) → IsReady f place.key at_first run stage → place.used ≡ [] → marks_of stage ≡ mark_of f place.key ∷ [] → HasMarks f stage place
+marks_ready f run (Collecting client docs) place is ready unused are = absurd ready
+marks_ready f run (Searching client) place is ready unused are = are ∙ (λ i. sym unused i ++ marks_in (mark_of f) place.key (sym is i))
 
 module _ (f : KeyedFn) (key : List ℕ) (docs : List Document) (b big pad : ℕ) where
   abbrev s : Setup
@@ -282,13 +292,13 @@ module _ (f : KeyedFn) (key : List ℕ) (docs : List Document) (b big pad : ℕ)
     records_at : setup_record (mark_of f key) s ∷ [] ≡ records_by f place (SetsUp s)
     records_at = ap (λ k. setup_record (mark_of f k) s ∷ []) same_key
 
-    module _ (accepted : build_refusal f key s ≡ None) (old new : Seen) where
+    module _ (unused : place.used ≡ []) (marked : place.mark ≡ Some (mark_of f)) (accepted : build_refusal f key s ≡ None) (old new : Seen) where
       no_clash-setup : clash_in_hand f place (SetsUp s) ≡ None
       no_clash-setup = clash_at ∙ no_clash-planned f key s accepted
 
       takes-setup : (next : Stage) (came : LineResult) (words blocks : ℕ) → words ≡ length (words_of docs) → blocks ≡ blocks_of s → Keeps old.kept new.kept (setup_record (mark_of f key) s ∷ []) → HasExchanged old.told new.told [] (frames_of_setup (key_table f key s) at_first s)
-          → line_result_view came ≡ says.SetUp words blocks ∷ [] → refuses came ≡ false → IsReady f key (record { setup = s; later = [] }) next → key_of next ≡ key → hash_keys_of next ≡ hash_keys_under f place.key → GoesOn f old new next came place (outcome place (SetupLine b big pad))
-      takes-setup next came words blocks counted counted_blocks kept x view fine ready keyed hashed =
+          → line_result_view came ≡ says.SetUp words blocks ∷ [] → refuses came ≡ false → IsReady f key at_first (record { setup = s; later = [] }) next → key_of next ≡ key → hash_keys_of next ≡ hash_keys_under f place.key → marks_of next ≡ mark_of f key ∷ [] → GoesOn f old new next came place (outcome place (SetupLine b big pad))
+      takes-setup next came words blocks counted counted_blocks kept x view fine ready keyed hashed are =
           subst (GoesOn f old new next came place) (sym (comes-set_up (size_accepted f key s accepted)))
           (record {
             kept = subst (Keeps old.kept new.kept) records_at kept;
@@ -303,8 +313,10 @@ module _ (f : KeyedFn) (key : List ℕ) (docs : List Document) (b big pad : ℕ)
             refuses = fine;
             stands = record {
               key = keyed ∙ same_key;
-              stands = at_ready f (record { setup = s; later = [] }) next (after (SetsUp s) place) refl (subst (λ k. IsReady f k (record { setup = s; later = [] }) next) same_key ready);
+              stands = at_ready f (record { setup = s; later = [] }) next (after (SetsUp s) place) refl (subst (λ k. IsReady f k at_first (record { setup = s; later = [] }) next) same_key ready);
               hashed = hashed;
+              mark = marked;
+              marks = marks_ready f (record { setup = s; later = [] }) next (after (SetsUp s) place) refl (subst (λ k. IsReady f k at_first (record { setup = s; later = [] }) next) same_key ready) unused (are ∙ ap (λ k. mark_of f k ∷ []) same_key);
             };
           })
 
@@ -337,7 +349,14 @@ module _ (f : KeyedFn) (key : List ℕ) (docs : List Document) (b big pad : ℕ)
 -- the key and the documents of a session that collects
 abbrev pub IsCollecting : KeyedFn → List ℕ → List Document → ℕ × ℕ → Stage → Type 0
 IsCollecting f key docs hash_keys stage =
-    (place : Place) → IsAt f stage place → (key ≡ place.key) × (docs ≡ place.documents) × (is_set_up place.history ≡ false) × (hash_keys ≡ hash_keys_under f place.key)
+    (place : Place) → IsAt f stage place → (key ≡ place.key) × (docs ≡ place.documents) × (is_set_up place.history ≡ false) × (hash_keys ≡ hash_keys_under f place.key) × (place.used ≡ []) × (place.mark ≡ Some (mark_of f))
+
+-- those of its place, which isn't set up
+pub collecting_at : (f : KeyedFn) (client : Client Fresh) (docs : Collected) (place : Place) → IsAt f (Collecting client docs) place
+    → (client.key ≡ place.key) × (docs.documents ≡ place.documents) × (is_set_up place.history ≡ false) × (docs.keys ≡ hash_keys_under f place.key) × (place.used ≡ []) × (place.mark ≡ Some (mark_of f))
+collecting_at f client docs place at =
+    let first = key_in-before place.key place.history at.stands.1 in
+    (at.key ∙ first, at.stands.0, at.stands.1, at.hashed ∙ ap (hash_keys_under f) first, at.marks, at.mark)
 
 module _ (f : KeyedFn) (key : List ℕ) (old new : Seen) (stage : Stage) (docs : List Document) (hash_keys : ℕ × ℕ) (b big pad : ℕ) (at : IsCollecting f key docs hash_keys stage) (accepted : build_refusal f key (setup_with docs b big pad) ≡ None) where
   abbrev sent_frames : List FrameText
@@ -345,17 +364,17 @@ module _ (f : KeyedFn) (key : List ℕ) (old new : Seen) (stage : Stage) (docs :
 
   -- a setup whose sending ended is done
   pub takes_if_sent : (words blocks : ℕ) → words ≡ length (words_of docs) → blocks ≡ blocks_of (setup_with docs b big pad) → (next : Stage) (came : LineResult) → Keeps old.kept new.kept (setup_record (mark_of f key) (setup_with docs b big pad) ∷ []) → HasExchanged old.told new.told [] sent_frames
-      → line_result_view came ≡ says.SetUp words blocks ∷ [] → refuses came ≡ false → IsReady f key (record { setup = setup_with docs b big pad; later = [] }) next → key_of next ≡ key → hash_keys_of next ≡ hash_keys
+      → line_result_view came ≡ says.SetUp words blocks ∷ [] → refuses came ≡ false → IsReady f key at_first (record { setup = setup_with docs b big pad; later = [] }) next → key_of next ≡ key → hash_keys_of next ≡ hash_keys → marks_of next ≡ mark_of f key ∷ []
       → Takes f stage (SetupLine b big pad) old new next came
-  takes_if_sent words blocks counted counted_blocks next came kept x view fine ready keyed hashes = λ place a.
+  takes_if_sent words blocks counted counted_blocks next came kept x view fine ready keyed hashes are = λ place a.
       let p = at place a in
-      takes-setup f key docs b big pad place p.0 p.1 p.2 accepted old new next came words blocks counted counted_blocks kept x view fine ready keyed (hashes ∙ p.3)
+      takes-setup f key docs b big pad place p.0 p.1 p.2 p.4 p.5 accepted old new next came words blocks counted counted_blocks kept x view fine ready keyed (hashes ∙ p.3) are
 
   -- one whose record was refused, or whose sending was cut, stops the run
   pub stops_if_sent : (T : Type 0) (payload : List ℕ) (stop : CommandStop) → payload ≡ setup_record (mark_of f key) (setup_with docs b big pad) → SendsKept {T = T} payload old new sent_frames (Err stop) → StopsWithin f stage (SetupLine b big pad) old new (command_cause stop)
   stops_if_sent T payload stop spelled sends = λ place a written.
       let p = at place a in
-      stops-setup f key docs b big pad place p.0 p.1 p.2 accepted old new T payload stop spelled sends written
+      stops-setup f key docs b big pad place p.0 p.1 p.2 p.4 p.5 accepted old new T payload stop spelled sends written
 
 -- one more setup is refused
 pub takes-set_up_already : (f : KeyedFn) (now : Seen) (next : Stage) (came : LineResult) (place : Place) (b big pad : ℕ) → is_set_up place.history ≡ true → line_result_view came ≡ says.Refused refusals.SetUpAlready ∷ [] → refuses came ≡ true → IsAt f next place

@@ -1,12 +1,11 @@
 -- What passes in a run begins with a frame, where anything passes.
 use Rattle.std.proofs.Common.{◌≡◌, ℕ, ◌+◌, false, inl, inr, List, [], ◌∷◌, ◌++◌, map, Option, None, Some, sym, ap, ◌∙◌, subst}
-use Rattle.client_registry.specs.Run.{Run}
+use Rattle.keyed_fn.specs.KeyFormulas.{mark_of}
 use Rattle.keyed_fn.specs.KeyedFn.{KeyedFn}
 use Rattle.def_link_events.specs.Events.{Event, Sent, Received, BeginsWithFrame}
 use Rattle.def_script_meaning.proofs.GoneAsMeant.{Adds-joined, Adds-nothing}
 use Rattle.def_script_meaning.proofs.Recorded.{kept_since}
 use Rattle.def_script_meaning.specs.Carries.{Outside}
-use Rattle.def_script_meaning.specs.Continues.{at_run}
 use Rattle.def_script_meaning.specs.Exchange.{Told, Adds, as_event, bare}
 use Rattle.def_script_meaning.specs.HelloExchange.{Greets, IsTurned, TurnsAway}
 use Rattle.def_script_meaning.specs.Lines.{Line, Empty, Key, Command, script_lines}
@@ -14,6 +13,7 @@ use Rattle.def_script_meaning.specs.Outcome.{opened}
 use Rattle.def_script_meaning.specs.Runs.{Ended, Opens, StopsReading}
 use Rattle.sse_frames.specs.Exchange.{greeting}
 use Rattle.sse_script.specs.Shown.{Cause}
+use Rattle.sse_client.specs.Known.{Known, place_known}
 use Rattle.sse_client.specs.ResumedRun.{AtKeyLine, GoesOnFrom, GoesOnOver, HasResent, IsHeldUp}
 use Rattle.sse_client.specs.KeyLines.{KeyLine, Keyed, Missing, key_line}
 use Rattle.sse_client.specs.OnDisk.{HasGoneOn}
@@ -82,7 +82,7 @@ opens f number (Some Empty ∷ lines) now end (inr o) = opens f (number + 1) lin
 opens f number (Some (Key key) ∷ lines) now end (inl reading) = unread now end None _ reading
 opens f number (Some (Key key) ∷ lines) now end (inr (inl a)) = away 0 0 now.told end.outside.told a.cause a.away
 opens f number (Some (Key key) ∷ lines) now end (inr (inr (next, g, runs))) =
-    let k = kept_since f (opened key) (number + 1) lines false next end runs in
+    let k = kept_since f (opened (Some (mark_of f)) key) (number + 1) lines false next end runs in
     then now.told next.told end.outside.told k.events (greets 0 0 now.told next.told g.greets) k.adds
 
 pub run_adds : (f : KeyedFn) (bytes : List ℕ) (now last : Outside) (sink sink' : SinkShows) (status : ℕ) → IsRun f bytes now last sink sink' status → AddsFrames now.told last.told
@@ -90,12 +90,12 @@ run_adds f bytes now last sink sink' status run = subst (AddsFrames now.told) (s
 
 -- One that goes on.
 
-module _ (f : KeyedFn) (key : List ℕ) (run : Run) where
-  resent : (old new end : Told) (frames : ℕ) (more : List Event) → HasResent f key run old new frames → Adds new end more → AddsFrames old end
+module _ (f : KeyedFn) (key : List ℕ) (known : Known) where
+  resent : (old new end : Told) (frames : ℕ) (more : List Event) → HasResent f key known old new frames → Adds new end more → AddsFrames old end
   resent old new end frames more r adds =
       then old r.greeted end (r.sent.events ++ more) (greets r.next r.next old r.greeted r.found.greets) (Adds-joined r.greeted new end r.sent.events more r.sent.adds adds)
 
-  held : (now : Outside) (end : Ended) → IsHeldUp f key run now end → AddsFrames now.told end.outside.told
+  held : (now : Outside) (end : Ended) → IsHeldUp f key known now end → AddsFrames now.told end.outside.told
   held now end h = elim h.why [
     | inl a ↦ away _ _ now.told end.outside.told h.cause a
     | inr (next, told, found, inl behind) ↦ then now.told told end.outside.told [] (greets next next now.told told found.greets) (behind.0 ∙ Adds-nothing told)
@@ -103,17 +103,17 @@ module _ (f : KeyedFn) (key : List ℕ) (run : Run) where
     | inr (next, told, found, inr (inr behind)) ↦ then now.told told end.outside.told behind.2.events (greets next next now.told told found.greets) behind.2.adds
   ]
 
-  goes : (number : ℕ) (lines : List (Option Line)) (now : Outside) (end : Ended) → GoesOnFrom f key run number lines now end → AddsFrames now.told end.outside.told
+  goes : (number : ℕ) (lines : List (Option Line)) (now : Outside) (end : Ended) → GoesOnFrom f key known number lines now end → AddsFrames now.told end.outside.told
   goes number lines now end (inl h) = held now end h
   goes number lines now end (inr (inl u)) = resent now.told end.outside.told end.outside.told u.frames [] u.resent (Adds-nothing end.outside.told)
   goes number lines now end (inr (inr (next, resumed, runs))) =
-      let k = kept_since f (at_run key [] run) number lines false next end runs in
+      let k = kept_since f (place_known f key known) number lines false next end runs in
       resent now.told next.told end.outside.told resumed.frames k.events resumed.resent k.adds
 
 behind_key : (f : KeyedFn) (at : KeyLine) (now : Outside) (end : Ended) → AtKeyLine f at now end → AddsFrames now.told end.outside.told
 behind_key f (Missing number) now end e = nothing now.told end.outside.told (ap (λ (s : Ended). s.outside.told) e)
 behind_key f (Keyed key number lines) now end (inl (cause, why, e)) = nothing now.told end.outside.told (ap (λ (s : Ended). s.outside.told) e)
-behind_key f (Keyed key number lines) now end (inr (run, restores, on)) = goes f key run number lines now end on
+behind_key f (Keyed key number lines) now end (inr (known, restores, on)) = goes f key known number lines now end on
 
 pub gone_on_adds : (f : KeyedFn) (bytes : List ℕ) (now last : Outside) (status f0 f2 s0 s2 : ℕ) → HasGoneOn f bytes now last status f0 f2 s0 s2 → AddsFrames now.told last.told
 gone_on_adds f bytes now last status f0 f2 s0 s2 has = subst (AddsFrames now.told) (sym has.told) (by has.goes_on)

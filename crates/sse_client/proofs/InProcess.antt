@@ -2,6 +2,7 @@
 use Rattle.std.proofs.Common.{◌≡◌, ◌≢◌, inl, inr, ℕ, List, [], ◌∷◌, ◌++◌, drop, Option, None, Some, refl, sym, ap, subst, ◌∙◌, arith}
 use Rattle.std.specs.Prelude.{IfSome}
 use Rattle.std.proofs.lemmas.List.Elements.{All-nil}
+use Rattle.keyed_fn.specs.KeyFormulas.{mark_of}
 use Rattle.keyed_fn.specs.KeyedFn.{KeyedFn, IsKeyedFn}
 use Rattle.def_link_events.specs.Events.{Event}
 use Rattle.def_link_events.specs.Served.{IsHonest}
@@ -108,7 +109,7 @@ module _ (f : KeyedFn) (laws : IsKeyedFn f) (sink sink' : SinkShows) (status : �
             let sides : BeginsOnBothSides f bytes unused new [] own' sink.written sink'.written status =
             subst (λ o. BeginsOnBothSides f bytes unused new o own' sink.written sink'.written status) empty (subst (λ t. BeginsOnBothSides f bytes t new own own' sink.written sink'.written status) fresh (both source sound memory)) in
             let done = sides nothing fresh_expects free in
-            record { headline = done.headline; own_file = done.own_file; stored = stored_alone (frames_of f (meaning bytes)) new done.stored };
+            record { headline = done.headline; own_file = done.own_file; stored = stored_alone (frames_of f (meaning (Some (mark_of f)) bytes)) new done.stored };
       }
 
   -- out of memory before anything was read

@@ -17,6 +17,8 @@ pub mod RisingLists
 pub mod QueryAnswered
 pub mod QueryTaken
 pub mod UpdateCarriedOut
+pub mod RenewalPlans
+pub mod RenewalCarriedOut
 pub mod KeyLineRead
 pub mod RunGoesOn
 pub mod WholeRun

@@ -1,9 +1,9 @@
 -- A run over a link to a store, from and to a client's disk in memory: what it did is on both sides.
-use Rattle.std.proofs.Common.{◌≡◌, ◌⊎◌, inl, inr, ℕ, false, List, [], ◌++◌, drop, map, Option, None, Some, refl, sym, ap, ◌∙◌, subst, append_assoc}
+use Rattle.std.proofs.Common.{◌≡◌, ◌⊎◌, inl, inr, ℕ, ◌-◌, false, List, [], ◌++◌, drop, map, Option, None, Some, refl, sym, ap, ◌∙◌, subst, append_assoc}
 use Rattle.std.specs.Prelude.{IfSome}
 use Rattle.std.proofs.lemmas.List.{append-nil, append_cancel_left, map-append}
-use Rattle.client_records.specs.Recorded.{recorded}
 use Rattle.client_registry.specs.Histories.{IsKept}
+use Rattle.keyed_fn.specs.KeyFormulas.{mark_of}
 use Rattle.keyed_fn.specs.KeyedFn.{KeyedFn, IsKeyedFn}
 use Rattle.def_link_events.proofs.Taken.{frames_sent, frames_taken-updates}
 use Rattle.def_link_events.specs.Events.{Event, AreKnown, AreStepped}
@@ -13,19 +13,18 @@ use Rattle.script_run_texts.specs.Stops.{journal_status}
 use Rattle.script_run_texts.specs.declared.journal_stop.JournalStop.{JournalStop}
 use Rattle.script_run_texts.specs.declared.journal_stop.JournalStop.TheVariants as journals
 use Rattle.def_script_meaning.proofs.FollowedPlaces.{follow-key}
-use Rattle.def_script_meaning.proofs.OneEpoch.{meaning_is_whole}
+use Rattle.def_script_meaning.proofs.Whole.{meaning_is_whole}
 use Rattle.def_script_meaning.proofs.Stepped.{AreSent-append, AreStepped-append, AreKnown-behind, AreTaken, frames_taken-append, rejoined_taken, session_taken, stepped_state}
 use Rattle.def_script_meaning.proofs.Within.{meaning_is_kept}
 use Rattle.def_script_meaning.specs.Carries.{Keeps, Outside}
-use Rattle.def_script_meaning.specs.Continues.{at_run}
 use Rattle.def_script_meaning.specs.Exchange.{Adds, as_event, bare}
 use Rattle.def_script_meaning.specs.Headline.{Headline, IsOverHonest, IsUndisturbed}
 use Rattle.def_script_meaning.specs.Meaning.{meaning}
 use Rattle.def_script_meaning.specs.Recorded.{records_with}
 use Rattle.def_script_meaning.specs.Rejoins.{Rejoined, frames_under}
 use Rattle.def_script_meaning.specs.Session.{IsFree, frames_of}
+use Rattle.def_script_meaning.specs.Since.{records_since, shown_since}
 use Rattle.server_core.specs.Step.{steps}
-use Rattle.def_agreement.specs.Agreement.{shown_behind}
 use Rattle.sse_frames.specs.Exchange.{exchange, greeting}
 use Rattle.sse_frames.specs.Frames.{FrameText, body_of}
 use Rattle.sse_journal.proofs.FileRecords.{gives_records}
@@ -42,6 +41,7 @@ use Rattle.sse_client.proofs.FirstFrames.{AddsFrames, gone_on_adds, run_adds}
 use Rattle.sse_client.proofs.LentLink.{remote, same_start, same_file, all_are, added_honest, lent-over}
 use Rattle.sse_client.proofs.RunRejoins.{kept_behind, updates_behind}
 use Rattle.sse_client.specs.CanGoOn.{meaning_after}
+use Rattle.sse_client.specs.Known.{epochs_known, place_known}
 use Rattle.client_journal.specs.DiskRuns.{IsExact, IsNotBegun, kept_on}
 use Rattle.sse_client.specs.OnDisk.{HasGoneOn}
 use Rattle.sse_client.specs.OverStore.{BeginsOnBothSides, GoesOnOnBothSides, HasStoredUpdates, seen_over}
@@ -141,38 +141,38 @@ module _ (f : KeyedFn) (laws : IsKeyedFn f) (old new : LinkState) (remains : rem
       pub begins : LeavesKept kept images → IsExact (Some own') images → IsRun f bytes now (last kept) sink sink' status → IsUndisturbed status → BeginsOnBothSides f bytes old new own own' sink.written sink'.written status
       begins leaves exact has calm none expects free =
           let adds = run_adds f bytes now (last kept) sink sink' status has in
-          let did : Headline f old.state (meaning bytes) now (last kept) status new.state = has.headline old.state new.state expects (over adds) free calm in
-          let all : Headline f old.state (meaning bytes) now (last (kept_on (Some own'))) status new.state =
-          subst (λ k. Headline f old.state (meaning bytes) now (last k) status new.state) (kept_is own own' images kept _ reads did.kept leaves) did in
+          let did : Headline f old.state (meaning (Some (mark_of f)) bytes) now (last kept) status new.state = has.headline old.state new.state expects (over adds) free calm in
+          let all : Headline f old.state (meaning (Some (mark_of f)) bytes) now (last (kept_on (Some own'))) status new.state =
+          subst (λ k. Headline f old.state (meaning (Some (mark_of f)) bytes) now (last k) status new.state) (kept_is own own' images kept _ reads did.kept leaves) did in
           record {
             headline = all;
             own_file =
-                exactly_kept own own' images (records_with f (meaning bytes).key (meaning bytes).history) exact all.kept
-                ∙ ap (λ records. file (records ++ records_with f (meaning bytes).key (meaning bytes).history)) (gives_records [] own none);
+                exactly_kept own own' images (records_with f (meaning (Some (mark_of f)) bytes).key (meaning (Some (mark_of f)) bytes).history) exact all.kept
+                ∙ ap (λ records. file (records ++ records_with f (meaning (Some (mark_of f)) bytes).key (meaning (Some (mark_of f)) bytes).history)) (gives_records [] own none);
             stored =
-                stored_updates adds (frames_of f (meaning bytes))
-                (session_taken f (idle old.state) adds.events (known_added adds) (idle new.state) (served_added adds) laws (meaning bytes).key (meaning bytes).history (meaning_is_whole bytes) (meaning_is_kept bytes).0 free expects
+                stored_updates adds (frames_of f (meaning (Some (mark_of f)) bytes))
+                (session_taken f (idle old.state) adds.events (known_added adds) (idle new.state) (served_added adds) laws (meaning (Some (mark_of f)) bytes).key (meaning (Some (mark_of f)) bytes).history (meaning_is_whole (Some (mark_of f)) bytes) (meaning_is_kept (Some (mark_of f)) bytes).0 free expects
                 (ap (map bare) (sym (one_list adds did.events did.adds)) ∙ did.session));
           }
 
       pub goes_on : LeavesKept kept images → IsExact (Some own') images → HasGoneOn f bytes now (last kept) status sink.faults sink'.faults sink.shortages sink'.shortages → IsUndisturbed status → GoesOnOnBothSides f bytes old new own own' sink.written sink'.written status
       goes_on leaves exact has calm some can free =
-          let m = meaning_after can.key can.run can.number can.lines in
+          let m = meaning_after f can.key can.known can.number can.lines in
           let adds = gone_on_adds f bytes now (last kept) status sink.faults sink'.faults sink.shortages sink'.shortages has in
-          let did : Rejoined f can.taken.start can.key can.run can.next m now (last kept) status new.state = has.headline (record { before = old.state; resumes = can; state = new.state; honest = over adds }) free calm in
+          let did : Rejoined f can.taken.start can.key (epochs_known can.known) can.next m now (last kept) status new.state = has.headline (record { before = old.state; resumes = can; state = new.state; honest = over adds }) free calm in
           let rules : IsKept m.history = kept_behind f bytes (kept_on (Some own)) old.state can in
-          let free_under : IsFree f (Some can.key) m.history = subst (λ k. IsFree f k m.history) (follow-key (at_run can.key [] can.run) can.number can.lines false) free in
-          let all : Rejoined f can.taken.start can.key can.run can.next m now (last (kept_on (Some own'))) status new.state =
-          subst (λ k. Rejoined f can.taken.start can.key can.run can.next m now (last k) status new.state) (kept_is own own' images kept _ reads did.kept leaves) did in
+          let free_under : IsFree f (Some can.key) m.history = subst (λ k. IsFree f k m.history) (follow-key (place_known f can.key can.known) can.number can.lines false) free in
+          let all : Rejoined f can.taken.start can.key (epochs_known can.known) can.next m now (last (kept_on (Some own'))) status new.state =
+          subst (λ k. Rejoined f can.taken.start can.key (epochs_known can.known) can.next m now (last k) status new.state) (kept_is own own' images kept _ reads did.kept leaves) did in
           record {
             rejoined = all;
-            own_file = exactly_kept own own' images (recorded all.more) exact all.kept;
+            own_file = exactly_kept own own' images (records_since f all.more) exact all.kept;
             stored =
-                stored_updates adds (drop can.next (frames_under f can.key m.history))
-                (subst (λ h. AreTaken old.state (drop can.next (frames_under f can.key h)) adds.events) (sym did.history)
-                (rejoined_taken f (idle old.state) adds.events (known_added adds) (idle new.state) (served_added adds) laws can.key can.run (updates_behind f bytes (kept_on (Some own)) old.state can) can.next can.taken did.more
+                stored_updates adds (drop (can.next - can.known.begins.frame) (frames_under f can.key m.history))
+                (subst (λ h. AreTaken old.state (drop (can.next - can.known.begins.frame) (frames_under f can.key h)) adds.events) (sym did.history)
+                (rejoined_taken f (idle old.state) adds.events (known_added adds) (idle new.state) (served_added adds) laws can.key (epochs_known can.known) (updates_behind f bytes (kept_on (Some own)) old.state can) can.next can.taken did.more
                 (subst IsKept did.history rules) (subst (λ h. IsFree f (Some can.key) h) did.history free_under)
                 (ap (map bare) (sym (one_list adds did.events did.adds))
                 ∙ did.passed
-                ∙ ap (λ h. map as_event (greeting can.next ++ exchange (shown_behind can.run did.more) (drop can.next (frames_under f can.key h)))) did.history)));
+                ∙ ap (λ h. map as_event (greeting can.next ++ exchange (shown_since (epochs_known can.known) did.more) (drop (can.next - can.known.begins.frame) (frames_under f can.key h)))) did.history)));
           }

@@ -16,14 +16,15 @@ use Rattle.client_registry.proofs.SizedLaws.{update_frames-push}
 use Rattle.client_registry.specs.Command.{Command, Add, Delete, Search}
 use Rattle.client_registry.specs.Document.{Document}
 use Rattle.client_registry.specs.Facts.{facts_of, has_counter, words_with_id}
-use Rattle.client_registry.specs.Histories.{IsKept, counter_in, frames_in, is_listed_in, is_live_in, longer}
+use Rattle.client_registry.specs.Histories.{IsKept, counter_in, frames_in, is_listed_in, is_live_in, is_set_up, longer}
 use Rattle.client_registry.specs.Live.{adds_pair, added_list, counter, holds_pair, is_listed, live}
-use Rattle.client_registry.specs.Run.{History, Run, at_first, From, Renewed}
+use Rattle.client_registry.specs.Epochs.{begins, key_now, next_begins, with_commands}
+use Rattle.client_registry.specs.Run.{History, Run, Offsets, Epochs, From, Renewed, last_run}
 use Rattle.client_registry.specs.Setup.{Setup}
 use Rattle.client_registry.specs.Sized.{IsSizedCommand}
 use Rattle.keyed_fn.specs.KeyedFn.{KeyedFn}
 use Rattle.sse_model.specs.Compared.{Collision, Labels, Numbers, Places, equal_among}
-use Rattle.sse_model.specs.Epochs.{keys_under}
+use Rattle.sse_model.specs.Epochs.{key_in, keys_under}
 use Rattle.sse_model.specs.Histories.{collision_of_next, frames_of_next}
 use Rattle.sse_model.specs.Names.{Revocation, name, table}
 use Rattle.sse_model.specs.Wire.{next_number, words_live}
@@ -31,7 +32,7 @@ use Rattle.sse_script.specs.Shown.{Cause}
 use Rattle.sse_script.specs.declared.refusal.Refusal.{Refusal}
 use Rattle.sse_script.specs.declared.refusal.Refusal.TheVariants.{Zero, AlreadyLive, CounterFull, HistoryFull, UnknownDocument}
 use Rattle.def_script_meaning.specs.Carries.{collision_cause, keys_at}
-use Rattle.def_script_meaning.specs.Outcome.{Place}
+use Rattle.def_script_meaning.specs.Outcome.{Place, marks_in}
 use Rattle.def_script_meaning.specs.Refused as script
 use Rattle.script_documents.specs.Refused.{document_refusal}
 use Rattle.client_core.specs.StandsFor as client
@@ -45,26 +46,26 @@ use Rattle.sse_client.specs.UpdatePlans.{IsUnplanned}
 
 -- Refusals.
 
-module _ (run : Run) where
+module _ (o : Offsets) (run : Run) where
   -- no number is left for one frame more
-  full_same : nat_lt (2 ^ 32 - 1) (frames_in (Some (From at_first run)) + 1) ≡ nat_le (2 ^ 32 - 1) (next_number at_first run.setup run.later)
-  full_same = by (nat_le (2 ^ 32 - 1) (next_number at_first run.setup run.later)) refl
+  full_same : nat_lt (2 ^ 32 - 1) (frames_in (Some (From o run)) + 1) ≡ nat_le (2 ^ 32 - 1) (next_number o run.setup run.later)
+  full_same = by (nat_le (2 ^ 32 - 1) (next_number o run.setup run.later)) refl
     where
-      by : (b : Bool) → nat_le (2 ^ 32 - 1) (next_number at_first run.setup run.later) ≡ b → nat_lt (2 ^ 32 - 1) (frames_in (Some (From at_first run)) + 1) ≡ b
-      by true is = lt-ltb (2 ^ 32 - 1) (frames_in (Some (From at_first run)) + 1) (omega (arith, leb-true _ _ is))
-      by false is = le-ltb (2 ^ 32 - 1) (frames_in (Some (From at_first run)) + 1) (omega (arith, leb-false _ _ is))
+      by : (b : Bool) → nat_le (2 ^ 32 - 1) (next_number o run.setup run.later) ≡ b → nat_lt (2 ^ 32 - 1) (frames_in (Some (From o run)) + 1) ≡ b
+      by true is = lt-ltb (2 ^ 32 - 1) (frames_in (Some (From o run)) + 1) (omega (arith, leb-true _ _ is))
+      by false is = le-ltb (2 ^ 32 - 1) (frames_in (Some (From o run)) + 1) (omega (arith, leb-false _ _ is))
 
-  live_same : (id : ℕ) → is_live_in (Some (From at_first run)) id ≡ is_some ((facts_of run.setup run.later).live id)
+  live_same : (id : ℕ) → is_live_in (Some (From o run)) id ≡ is_some ((facts_of run.setup run.later).live id)
   live_same id = sym (is_some-words_with_id (live run.setup.documents run.later) id)
 
   -- a counter of a history that keeps its limits is at its last value where it isn't below it
-  counter_same : IsKept (Some (From at_first run)) → (id : ℕ) (word : List ℕ)
-      → (not (is_listed_in (Some (From at_first run)) word id) && (counter_in (Some (From at_first run)) word == 2 ^ 32 - 1)) ≡ not (has_counter (facts_of run.setup run.later) id word)
+  counter_same : IsKept (Some (From o run)) → (id : ℕ) (word : List ℕ)
+      → (not (is_listed_in (Some (From o run)) word id) && (counter_in (Some (From o run)) word == 2 ^ 32 - 1)) ≡ not (has_counter (facts_of run.setup run.later) id word)
   counter_same kept id word = by (is_listed run.setup run.later word id) (nat_lt (counter run.setup run.later word) (2 ^ 32 - 1)) refl
     where
       at : (b : Bool) → (counter run.setup run.later word == 2 ^ 32 - 1) ≡ b → nat_lt (counter run.setup run.later word) (2 ^ 32 - 1) ≡ not b
       at true is = le-ltb _ _ (omega (arith, eqb-true _ _ is))
-      at false is = let other : counter run.setup run.later word ≢ 2 ^ 32 - 1 = eqb-false _ _ is in lt-ltb _ _ (omega (arith, other, counter_in-below (Some (From at_first run)) word kept))
+      at false is = let other : counter run.setup run.later word ≢ 2 ^ 32 - 1 = eqb-false _ _ is in lt-ltb _ _ (omega (arith, other, counter_in-below (Some (From o run)) word kept))
 
       not_not : (b : Bool) → b ≡ not (not b)
       not_not true = refl
@@ -75,9 +76,9 @@ module _ (run : Run) where
       by true below is = refl
       by false below is = not_not (counter run.setup run.later word == 2 ^ 32 - 1) ∙ ap not (sym (at (counter run.setup run.later word == 2 ^ 32 - 1) refl) ∙ is)
 
-  module _ (kept : IsKept (Some (From at_first run))) (d : Document) where
+  module _ (kept : IsKept (Some (From o run))) (d : Document) where
     abbrev is_full : List ℕ → Bool
-    is_full word = not (is_listed_in (Some (From at_first run)) word d.id) && (counter_in (Some (From at_first run)) word == 2 ^ 32 - 1)
+    is_full word = not (is_listed_in (Some (From o run)) word d.id) && (counter_in (Some (From o run)) word == 2 ^ 32 - 1)
 
     abbrev lacks : List ℕ → Bool
     lacks word = not (has_counter (facts_of run.setup run.later) d.id word)
@@ -86,10 +87,10 @@ module _ (run : Run) where
     first_full = sym (position_from-zero is_full d.words) ∙ (λ i. position (λ word. counter_same kept d.id word i) d.words)
 
     -- an addition is refused by the script for the cause that a client finds, where its words are a document's
-    pub refuses-add : script.add_refusal (Some (From at_first run)) d ≡ option_or (document_refusal d.id d.words) (option_and_then (λ fault. refusal_in (answer_to_command fault)) (client.add_refusal at_first run d))
+    pub refuses-add : script.add_refusal (Some (From o run)) d ≡ option_or (document_refusal d.id d.words) (option_and_then (λ fault. refusal_in (answer_to_command fault)) (client.add_refusal o run d))
     refuses-add =
         (λ i. option_or (document_refusal d.id d.words) (if live_same d.id i then Some (AlreadyLive d.id) else option_or (option_map CounterFull (first_full i)) (if full_same i then Some HistoryFull else None)))
-        ∙ ap (option_or (document_refusal d.id d.words)) (by (is_some ((facts_of run.setup run.later).live d.id)) (position lacks d.words) (nat_le (2 ^ 32 - 1) (next_number at_first run.setup run.later)))
+        ∙ ap (option_or (document_refusal d.id d.words)) (by (is_some ((facts_of run.setup run.later).live d.id)) (position lacks d.words) (nat_le (2 ^ 32 - 1) (next_number o run.setup run.later)))
       where
         by : (b : Bool) (p : Option ℕ) (full : Bool)
             → (if b then Some (AlreadyLive d.id) else option_or (option_map CounterFull p) (if full then Some HistoryFull else None))
@@ -100,10 +101,10 @@ module _ (run : Run) where
         by false None false = refl
 
   -- and so is a deletion, of an identifier that isn't 0
-  pub refuses-delete : (id : ℕ) → id ≢ 0 → script.delete_refusal (Some (From at_first run)) id ≡ option_and_then (λ fault. refusal_in (answer_to_command fault)) (client.delete_refusal at_first run id)
+  pub refuses-delete : (id : ℕ) → id ≢ 0 → script.delete_refusal (Some (From o run)) id ≡ option_and_then (λ fault. refusal_in (answer_to_command fault)) (client.delete_refusal o run id)
   refuses-delete id some =
       (λ i. if ne_eqb id 0 some i then Some Zero else if not (live_same id i) then Some (UnknownDocument id) else if full_same i then Some HistoryFull else None)
-      ∙ by (is_some ((facts_of run.setup run.later).live id)) (nat_le (2 ^ 32 - 1) (next_number at_first run.setup run.later))
+      ∙ by (is_some ((facts_of run.setup run.later).live id)) (nat_le (2 ^ 32 - 1) (next_number o run.setup run.later))
     where
       by : (b full : Bool) → (if not b then Some (UnknownDocument id) else if full then Some HistoryFull else None)
           ≡ option_and_then (λ fault. refusal_in (answer_to_command fault)) (if b then (if full then Some faults.HistoryFull else None) else Some (faults.UnknownDocument id))
@@ -113,14 +114,14 @@ module _ (run : Run) where
 
 -- The frames and the clash of one command.
 
-module _ (f : KeyedFn) (key : List ℕ) (run : Run) (c : Command) where
-  pub frames-next : frames_of_next f key (Some (From at_first run)) (c ∷ []) ≡ frames_next f (λ epoch. key) at_first run c
-  frames-next = append-nil (frames_next f (λ epoch. key) at_first run c)
+module _ (f : KeyedFn) (key : List ℕ) (o : Offsets) (run : Run) (c : Command) where
+  pub frames-next : frames_of_next f key (Some (From o run)) (c ∷ []) ≡ frames_next f (λ epoch. key) o run c
+  frames-next = append-nil (frames_next f (λ epoch. key) o run c)
 
-  pub collision-next : collision_of_next f key (Some (From at_first run)) (c ∷ []) ≡ collision_next f (λ epoch. key) at_first run c
-  collision-next = alone (collision_next f (λ epoch. key) at_first run c)
+  pub collision-next : collision_of_next f key (Some (From o run)) (c ∷ []) ≡ collision_next f (λ epoch. key) o run c
+  collision-next = alone (collision_next f (λ epoch. key) o run c)
     where
-      alone : (o : Option Collision) → option_or o None ≡ o
+      alone : (equal : Option Collision) → option_or equal None ≡ equal
       alone None = refl
       alone (Some x) = refl
 
@@ -130,9 +131,9 @@ module _ (f : KeyedFn) (key : List ℕ) (run : Run) (c : Command) where
 abbrev Refuses : CommandFault → Type 0
 Refuses fault = IsSome (refusal_in (answer_to_command fault))
 
-module _ (run : Run) where
-  refuses_to_add : (d : Document) → IfSome (client.add_refusal at_first run d) Refuses
-  refuses_to_add d = by (is_some ((facts_of run.setup run.later).live d.id)) (position (λ word. not (has_counter (facts_of run.setup run.later) d.id word)) d.words) (nat_le (2 ^ 32 - 1) (next_number at_first run.setup run.later))
+module _ (o : Offsets) (run : Run) where
+  refuses_to_add : (d : Document) → IfSome (client.add_refusal o run d) Refuses
+  refuses_to_add d = by (is_some ((facts_of run.setup run.later).live d.id)) (position (λ word. not (has_counter (facts_of run.setup run.later) d.id word)) d.words) (nat_le (2 ^ 32 - 1) (next_number o run.setup run.later))
     where
       by : (b : Bool) (p : Option ℕ) (full : Bool) → IfSome (if b then Some (faults.AlreadyLive d.id) else option_or (option_map (λ p. faults.CounterFull p) p) (if full then Some faults.HistoryFull else None)) Refuses
       by true p full = refl
@@ -140,8 +141,8 @@ module _ (run : Run) where
       by false None true = refl
       by false None false = tt
 
-  refuses_to_delete : (id : ℕ) → IfSome (client.delete_refusal at_first run id) Refuses
-  refuses_to_delete id = by (is_some ((facts_of run.setup run.later).live id)) (nat_le (2 ^ 32 - 1) (next_number at_first run.setup run.later))
+  refuses_to_delete : (id : ℕ) → IfSome (client.delete_refusal o run id) Refuses
+  refuses_to_delete id = by (is_some ((facts_of run.setup run.later).live id)) (nat_le (2 ^ 32 - 1) (next_number o run.setup run.later))
     where
       by : (b full : Bool) → IfSome (if b then (if full then Some faults.HistoryFull else None) else Some (faults.UnknownDocument id)) Refuses
       by true true = refl
@@ -155,19 +156,19 @@ IsOfUpdate (Places first second) = ⊥
 IsOfUpdate (Numbers first second) = Unit {0}
 
 -- equal values of a command are labels or numbers
-no_places : (f : KeyedFn) (keys : ℕ → List ℕ) (run : Run) (c : Command) → IfSome (collision_next f keys at_first run c) IsOfUpdate
-no_places f keys run (Add d) = by (equal_among _ _ d.words) (equal_among _ _ d.words)
+no_places : (f : KeyedFn) (keys : ℕ → List ℕ) (o : Offsets) (run : Run) (c : Command) → IfSome (collision_next f keys o run c) IsOfUpdate
+no_places f keys o run (Add d) = by (equal_among _ _ d.words) (equal_among _ _ d.words)
   where
     by : (labels numbers : Option (ℕ × ℕ)) → IfSome (option_or (option_map (λ places. Labels places.0 places.1) labels) (option_map (λ places. Numbers places.0 places.1) numbers)) IsOfUpdate
     by (Some two) numbers = tt
     by None (Some two) = tt
     by None None = tt
-no_places f keys run (Delete id) = by (equal_among (λ word. true) (λ word. table f run.setup.shape keys (name at_first.epoch word Revocation id)) (words_live (live run.setup.documents run.later) id))
+no_places f keys o run (Delete id) = by (equal_among (λ word. true) (λ word. table f run.setup.shape keys (name o.epoch word Revocation id)) (words_live (live run.setup.documents run.later) id))
   where
     by : (numbers : Option (ℕ × ℕ)) → IfSome (option_map (λ places. Numbers places.0 places.1) numbers) IsOfUpdate
     by (Some two) = tt
     by None = tt
-no_places f keys run (Search word) = tt
+no_places f keys o run (Search word) = tt
 
 -- what came of the plan of an update that the script refuses for this reason, or for none, and whose equal values have this
 -- printed cause, or that has none
@@ -227,37 +228,43 @@ module _ (refusal : Option CommandFault) (equal : Option Collision) (refuses : I
 
 -- Plans at a place of a script.
 
-module _ (f : KeyedFn) (place : Place) (run : Run) (history : place.history ≡ Some (From at_first run)) where
+module _ (f : KeyedFn) (place : Place) (es : Epochs) (history : place.history ≡ Some es) where
+  abbrev o : Offsets
+  o = begins es
+
+  abbrev run : Run
+  run = last_run es
+
   -- the frames and the clash of one command at a place are those after its history
-  pub frames-at : (c : Command) → frames_of_next f place.key place.history (c ∷ []) ≡ frames_next f (keys_at place) at_first run c
+  pub frames-at : (c : Command) → frames_of_next f place.key place.history (c ∷ []) ≡ frames_next f (keys_at place) o run c
   frames-at c =
       ap (λ h. frames_of_next f place.key h (c ∷ [])) history
-      ∙ frames-next f place.key run c
-      ∙ sym (ap (λ h. frames_next f (keys_under place.key h) at_first run c) history)
+      ∙ frames-next f (key_now place.key es) o run c
+      ∙ sym (ap (λ h. frames_next f (keys_under place.key h) o run c) history)
 
-  pub clash-at : (c : Command) → option_map collision_cause (collision_of_next f place.key place.history (c ∷ [])) ≡ option_map collision_cause (collision_next f (keys_at place) at_first run c)
+  pub clash-at : (c : Command) → option_map collision_cause (collision_of_next f place.key place.history (c ∷ [])) ≡ option_map collision_cause (collision_next f (keys_at place) o run c)
   clash-at c =
       ap (λ h. option_map collision_cause (collision_of_next f place.key h (c ∷ []))) history
-      ∙ ap (option_map collision_cause) (collision-next f place.key run c ∙ sym (ap (λ h. collision_next f (keys_under place.key h) at_first run c) history))
+      ∙ ap (option_map collision_cause) (collision-next f (key_now place.key es) o run c ∙ sym (ap (λ h. collision_next f (keys_under place.key h) o run c) history))
 
   module _ {X : Type 0} (r : Result X CommandFault) where
     -- the plan of an addition whose words are a document's, where the client stands for the history of the place
-    pub plan-add-at : IsKept (Some (From at_first run)) → (d : Document) → document_refusal d.id d.words ≡ None → (r ≢ Err faults.NoMemory → result_err r ≡ add_fault f (keys_at place) at_first run d)
+    pub plan-add-at : IsKept (Some (From o run)) → (d : Document) → document_refusal d.id d.words ≡ None → (r ≢ Err faults.NoMemory → result_err r ≡ add_fault f (keys_at place) o run d)
         → IsPlanFor (script.add_refusal place.history d) (option_map collision_cause (collision_of_next f place.key place.history (Add d ∷ []))) r
     plan-add-at kept d valid fault =
-        let here = ap (λ h. script.add_refusal h d) history ∙ refuses-add run kept d ∙ ap (λ o. option_or o (option_and_then (λ fault. refusal_in (answer_to_command fault)) (client.add_refusal at_first run d))) valid in
+        let here = ap (λ h. script.add_refusal h d) history ∙ refuses-add o run kept d ∙ ap (λ r. option_or r (option_and_then (λ fault. refusal_in (answer_to_command fault)) (client.add_refusal o run d))) valid in
         subst (λ why. IsPlanFor why (option_map collision_cause (collision_of_next f place.key place.history (Add d ∷ []))) r) (sym here)
-        (subst (λ clash. IsPlanFor (option_and_then (λ fault. refusal_in (answer_to_command fault)) (client.add_refusal at_first run d)) clash r) (sym (clash-at (Add d)))
-        (plan_for (client.add_refusal at_first run d) (collision_next f (keys_at place) at_first run (Add d)) (refuses_to_add run d) (no_places f (keys_at place) run (Add d)) r fault))
+        (subst (λ clash. IsPlanFor (option_and_then (λ fault. refusal_in (answer_to_command fault)) (client.add_refusal o run d)) clash r) (sym (clash-at (Add d)))
+        (plan_for (client.add_refusal o run d) (collision_next f (keys_at place) o run (Add d)) (refuses_to_add o run d) (no_places f (keys_at place) o run (Add d)) r fault))
 
     -- and of a deletion of an identifier that isn't 0
-    pub plan-delete-at : (id : ℕ) → id ≢ 0 → (r ≢ Err faults.NoMemory → result_err r ≡ delete_fault f (keys_at place) at_first run id)
+    pub plan-delete-at : (id : ℕ) → id ≢ 0 → (r ≢ Err faults.NoMemory → result_err r ≡ delete_fault f (keys_at place) o run id)
         → IsPlanFor (script.delete_refusal place.history id) (option_map collision_cause (collision_of_next f place.key place.history (Delete id ∷ []))) r
     plan-delete-at id some fault =
-        let here = ap (λ h. script.delete_refusal h id) history ∙ refuses-delete run id some in
+        let here = ap (λ h. script.delete_refusal h id) history ∙ refuses-delete o run id some in
         subst (λ why. IsPlanFor why (option_map collision_cause (collision_of_next f place.key place.history (Delete id ∷ []))) r) (sym here)
-        (subst (λ clash. IsPlanFor (option_and_then (λ fault. refusal_in (answer_to_command fault)) (client.delete_refusal at_first run id)) clash r) (sym (clash-at (Delete id)))
-        (plan_for (client.delete_refusal at_first run id) (collision_next f (keys_at place) at_first run (Delete id)) (refuses_to_delete run id) (no_places f (keys_at place) run (Delete id)) r fault))
+        (subst (λ clash. IsPlanFor (option_and_then (λ fault. refusal_in (answer_to_command fault)) (client.delete_refusal o run id)) clash r) (sym (clash-at (Delete id)))
+        (plan_for (client.delete_refusal o run id) (collision_next f (keys_at place) o run (Delete id)) (refuses_to_delete o run id) (no_places f (keys_at place) o run (Delete id)) r fault))
 
 -- What a client stands for.
 
@@ -273,17 +280,39 @@ facts-search s past word = λ i. record {
     none true = refl
     none false = refl
 
--- commands leave a client its key
-pub StandsFor-longer : (f : KeyedFn) (key : List ℕ) (h : History) (cs : List Command) (run : Run) (state : Ready) → StandsFor f (keys_under key h) at_first run state → StandsFor f (keys_under key (longer cs h)) at_first run state
-StandsFor-longer f key None cs run state s = s
-StandsFor-longer f key (Some (From o last)) cs run state s = s
-StandsFor-longer f key (Some (Renewed before own last)) cs run state s = s
+-- commands leave a history the key of its last epoch
+pub key_in-longer : (key : List ℕ) (h : History) (cs : List Command) → key_in key h ≡ key_in key (longer cs h)
+key_in-longer key None cs = refl
+key_in-longer key (Some (From begin last)) cs = refl
+key_in-longer key (Some (Renewed before own last)) cs = refl
+
+-- and the marks of its epochs
+pub marks_in-longer : (mark : List ℕ → List ℕ) (key : List ℕ) (h : History) (cs : List Command) → marks_in mark key h ≡ marks_in mark key (longer cs h)
+marks_in-longer mark key None cs = refl
+marks_in-longer mark key (Some (From begin last)) cs = refl
+marks_in-longer mark key (Some (Renewed before own last)) cs = refl
+
+-- before a setup the key is the first one
+pub key_in-before : (key : List ℕ) (h : History) → is_set_up h ≡ false → key_in key h ≡ key
+key_in-before key None before = refl
+key_in-before key (Some es) before = absurd (true≢false before)
+
+-- and a client its key
+pub StandsFor-longer : (f : KeyedFn) (key : List ℕ) (h : History) (cs : List Command) (es : Epochs) (state : Ready) → h ≡ Some es → StandsFor f (keys_under key h) (begins es) (record (last_run es) { later = (last_run es).later ++ cs }) state
+    → StandsFor f (keys_under key (longer cs h)) (begins (with_commands cs es)) (last_run (with_commands cs es)) state
+StandsFor-longer f key h cs es state is s = by es is s
+  where
+    by : (es : Epochs) → h ≡ Some es → StandsFor f (keys_under key h) (begins es) (record (last_run es) { later = (last_run es).later ++ cs }) state
+        → StandsFor f (keys_under key (longer cs h)) (begins (with_commands cs es)) (last_run (with_commands cs es)) state
+    by (From begin last) is s = subst (λ k. StandsFor f (λ epoch. k) begin (record last { later = last.later ++ cs }) state) (key_in-longer key h cs) s
+    by (Renewed before own last) is s = subst (λ k. StandsFor f (λ epoch. k) (next_begins before) (record last { later = last.later ++ cs }) state) (key_in-longer key h cs) s
 
 -- after a search a client stands for the history with it
-pub StandsFor-search : (f : KeyedFn) (keys : ℕ → List ℕ) (run : Run) (word : List ℕ) (state : Ready) → IsSizedCommand (Search word) → StandsFor f keys at_first run state → StandsFor f keys at_first (with_command run (Search word)) state
-StandsFor-search f keys run word state sized s = record {
-  kept = IsKept-longer (Some (From at_first run)) (Search word) s.kept sized refl (omega (arith, s.kept.1));
-  registry = s.registry ∙ facts-search run.setup run.later word;
-  number = omega (arith, s.number, update_frames-push run (Search word));
+pub StandsFor-search : (f : KeyedFn) (keys : ℕ → List ℕ) (o : Offsets) (run : Run) (word : List ℕ) (state : Ready) → IsSizedCommand (Search word) → StandsFor f keys o run state → StandsFor f keys o (with_command run (Search word)) state
+StandsFor-search f keys begin before word state sized s = record {
+  kept = IsKept-longer (Some (From begin before)) (Search word) s.kept sized refl (omega (arith, s.kept.1));
+  registry = s.registry ∙ facts-search before.setup before.later word;
+  number = omega (arith, s.number, update_frames-push before (Search word));
   word_keys = s.word_keys;
+  past = record { shape = s.past.shape; pad = s.past.pad };
 }

@@ -13,7 +13,9 @@ use Rattle.client_records.specs.Records.{update_record}
 use Rattle.client_registry.specs.Command.{Search}
 use Rattle.client_registry.specs.Histories.{is_set_up, longer}
 use Rattle.client_registry.specs.Live.{in_order, matching_in}
-use Rattle.client_registry.specs.Run.{History, Run, at_first}
+use Rattle.client_registry.specs.Epochs.{begins, with_commands}
+use Rattle.client_registry.specs.Run.{History, Run, Offsets, last_run}
+use Rattle.keyed_fn.specs.KeyFormulas.{mark_of}
 use Rattle.keyed_fn.specs.KeyedFn.{KeyedFn}
 use Rattle.sse_model.specs.Epochs.{key_in}
 use Rattle.sse_model.specs.Histories.{frames_of_next}
@@ -31,9 +33,10 @@ use Rattle.sse_outside.specs.Kept.{Kept}
 use Rattle.script_run_texts.specs.LineResultViews.{line_result_view, refuses}
 use Rattle.script_run_texts.specs.declared.line_result.LineResult.{LineResult}
 use Rattle.sse_client.proofs.CommandTaken.{behind, goes-refused, stops-memory}
-use Rattle.sse_client.proofs.PlansOfUpdates.{StandsFor-longer, StandsFor-search}
+use Rattle.sse_client.proofs.PlansOfUpdates.{StandsFor-longer, key_in-longer, marks_in-longer, StandsFor-search}
 use Rattle.sse_client.specs.Exchanges.{search_frames}
 use Rattle.sse_client.specs.Queried.{QueriedFor, HasQueried, StopsQuery}
+use Rattle.sse_client.specs.Stages.{hash_keys_under}
 use Rattle.sse_client.specs.Stands.{IsAt, seen, GoesOn, outside_of}
 use Rattle.sse_client.specs.declared.session.Stage.{Stage}
 use Rattle.sse_client.specs.declared.session.Stage.TheVariants.{Searching}
@@ -107,22 +110,24 @@ module _ (f : KeyedFn) (place : Place) (fields : List (List ℕ)) where
         }))))
 
 -- a session that searched several words stands after them
-StandsFor-searches : (f : KeyedFn) (keys : ℕ → List ℕ) (run : Run) (words : List (List ℕ)) (state : Ready) → AllByRecursion IsWord words → StandsFor f keys at_first run state
-    → StandsFor f keys at_first (record run { later = run.later ++ searching words }) state
-StandsFor-searches f keys run [] state each s = subst (λ later. StandsFor f keys at_first (record run { later = later }) state) (sym (append-nil run.later)) s
-StandsFor-searches f keys run (word ∷ words) state each s =
-    subst (λ later. StandsFor f keys at_first (record run { later = later }) state) (append_assoc run.later (Search word ∷ []) (searching words))
-    (StandsFor-searches f keys (with_command run (Search word)) words state each.1 (StandsFor-search f keys run word state each.0 s))
+StandsFor-searches : (f : KeyedFn) (keys : ℕ → List ℕ) (o : Offsets) (run : Run) (words : List (List ℕ)) (state : Ready) → AllByRecursion IsWord words → StandsFor f keys o run state
+    → StandsFor f keys o (record run { later = run.later ++ searching words }) state
+StandsFor-searches f keys o run [] state each s = subst (λ later. StandsFor f keys o (record run { later = later }) state) (sym (append-nil run.later)) s
+StandsFor-searches f keys o run (word ∷ words) state each s =
+    subst (λ later. StandsFor f keys o (record run { later = later }) state) (append_assoc run.later (Search word ∷ []) (searching words))
+    (StandsFor-searches f keys o (with_command run (Search word)) words state each.1 (StandsFor-search f keys o run word state each.0 s))
 
 pub querying_still : (f : KeyedFn) (client : Client Ready) (place : Place) (fields : List (List ℕ)) → fields_refusal fields ≡ None → IsAt f (Searching client) place
     → IsAt f (Searching client) (after (querying f place fields) place)
 querying_still f client place fields good at = record {
-  key = at.key;
+  key = at.key ∙ key_in-longer place.key place.history (searching (words_of fields));
   stands = (
-    record at.stands.0 { later = at.stands.0.later ++ searching (words_of fields) },
+    with_commands (searching (words_of fields)) at.stands.0,
     ap (longer (searching (words_of fields))) at.stands.1,
-    StandsFor-longer f place.key place.history (searching (words_of fields)) (record at.stands.0 { later = at.stands.0.later ++ searching (words_of fields) }) client.state
-        (StandsFor-searches f (keys_at place) at.stands.0 (words_of fields) client.state (words_are_words fields good) at.stands.2),
+    StandsFor-longer f place.key place.history (searching (words_of fields)) at.stands.0 client.state at.stands.1
+        (StandsFor-searches f (keys_at place) (begins at.stands.0) (last_run at.stands.0) (words_of fields) client.state (words_are_words fields good) at.stands.2),
   );
-  hashed = at.hashed;
+  hashed = at.hashed ∙ ap (hash_keys_under f) (key_in-longer place.key place.history (searching (words_of fields)));
+  mark = at.mark;
+  marks = at.marks ∙ ap (λ marks. place.used ++ marks) (marks_in-longer (mark_of f) place.key place.history (searching (words_of fields)));
 }

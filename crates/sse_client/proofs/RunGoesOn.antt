@@ -99,6 +99,7 @@ command_of (reads.Add id words) not_empty not_key = (_, refl)
 command_of (reads.Del id) not_empty not_key = (_, refl)
 command_of (reads.Find word) not_empty not_key = (_, refl)
 command_of (reads.Query fields) not_empty not_key = (_, refl)
+command_of (reads.Rebuild key) not_empty not_key = (_, refl)
 
 -- which is bad where the key line must be
 pub bad_first : (line : ReadLine) → (line ≡ reads.Empty → ⊥) → ((key : List ℕ) → line ≡ reads.Key key → ⊥) → IsBadFirst (Some (line_read (line_view line)))
@@ -110,6 +111,7 @@ bad_first (reads.Add id words) not_empty not_key = tt
 bad_first (reads.Del id) not_empty not_key = tt
 bad_first (reads.Find word) not_empty not_key = tt
 bad_first (reads.Query fields) not_empty not_key = tt
+bad_first (reads.Rebuild key) not_empty not_key = tt
 
 -- the same at a key line that is told otherwise
 pub key_told : (f : KeyedFn) (told key : List ℕ) (m n : ℕ) (behind : Option (List (List ℕ))) (now : Outside) (end : Ended) → told ≡ key → m ≡ n → OpensAtKey f told m behind now end → OpensAtKey f key n behind now end

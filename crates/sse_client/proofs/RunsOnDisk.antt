@@ -1,17 +1,18 @@
 -- A run on a disk: what its journal's records make of it before it comes to its lines, and what it comes to.
-use Rattle.std.proofs.Common.{◌≡◌, ◌≢◌, inl, inr, ℕ, ◌+◌, ◌<◌, List, [], length, take, Option, None, Some, refl, sym, ap, ◌∙◌, subst, arith}
+use Rattle.std.proofs.Common.{◌≡◌, ◌≢◌, inl, inr, ℕ, ◌+◌, ◌<◌, List, [], ◌∷◌, ◌++◌, length, Option, None, Some, refl, sym, ap, ◌∙◌, subst, arith}
 use Rattle.std.specs.Prelude.{IfSome}
-use Rattle.client_core.specs.Restores.{IsRestored, Remembers}
+use Rattle.client_core.specs.Restores.{IsRestored}
 use Rattle.client_core.specs.declared.client.Client.{Client}
 use Rattle.client_core.specs.declared.restored.Restored.TheVariants as restored
 use Rattle.client_core.specs.declared.fresh.Fresh.{Fresh}
+use Rattle.client_core.specs.declared.recorded.Recorded.{Recorded}
 use Rattle.client_journal.specs.Openings.{GivesSome, HasNoRecord, IsNoJournal, IsOfRecords}
-use Rattle.client_journal.specs.Recordings.{IsBadUnder, IsRebuiltFrom}
-use Rattle.client_rebuild.specs.declared.last.Last.{Last}
-use Rattle.client_rebuild.specs.declared.rebuild.Rebuild.{Rebuild}
-use Rattle.client_records.specs.Openings.{Opens, OpensElsewhere}
+use Rattle.client_journal.specs.Recordings.{IsRebuiltFrom}
+use Rattle.client_rebuild.specs.declared.rebuilt.Rebuilt.{Rebuilt}
+use Rattle.client_records.specs.Openings.{IsBadRecord, Opens, OpensElsewhere, marks_of}
+use Rattle.client_registry.specs.Epochs.{key_now}
 use Rattle.client_registry.specs.Histories.{empty}
-use Rattle.client_registry.specs.Run.{Run}
+use Rattle.client_registry.specs.Run.{Epochs, From, Renewed}
 use Rattle.keyed_fn.specs.KeyFormulas.{mark_of}
 use Rattle.keyed_fn.specs.KeyedFn.{KeyedFn, IsKeyedFn}
 use Rattle.script_run_texts.specs.Stops.{journal_cause, journal_line, journal_status}
@@ -36,6 +37,7 @@ use Rattle.sse_client.proofs.LastLine.{ends_line}
 use Rattle.sse_client.proofs.RunRejoins.{has_gone_on_so}
 use Rattle.sse_client.proofs.WholeRun.{IfSome-then}
 use Rattle.def_script_meaning.specs.Stops.{status_of}
+use Rattle.sse_client.specs.Known.{Known, Knows, OpensUnder, known_of, marks_before}
 use Rattle.sse_client.specs.ResumedRun.{AtKeyLine, GoesOnFrom, GoesOnOver, GoesOnTo, HasEndedAfter, IsUnrestored, Restores}
 use Rattle.sse_client.specs.KeyLines.{FindsKey, Keyed, Missing, key_line}
 use Rattle.sse_client.specs.LastLine.{EndsLine}
@@ -44,6 +46,11 @@ use Rattle.sse_client.specs.OnDisk.{HasGoneOn, IsUnopened, held_stop}
 use Rattle.sse_client.specs.declared.on_disk.HeldUp.TheVariants as held
 
 -- The records of a journal.
+
+-- the marks of epochs are those before the last, and the last one's
+last_mark : (first : List ℕ) (es : Epochs) → marks_of first es ≡ marks_before first es ++ key_now first es ∷ []
+last_mark first (From o run) = refl
+last_mark first (Renewed before own run) = refl
 
 module _ (f : KeyedFn) (key : List ℕ) (j : Journal) (content : Option (List ℕ)) (images : List ℕ → Type 0) (holds : IfSome content (λ file. IsOfRecords j content images)) where
   abbrev told : List (List ℕ) → Type 0
@@ -60,23 +67,31 @@ module _ (f : KeyedFn) (key : List ℕ) (j : Journal) (content : Option (List �
           subst P (sym same) (all of.0 of.1)
 
   -- a client that was restored of them
-  pub restores : (r : Rebuild) (client : Client Last) (rebuilt : IsRebuiltFrom told r) → r.mark ≡ mark_of f key → IsRestored r.mark rebuilt.payloads (restored.Recorded client) → (run : Run) × Restores f key (kept_on content) run × Remembers run client.state
-  restores r client rebuilt mark is =
-      (is.0, (is.2.kept, over_records (λ payloads. Opens (mark_of f key) payloads is.0) (λ payloads of. subst (λ m. Opens m payloads is.0) mark (subst (λ ps. Opens r.mark ps is.0) (rebuilt.all payloads of) is.1))), is.2)
+  pub restores : (r : Rebuilt) (client : Client Recorded) (rebuilt : IsRebuiltFrom told (mark_of f key) r) → IsRestored (mark_of f key) rebuilt.payloads (restored.Recorded client)
+      → (known : Known) × Restores f key (kept_on content) known × Knows f key known client.state
+  restores r client rebuilt (first, es, is) = (
+    known_of first es,
+    (
+      is.remembers.kept,
+      over_records (λ payloads. OpensUnder (mark_of f key) payloads (known_of first es))
+          (λ payloads of. record { first = first; es = es; opened = subst (λ ps. Opens first ps es) (rebuilt.all payloads of) is.opened; last = is.under; is = refl }),
+    ),
+    record { remembers = is.remembers; marks = is.marks ∙ last_mark first es ∙ ap (λ mark. marks_before first es ++ mark ∷ []) is.under },
+  )
 
   -- and why there is none
-  pub unrestored : (stop : JournalStop) → ((n : ℕ) → stop ≡ journals.BadRecord n → (payloads : List (List ℕ)) → told payloads → IsBadUnder (mark_of f key) payloads n)
-      → (stop ≡ journals.WrongKey → (payloads : List (List ℕ)) → told payloads → OpensElsewhere (mark_of f key) (take 1 payloads)) → ((payloads : List (List ℕ)) → told payloads → stop ≢ journals.NoJournal)
+  pub unrestored : (stop : JournalStop) → ((n : ℕ) → stop ≡ journals.BadRecord n → (payloads : List (List ℕ)) → told payloads → IsBadRecord payloads n)
+      → (stop ≡ journals.WrongKey → (payloads : List (List ℕ)) → told payloads → OpensElsewhere (mark_of f key) payloads) → ((payloads : List (List ℕ)) → told payloads → stop ≢ journals.NoJournal)
       → stop ≢ journals.HasRecords → IsUnrestored f key (kept_on content) (journal_cause stop)
   unrestored journals.NoJournal bad wrong readable other = over_records (λ payloads. ⊥) (λ payloads of. readable payloads of refl)
   unrestored journals.HasRecords bad wrong readable other = absurd (other refl)
-  unrestored (journals.BadRecord n) bad wrong readable other = over_records _ (λ payloads of. let is = bad n refl payloads of in ((is.before, is.opened), is.refused))
+  unrestored (journals.BadRecord n) bad wrong readable other = over_records _ (λ payloads of. bad n refl payloads of)
   unrestored journals.WrongKey bad wrong readable other = over_records _ (λ payloads of. wrong refl payloads of)
   unrestored journals.Disk bad wrong readable other = tt
   unrestored journals.Memory bad wrong readable other = tt
 
   -- there is one where there are records
-  pub unrestored-fresh : (r : Rebuild) (client : Client Fresh) (rebuilt : IsRebuiltFrom told r) → IsRestored r.mark rebuilt.payloads (restored.Fresh client) → 0 < records_of j → IsUnrestored f key (kept_on content) NoJournal
+  pub unrestored-fresh : (r : Rebuilt) (client : Client Fresh) (rebuilt : IsRebuiltFrom told (mark_of f key) r) → IsRestored (mark_of f key) rebuilt.payloads (restored.Fresh client) → 0 < records_of j → IsUnrestored f key (kept_on content) NoJournal
   unrestored-fresh r client rebuilt none some = over_records (λ payloads. ⊥) (λ payloads of. omega (arith, some, of.records_are, ap length (sym (rebuilt.all payloads of) ∙ none)))
 
 -- Before the lines.
@@ -103,12 +118,12 @@ module _ (f : KeyedFn) (left : Option (List (List ℕ))) (now : Outside) where
   )
 
 -- what a run that goes on comes to, from its key line on
-pub has_gone_on : (f : KeyedFn) (laws : IsKeyedFn f) (remaining : Option (List ℕ)) (key : List ℕ) (run : Run) (next : ℕ) (behind : Option (List (List ℕ))) (now last : Outside) (status f0 f2 s0 s2 : ℕ) → FindsKey 1 (lines_left [] remaining) key next behind → Restores f key now.kept run
-    → HasEndedAfter f key run next behind now last status f0 f2 s0 s2 → IfSome remaining (λ bytes. HasGoneOn f bytes now last status f0 f2 s0 s2)
-has_gone_on f laws None key run next behind now last status f0 f2 s0 s2 finds restores after = tt
-has_gone_on f laws (Some bytes) key run next behind now last status f0 f2 s0 s2 finds restores after =
-    let goes : GoesOnFrom f key run next (lines_in finds.0) now after.end = subst (λ b. IfSome b (λ texts. GoesOnFrom f key run next (lines_in texts) now after.end)) finds.1 after.goes_on in
-    has_gone_on_so f laws bytes now last status after.end (inr (subst (λ k. AtKeyLine f k now after.end) (sym finds.2) (inr (run, restores, goes)))) after.status_is f0 f2 s0 s2 after.told after.kept after.line
+pub has_gone_on : (f : KeyedFn) (laws : IsKeyedFn f) (remaining : Option (List ℕ)) (key : List ℕ) (known : Known) (next : ℕ) (behind : Option (List (List ℕ))) (now last : Outside) (status f0 f2 s0 s2 : ℕ) → FindsKey 1 (lines_left [] remaining) key next behind → Restores f key now.kept known
+    → HasEndedAfter f key known next behind now last status f0 f2 s0 s2 → IfSome remaining (λ bytes. HasGoneOn f bytes now last status f0 f2 s0 s2)
+has_gone_on f laws None key known next behind now last status f0 f2 s0 s2 finds restores after = tt
+has_gone_on f laws (Some bytes) key known next behind now last status f0 f2 s0 s2 finds restores after =
+    let goes : GoesOnFrom f key known next (lines_in finds.0) now after.end = subst (λ b. IfSome b (λ texts. GoesOnFrom f key known next (lines_in texts) now after.end)) finds.1 after.goes_on in
+    has_gone_on_so f laws bytes now last status after.end (inr (subst (λ k. AtKeyLine f k now after.end) (sym finds.2) (inr (known, restores, goes)))) after.status_is f0 f2 s0 s2 after.told after.kept after.line
 
 -- one that stops before its lines comes to its last line
 pub has_gone_on-held : (f : KeyedFn) (laws : IsKeyedFn f) (remaining : Option (List ℕ)) (now last : Outside) (stop : ends.Stop) (status f0 f2 s0 s2 : ℕ) → GoesOnTo f (lines_left [] remaining) now now stop → last.told ≡ now.told → last.kept ≡ now.kept

@@ -1,5 +1,5 @@
 -- How a session carries out an addition or a deletion: what its plan says at the place where it stands, and that it is done.
-use Rattle.std.proofs.Common.{◌≡◌, ◌≤◌, arith, ◌⊎◌, inl, inr, ℕ, true, false, List, [], ◌∷◌, map, refl, sym, ap, subst, ◌∙◌}
+use Rattle.std.proofs.Common.{◌≡◌, ◌≤◌, arith, ◌⊎◌, inl, inr, ℕ, true, false, List, [], ◌∷◌, ◌++◌, map, refl, sym, ap, subst, ◌∙◌}
 use Rattle.std.specs.Prelude.{◌≢◌, filter, Option, None, Some, Result, Ok, Err, IfOk, IfErr, IfSome, OnErr}
 use Rattle.std.specs.Option.{option_and_then, option_or}
 use Rattle.std.specs.Result.{result_err}
@@ -17,10 +17,12 @@ use Rattle.client_records.specs.Records.{update_record}
 use Rattle.client_registry.specs.Command.{Command, Add, Delete, is_update}
 use Rattle.client_registry.specs.Document.{Document}
 use Rattle.client_registry.specs.Histories.{longer}
-use Rattle.client_registry.specs.Run.{Run, at_first}
+use Rattle.client_registry.specs.Epochs.{begins, with_commands}
+use Rattle.client_registry.specs.Run.{Run, Offsets, Epochs, last_run}
+use Rattle.client_renewal.specs.declared.past.Past.{Past}
+use Rattle.keyed_fn.specs.KeyFormulas.{mark_of}
 use Rattle.keyed_fn.specs.KeyedFn.{KeyedFn}
 use Rattle.sse_frames.specs.Frames.{FrameText, frame_bytes}
-use Rattle.sse_model.specs.Epochs.{key_in}
 use Rattle.sse_model.specs.Histories.{frames_of_next}
 use Rattle.sse_script.specs.Shown as says
 use Rattle.sse_script.specs.Shown.{Cause}
@@ -37,6 +39,7 @@ use Rattle.sse_client.specs.Exchanges.{HasExchanged}
 use Rattle.sse_client.specs.RecordKept.{SendsKept}
 use Rattle.script_run_texts.specs.LineResultViews.{line_result_view, refuses}
 use Rattle.client_core.specs.Owes.{AreNumbered}
+use Rattle.sse_client.specs.Stages.{hash_keys_under}
 use Rattle.sse_client.specs.Stands.{IsAt, Seen, GoesOn, outside_of}
 use Rattle.script_run_texts.specs.Stops.{command_cause}
 use Rattle.script_run_texts.specs.declared.command_stop.CommandStop.{CommandStop}
@@ -48,7 +51,7 @@ use Rattle.sse_client.specs.declared.session.Stage.TheVariants.{Searching}
 use Rattle.sse_client.specs.declared.update_answer.UpdateAnswer.{UpdateAnswer}
 use Rattle.sse_client.specs.declared.update_answer.UpdateAnswer.TheVariants as answers
 use Rattle.sse_client.proofs.CommandTaken.{goes-refused, stops-kept, stops-memory}
-use Rattle.sse_client.proofs.PlansOfUpdates.{IsPlanFor, StandsFor-longer, frames-at, plan-add-at, plan-delete-at, refuses-delete}
+use Rattle.sse_client.proofs.PlansOfUpdates.{IsPlanFor, StandsFor-longer, key_in-longer, marks_in-longer, frames-at, plan-add-at, plan-delete-at, refuses-delete}
 
 -- Plans.
 
@@ -102,34 +105,40 @@ named_refusal (Ok (answers.Refused refusal)) why is = cc
 named_refusal (Err stop) why is = absurd (cc)
 
 module _ (f : KeyedFn) (place : Place) (client : Client Ready) (at : IsAt f (Searching client) place) where
+  abbrev es : Epochs
+  es = at.stands.0
+
+  abbrev o : Offsets
+  o = begins es
+
   abbrev run : Run
-  run = at.stands.0
+  run = last_run es
 
   -- the key of its place is the prepared one
-  pub at_master : (master : List ℕ) → master ≡ client.key → keys_at place at_first.epoch ≡ master
-  at_master master prepared = ap (key_in place.key) at.stands.1 ∙ sym (prepared ∙ at.key)
+  pub at_master : (master : List ℕ) → master ≡ client.key → keys_at place o.epoch ≡ master
+  at_master master prepared = sym (prepared ∙ at.key)
 
   -- the frame of a plan at this place
-  pub frame_at : (c : Command) (bytes : List ℕ) → bytes ∷ [] ≡ map frame_bytes (frames_next f (keys_at place) at_first run c) → bytes ∷ [] ≡ map frame_bytes (frames_of_next f place.key place.history (c ∷ []))
-  frame_at c bytes is = is ∙ ap (map frame_bytes) (sym (frames-at f place run at.stands.1 c))
+  pub frame_at : (c : Command) (bytes : List ℕ) → bytes ∷ [] ≡ map frame_bytes (frames_next f (keys_at place) o run c) → bytes ∷ [] ≡ map frame_bytes (frames_of_next f place.key place.history (c ∷ []))
+  frame_at c bytes is = is ∙ ap (map frame_bytes) (sym (frames-at f place es at.stands.1 c))
 
   module _ (r : Result PlannedUpdate CommandFault) where
-    pub addition_at : (d : Document) → document_refusal d.id d.words ≡ None → (r ≢ Err commands.NoMemory → result_err r ≡ add_fault f (keys_at place) at_first run d)
+    pub addition_at : (d : Document) → document_refusal d.id d.words ≡ None → (r ≢ Err commands.NoMemory → result_err r ≡ add_fault f (keys_at place) o run d)
         → IsPlanFor (add_refusal place.history d) (clash_of f place (Add d)) r
-    addition_at d valid fault = plan-add-at f place run at.stands.1 r at.stands.2.kept d valid fault
+    addition_at d valid fault = plan-add-at f place es at.stands.1 r at.stands.2.kept d valid fault
 
     module _ (id : ℕ) (some : 1 ≤ id) where
       not_zero : id ≢ 0
       not_zero = λ zero. absurd (omega (arith, some, zero))
 
-      pub deletion_at : (r ≢ Err commands.NoMemory → result_err r ≡ delete_fault f (keys_at place) at_first run id) → IsPlanFor (delete_refusal place.history id) (clash_of f place (Delete id)) r
-      deletion_at fault = plan-delete-at f place run at.stands.1 r id not_zero fault
+      pub deletion_at : (r ≢ Err commands.NoMemory → result_err r ≡ delete_fault f (keys_at place) o run id) → IsPlanFor (delete_refusal place.history id) (clash_of f place (Delete id)) r
+      deletion_at fault = plan-delete-at f place es at.stands.1 r id not_zero fault
 
       -- a refused deletion is refused, whatever memory there is
-      pub deletion_refused : IfSome (core.delete_refusal at_first run id) (λ fault. r ≡ Err fault) → (x : CommandFault) → r ≡ Err x → IfSome (delete_refusal place.history id) (λ refusal. answer_to_command x ≡ Ok (answers.Refused refusal))
+      pub deletion_refused : IfSome (core.delete_refusal o run id) (λ fault. r ≡ Err fault) → (x : CommandFault) → r ≡ Err x → IfSome (delete_refusal place.history id) (λ refusal. answer_to_command x ≡ Ok (answers.Refused refusal))
       deletion_refused first x is =
-          subst (λ o. IfSome o (λ refusal. answer_to_command x ≡ Ok (answers.Refused refusal))) (sym (ap (λ h. delete_refusal h id) at.stands.1 ∙ refuses-delete run id not_zero))
-          (by (core.delete_refusal at_first run id) first)
+          subst (λ o. IfSome o (λ refusal. answer_to_command x ≡ Ok (answers.Refused refusal))) (sym (ap (λ h. delete_refusal h id) at.stands.1 ∙ refuses-delete o run id not_zero))
+          (by (core.delete_refusal o run id) first)
         where
           named : (e : CommandFault) → x ≡ e → (o : Option Refusal) → refusal_in (answer_to_command e) ≡ o → IfSome o (λ refusal. answer_to_command x ≡ Ok (answers.Refused refusal))
           named e same None known = tt
@@ -140,9 +149,9 @@ module _ (f : KeyedFn) (place : Place) (client : Client Ready) (at : IsAt f (Sea
           by (Some e) h = let same : x ≡ e = cc in named e same (refusal_in (answer_to_command e)) refl
 
 -- the frame of an update has the number that the client gives it
-numbered-next : (f : KeyedFn) (keys : ℕ → List ℕ) (run : Run) (u : Update) (state : Ready) → StandsFor f keys at_first run state → AreNumbered state.frames (frames_next f keys at_first run (command_of_update u))
-numbered-next f keys run (kinds.Add doc) state s = (ap Some (sym s.number), tt)
-numbered-next f keys run (kinds.Delete id) state s = (ap Some (sym s.number), tt)
+numbered-next : (f : KeyedFn) (keys : ℕ → List ℕ) (o : Offsets) (run : Run) (u : Update) (state : Ready) → StandsFor f keys o run state → AreNumbered state.frames (frames_next f keys o run (command_of_update u))
+numbered-next f keys begin before (kinds.Add doc) state s = (ap Some (sym s.number), tt)
+numbered-next f keys begin before (kinds.Delete id) state s = (ap Some (sym s.number), tt)
 
 module _ (f : KeyedFn) (place : Place) (client : Client Ready) (at : IsAt f (Searching client) place) (u : Update) (c : Command) (is : command_of_update u ≡ c) where
   abbrev next_frames : List FrameText
@@ -151,7 +160,7 @@ module _ (f : KeyedFn) (place : Place) (client : Client Ready) (at : IsAt f (Sea
   pub numbered-at : AreNumbered client.state.frames next_frames
   numbered-at =
       subst (AreNumbered client.state.frames) (sym (frames-at f place at.stands.0 at.stands.1 c))
-      (subst (λ d. AreNumbered client.state.frames (frames_next f (keys_at place) at_first at.stands.0 d)) is (numbered-next f (keys_at place) at.stands.0 u client.state at.stands.2))
+      (subst (λ d. AreNumbered client.state.frames (frames_next f (keys_at place) (begins at.stands.0) (last_run at.stands.0) d)) is (numbered-next f (keys_at place) (begins at.stands.0) (last_run at.stands.0) u client.state at.stands.2))
 
 -- the record of an update's plan is that of its command
 records_of_update : (u : Update) (c : Command) → command_of_update u ≡ c → update_record (command_of_update u) ∷ [] ≡ map update_record (filter is_update (c ∷ []))
@@ -173,9 +182,9 @@ module _ (f : KeyedFn) (place : Place) (refusal : Option Refusal) (c : Command) 
 
     -- an update whose record was kept and whose frame was exchanged is done
     pub goes-updated : (ready : Client Ready) (came : LineResult) → Keeps old.kept new.kept (payload ∷ []) → HasExchanged old.told new.told [] (frames_of_next f place.key place.history (c ∷ []))
-        → line_result_view came ≡ with_answers [] (shown ∷ []) → refuses came ≡ false → ready.key ≡ client.key → ready.state.registry.keys ≡ client.state.registry.keys → StandsFor f (keys_at place) at_first (with_command at.stands.0 c) ready.state
+        → line_result_view came ≡ with_answers [] (shown ∷ []) → refuses came ≡ false → ready.key ≡ client.key → ready.state.registry.keys ≡ client.state.registry.keys → ready.state.past ≡ client.state.past → StandsFor f (keys_at place) (begins at.stands.0) (with_command (last_run at.stands.0) c) ready.state
         → GoesOn f old new (Searching ready) came place (unless refusal updating)
-    goes-updated ready came kept x view fine keyed hashes stands =
+    goes-updated ready came kept x view fine keyed hashes past stands =
         subst (GoesOn f old new (Searching ready) came place) (sym (accepted-is none))
         (record {
           kept = subst (Keeps old.kept new.kept) (records_of_update planned.update c plan.command) kept;
@@ -184,9 +193,11 @@ module _ (f : KeyedFn) (place : Place) (refusal : Option Refusal) (c : Command) 
           shown = view;
           refuses = fine;
           stands = record {
-            key = keyed ∙ at.key;
-            stands = (with_command at.stands.0 c, ap (longer (c ∷ [])) at.stands.1, StandsFor-longer f place.key place.history (c ∷ []) (with_command at.stands.0 c) ready.state stands);
-            hashed = hashes ∙ at.hashed;
+            key = keyed ∙ at.key ∙ key_in-longer place.key place.history (c ∷ []);
+            stands = (with_commands (c ∷ []) at.stands.0, ap (longer (c ∷ [])) at.stands.1, StandsFor-longer f place.key place.history (c ∷ []) at.stands.0 ready.state at.stands.1 stands);
+            hashed = hashes ∙ at.hashed ∙ ap (hash_keys_under f) (key_in-longer place.key place.history (c ∷ []));
+            mark = at.mark;
+            marks = ap (λ (p : Past). p.marks.items) past ∙ at.marks ∙ ap (λ marks. place.used ++ marks) (marks_in-longer (mark_of f) place.key place.history (c ∷ []));
           };
         })
 

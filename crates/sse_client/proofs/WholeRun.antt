@@ -2,6 +2,7 @@
 use Rattle.std.proofs.Common.{◌≡◌, ◌≢◌, ℕ, ◌+◌, ◌≤◌, false, List, [], inr, refl, sym, subst, ◌∙◌}
 use Rattle.std.specs.Prelude.{Option, None, Some, Result, Ok, Err, IfSome, IsErrAnd}
 use Rattle.client_registry.specs.Histories.{empty}
+use Rattle.keyed_fn.specs.KeyFormulas.{mark_of}
 use Rattle.keyed_fn.specs.KeyedFn.{KeyedFn, IsKeyedFn}
 use Rattle.server_core.specs.State.{ServerState}
 use Rattle.def_agreement.specs.TakenFrames.{Expects}
@@ -11,7 +12,7 @@ use Rattle.def_script_meaning.proofs.Recorded.{recorded}
 use Rattle.def_script_meaning.specs.Recorded.{IsRecorded, KeepsFirst, records_with}
 use Rattle.def_script_meaning.specs.Joined.{LeavesServer}
 use Rattle.def_script_meaning.specs.Lines.{script_lines}
-use Rattle.def_script_meaning.proofs.OneEpoch.{meaning_is_whole}
+use Rattle.def_script_meaning.proofs.Whole.{meaning_is_whole}
 use Rattle.def_script_meaning.proofs.Simulated.{sends_simulated}
 use Rattle.def_script_meaning.proofs.RunGoes.{goes}
 use Rattle.def_script_meaning.proofs.Within.{meaning_is_kept}
@@ -71,7 +72,7 @@ module _ (f : KeyedFn) (n : ℕ) (reader : List ℕ) (remaining : Option (List �
         )
 
     -- the session was opened, and the lines were carried out until the run ended
-    pub opens-greeted : (mid : Told) (end : Outside) (stop : ends.Stop) → Greets 0 0 told.told mid → EndsFrom f (moment (opened key) (number + 1) behind false (outside_of (seen mid told.kept) written)) end stop
+    pub opens-greeted : (mid : Told) (end : Outside) (stop : ends.Stop) → Greets 0 0 told.told mid → EndsFrom f (moment (opened (Some (mark_of f)) key) (number + 1) behind false (outside_of (seen mid told.kept) written)) end stop
         → OpensTo f (lines_left [] remaining) (outside_of told written) end stop
     opens-greeted mid end stop greets runs =
         let e = ended end (Some key) runs.0 stop in (
@@ -87,7 +88,7 @@ module _ (f : KeyedFn) (laws : IsKeyedFn f) (bytes : List ℕ) (now last : Outsi
     (same_told : last.told ≡ end.outside.told) (same_kept : last.kept ≡ end.outside.kept) (printed : EndsLine end.stop end.outside.written last.written status sink.faults sink'.faults sink.shortages sink'.shortages)
     (is : status ≡ status_of end.stop) where
   sends : SendsSimulated f end.key end.history now.told last.told
-  sends = subst (SendsSimulated f end.key end.history now.told) (sym same_told) (sends_simulated f (meaning bytes) now end (goes f bytes now end opening) (meaning_is_whole bytes) (meaning_is_kept bytes).0)
+  sends = subst (SendsSimulated f end.key end.history now.told) (sym same_told) (sends_simulated f (meaning (Some (mark_of f)) bytes) now end (goes f bytes now end opening) (meaning_is_whole (Some (mark_of f)) bytes) (meaning_is_kept (Some (mark_of f)) bytes).0)
 
   takes_records : IsRecorded f end.key end.history status now last
   takes_records =
@@ -116,9 +117,9 @@ module _ (f : KeyedFn) (laws : IsKeyedFn f) (bytes : List ℕ) (now last : Outsi
     leaves free = run_leaves f laws bytes now end opening before state expects over_link free
 
     -- where nothing disturbed it, it did what its script means
-    means : IsFree f (meaning bytes).key (meaning bytes).history → IsUndisturbed status → Headline f before (meaning bytes) now last status state
+    means : IsFree f (meaning (Some (mark_of f)) bytes).key (meaning (Some (mark_of f)) bytes).history → IsUndisturbed status → Headline f before (meaning (Some (mark_of f)) bytes) now last status state
     means free calm =
-        subst (λ n. Headline f before (meaning bytes) now last n state) (sym is)
+        subst (λ n. Headline f before (meaning (Some (mark_of f)) bytes) now last n state) (sym is)
         (headline f laws bytes now end opening before state expects over_link last (Ends-line end last status sink.faults sink'.faults sink.shortages sink'.shortages same_told same_kept printed) free (subst IsUndisturbed is calm))
 
   pub is_run : IsRun f bytes now last sink sink' status

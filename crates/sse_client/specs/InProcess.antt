@@ -11,6 +11,7 @@ use Rattle.def_script_meaning.specs.Recorded.{records_with}
 use Rattle.def_script_meaning.specs.Session.{IsFree, frames_of}
 use Rattle.def_script_meaning.specs.Stops as ends
 use Rattle.def_script_meaning.specs.Stops.{status_of, stop_text}
+use Rattle.keyed_fn.specs.KeyFormulas.{mark_of}
 use Rattle.keyed_fn.specs.KeyedFn.{KeyedFn}
 use Rattle.script_run_texts.specs.Stops.{journal_cause, journal_status}
 use Rattle.script_run_texts.specs.declared.journal_stop.JournalStop.{JournalStop}
@@ -47,8 +48,8 @@ pub record RunsInProcess (f : KeyedFn) (bytes : List ℕ) (sink sink' : SinkShow
   pub honest : IsHonest f at_first link.events link.state
   pub run : IsRunOverServer f bytes (seen_over unused [] sink.written) (outside (Some link.events) kept sink'.written) sink sink' link.state status
   -- and where source and sink didn't fail, memory wasn't out and the history has no collision, both files are filled
-  pub both : status ≢ 3 → status ≢ 4 → status ≢ 7 → IsFree f (meaning bytes).key (meaning bytes).history
-      → FillsBothFiles f (meaning bytes) link own (seen_over unused [] sink.written) (seen_over link own sink'.written) status
+  pub both : status ≢ 3 → status ≢ 4 → status ≢ 7 → IsFree f (meaning (Some (mark_of f)) bytes).key (meaning (Some (mark_of f)) bytes).history
+      → FillsBothFiles f (meaning (Some (mark_of f)) bytes) link own (seen_over unused [] sink.written) (seen_over link own sink'.written) status
 
 -- a run that is to go on has no journal to go on from: nothing is read, and the last line says so, or that memory was out
 pub record HasNoJournal {S : Type 0} (source source' : S) (sink sink' : SinkShows) (status : ℕ) : Type 0 where
@@ -68,4 +69,4 @@ pub record PrintsMeaning (m : Meaning) (old new : Option (List ℕ)) (status : �
 
 -- where its history has no collision, the script has the lines and the status of its meaning
 abbrev pub PrintsAsMeant : KeyedFn → List ℕ → Option (List ℕ) → Option (List ℕ) → ℕ → Type 0
-PrintsAsMeant f bytes old new status = IsFree f (meaning bytes).key (meaning bytes).history → PrintsMeaning (meaning bytes) old new status
+PrintsAsMeant f bytes old new status = IsFree f (meaning (Some (mark_of f)) bytes).key (meaning (Some (mark_of f)) bytes).history → PrintsMeaning (meaning (Some (mark_of f)) bytes) old new status

@@ -1,5 +1,6 @@
 pub mod Stops
 pub mod SetupFaults
+pub mod RenewalFaults
 pub mod UpdateFaults
 pub mod UpdatePlans
 pub mod Stages
@@ -9,6 +10,7 @@ pub mod Queried
 pub mod Calls
 pub mod Steps
 pub mod Stands
+pub mod Known
 pub mod RecordKept
 pub mod Turns
 pub mod LastLine

@@ -1,9 +1,10 @@
 -- A run over a fresh server in the same process.
-use Rattle.std.specs.Prelude.{◌≢◌, ◌≤◌, ℕ, List}
+use Rattle.std.specs.Prelude.{◌≢◌, ◌≤◌, ℕ, List, Some}
 use Rattle.def_script_meaning.specs.Carries.{Outside}
 use Rattle.def_script_meaning.specs.Headline.{Headline}
 use Rattle.def_script_meaning.specs.Meaning.{meaning}
 use Rattle.def_script_meaning.specs.Session.{IsFree}
+use Rattle.keyed_fn.specs.KeyFormulas.{mark_of}
 use Rattle.keyed_fn.specs.KeyedFn.{KeyedFn}
 use Rattle.server_core.specs.State.{ServerState, at_first}
 use Rattle.client_journal.specs.Shows.{SinkShows}
@@ -14,4 +15,4 @@ use Rattle.sse_client.specs.WholeRuns.{IsRun}
 pub record IsRunOverServer (f : KeyedFn) (bytes : List ℕ) (now last : Outside) (sink sink' : SinkShows) (state : ServerState) (status : ℕ) : Type 0 where
   pub run : IsRun f bytes now last sink sink' status
   pub stopped : IsFree f run.end.key run.end.history → status ≤ 7
-  pub headline : status ≢ 3 → status ≢ 4 → status ≢ 6 → status ≢ 7 → IsFree f (meaning bytes).key (meaning bytes).history → Headline f at_first (meaning bytes) now last status state
+  pub headline : status ≢ 3 → status ≢ 4 → status ≢ 6 → status ≢ 7 → IsFree f (meaning (Some (mark_of f)) bytes).key (meaning (Some (mark_of f)) bytes).history → Headline f at_first (meaning (Some (mark_of f)) bytes) now last status state

@@ -1,8 +1,7 @@
 -- A run whose client keeps its records in a file of its own, over a link to a store whose file is observable too. It says everything that the
 -- client and the server hold at the end, beside the traffic and the printed text.
-use Rattle.std.specs.Prelude.{◌≡◌, ◌≢◌, ℕ, List, [], ◌++◌, All, drop, Option, Some, IfSome}
-use Rattle.client_records.specs.Recorded.{recorded}
-use Rattle.client_registry.specs.Run.{Run}
+use Rattle.std.specs.Prelude.{◌≡◌, ◌≢◌, ℕ, ◌-◌, List, [], ◌++◌, All, drop, Option, Some, IfSome}
+use Rattle.keyed_fn.specs.KeyFormulas.{mark_of}
 use Rattle.keyed_fn.specs.KeyedFn.{KeyedFn}
 use Rattle.def_link_events.specs.Events.{AreStepped}
 use Rattle.def_link_events.specs.Served.{IsHonest}
@@ -12,6 +11,7 @@ use Rattle.def_script_meaning.specs.Headline.{Headline, IsOverHonest}
 use Rattle.def_script_meaning.specs.Meaning.{Meaning, meaning}
 use Rattle.def_script_meaning.specs.Recorded.{records_with}
 use Rattle.def_script_meaning.specs.Rejoins.{Rejoined, frames_under}
+use Rattle.def_script_meaning.specs.Since.{records_since}
 use Rattle.def_script_meaning.specs.Session.{IsFree, frames_of}
 use Rattle.server_core.specs.State.{ServerState}
 use Rattle.def_agreement.specs.TakenFrames.{Expects}
@@ -24,6 +24,7 @@ use Rattle.outside_memory_disk.specs.SteadyDisk.{file_of, images_of, moment_of, 
 use Rattle.outside_memory_disk.specs.declared.steady_disk.SteadyDisk.{SteadyDisk}
 use Rattle.sse_server.specs.Taken.{bodies}
 use Rattle.client_journal.specs.Openings.{GivesSome}
+use Rattle.sse_client.specs.Known.{Known, epochs_known}
 use Rattle.sse_client.specs.CanGoOn.{CanResume, meaning_after}
 use Rattle.client_journal.specs.DiskRuns.{kept_on}
 use Rattle.sse_client.specs.OnDisk.{BeginsOnDisk, ResumesOnDisk, seen_with}
@@ -51,23 +52,23 @@ pub record IsOnBothSides (f : KeyedFn) (m : Meaning) (old new : LinkState) (own'
 
 -- the same of a run that goes on (Rejoined), with the frames that the server lacked and those after them: the client's file is exactly that
 -- of its old records and then those of the commands after the run
-pub record IsRejoinedOnBothSides (f : KeyedFn) (start : ServerState) (key : List ℕ) (run : Run) (next : ℕ) (m : Meaning) (old new : LinkState) (own own' : List ℕ) (now last : Outside) (status : ℕ) : Type 0 where
-  pub rejoined : Rejoined f start key run next m now last status new.state
-  pub own_file : own' ≡ file (records_in_file own ++ recorded rejoined.more)
-  pub stored : HasStoredUpdates (drop next (frames_under f key m.history)) old new
+pub record IsRejoinedOnBothSides (f : KeyedFn) (start : ServerState) (key : List ℕ) (known : Known) (next : ℕ) (m : Meaning) (old new : LinkState) (own own' : List ℕ) (now last : Outside) (status : ℕ) : Type 0 where
+  pub rejoined : Rejoined f start key (epochs_known known) next m now last status new.state
+  pub own_file : own' ≡ file (records_in_file own ++ records_since f rejoined.more)
+  pub stored : HasStoredUpdates (drop (next - known.begins.frame) (frames_under f key m.history)) old new
 
 -- so it was where the client's file had no record, the server expected a setup, and the history has no collision
 abbrev pub BeginsOnBothSides : KeyedFn → (bytes : List ℕ) → (old new : LinkState) → (own own' : List ℕ) → (written written' : Option (List ℕ)) → (status : ℕ) → Type 0
 BeginsOnBothSides f bytes old new own own' written written' status =
-    Gives [] own → Expects 0 old.state → IsFree f (meaning bytes).key (meaning bytes).history
-    → IsOnBothSides f (meaning bytes) old new own' (seen_over old own written) (seen_over new own' written') status
+    Gives [] own → Expects 0 old.state → IsFree f (meaning (Some (mark_of f)) bytes).key (meaning (Some (mark_of f)) bytes).history
+    → IsOnBothSides f (meaning (Some (mark_of f)) bytes) old new own' (seen_over old own written) (seen_over new own' written') status
 
 -- and where a run went on, with the records of the file that it had and with the server as it was
 abbrev pub GoesOnOnBothSides : KeyedFn → (bytes : List ℕ) → (old new : LinkState) → (own own' : List ℕ) → (written written' : Option (List ℕ)) → (status : ℕ) → Type 0
 GoesOnOnBothSides f bytes old new own own' written written' status =
     GivesSome own → (can : CanResume f bytes (kept_on (Some own)) old.state) →
-    let m = meaning_after can.key can.run can.number can.lines in
-    IsFree f m.key m.history → IsRejoinedOnBothSides f can.taken.start can.key can.run can.next m old new own own' (seen_over old own written) (seen_over new own' written') status
+    let m = meaning_after f can.key can.known can.number can.lines in
+    IsFree f m.key m.history → IsRejoinedOnBothSides f can.taken.start can.key can.known can.next m old new own own' (seen_over old own written) (seen_over new own' written') status
 
 -- `run` does over such a link what it does on a disk; and if source and sink didn't fail and memory wasn't out, it is on both sides
 pub record BeginsOverStore (f : KeyedFn) (remaining : Option (List ℕ)) (old new : LinkState) (disk disk' : SteadyDisk) (sink sink' : SinkShows) (status : ℕ) : Type 0 where

@@ -1,13 +1,11 @@
 -- The record of a command, kept before anything of the command is sent.
 use Rattle.std.specs.Prelude.{◌≡◌, ◌⊎◌, ℕ, List, [], ◌∷◌, ◌++◌, Result, Ok, Err, IfErr, OnOk}
 use Rattle.client_core.specs.Owes.{Owes}
-use Rattle.client_core.specs.Payloads.{setup_payload, update_payload}
-use Rattle.client_core.specs.Plans.{SetupPlan, UpdatePlan}
+use Rattle.client_core.specs.Payloads.{renewal_payload, setup_payload, update_payload}
+use Rattle.client_core.specs.Plans.{RenewalPlan, SetupPlan, UpdatePlan}
 use Rattle.client_core.specs.TakenViews.{to_send}
 use Rattle.client_core.specs.declared.behind.Behind.{Behind}
 use Rattle.client_core.specs.declared.client.Client.{Client}
-use Rattle.client_records.specs.Openings.{Opens}
-use Rattle.client_registry.specs.Run.{Run, at_first}
 use Rattle.keyed_fn.specs.KeyFormulas.{mark_of}
 use Rattle.keyed_fn.specs.KeyedFn.{KeyedFn}
 use Rattle.script_run_texts.specs.Stops.{peer_cause}
@@ -18,6 +16,7 @@ use Rattle.script_run_texts.specs.declared.stop_cause.StopCause.TheVariants as s
 use Rattle.def_script_meaning.specs.Carries.{Keeps}
 use Rattle.sse_outside.specs.Kept.{Kept, with_refused}
 use Rattle.sse_client.specs.Exchanges.{HasExchanged, HasCut}
+use Rattle.sse_client.specs.Known.{Known, OpensUnder}
 use Rattle.sse_client.specs.Stands.{Seen}
 use Rattle.sse_frames.specs.Frames.{FrameText}
 
@@ -41,13 +40,14 @@ SendsKept payload old new frames (Err _) = ⊥
 abbrev pub EndsWith : (records : List (List ℕ)) (payload : List ℕ) → Type 0
 EndsWith records payload = (before : List (List ℕ)) × (records ≡ before ++ payload ∷ [])
 
--- the frames that a client owes are those of the update of which the last record is: by the plan of both; or the records open under the
--- client's key to a history, for which the client stands, and it owes frames of the history's last command
+-- the frames that a client owes are those of the command of which the last record is, by the plan of both: a setup, an update, or a renewal of
+-- the key; or the records open under the client's key, it stands for the last epoch, and it owes frames of the last command
 abbrev pub OwesLast : KeyedFn → (records : List (List ℕ)) → Client Behind → Type 0
 OwesLast f records client =
     ((planned : SetupPlan) × EndsWith records (setup_payload planned) × (to_send client.state ≡ planned.frames))
     ⊎ ((planned : UpdatePlan) × EndsWith records (update_payload planned) × (to_send client.state ≡ planned.frame ∷ []))
-    ⊎ ((run : Run) × (acknowledged : ℕ) × Opens (mark_of f client.key) records run × Owes f (λ epoch. client.key) at_first run acknowledged client.state)
+    ⊎ ((planned : RenewalPlan) × EndsWith records (renewal_payload planned) × (to_send client.state ≡ planned.frames))
+    ⊎ ((known : Known) × (acknowledged : ℕ) × OpensUnder (mark_of f client.key) records known × Owes f (λ epoch. client.key) known.begins known.run acknowledged client.state)
 
 -- what keeps the records takes more of them after a command that was stopped, unless it refused the command's record
 

@@ -1,5 +1,5 @@
--- The keys of a session.
-use Rattle.std.specs.Prelude.{ℕ, List}
+-- The keys of a session, and the marks of its epochs.
+use Rattle.std.specs.Prelude.{ℕ, List, []}
 use Rattle.keyed_fn.specs.KeyFormulas.{plain_key}
 use Rattle.keyed_fn.specs.KeyedFn.{KeyedFn}
 use Rattle.word_keys.specs.HashNumbers.{numbers_of_key}
@@ -15,6 +15,11 @@ key_of (Searching client) = client.key
 abbrev pub hash_keys_of : Stage → ℕ × ℕ
 hash_keys_of (Collecting client docs) = docs.keys
 hash_keys_of (Searching client) = client.state.registry.keys
+
+-- the marks of the keys of its epochs; before the setup it keeps none
+abbrev pub marks_of : Stage → List (List ℕ)
+marks_of (Collecting client docs) = []
+marks_of (Searching client) = client.state.past.marks.items
 
 -- those of a master key, which are its part 13
 abbrev pub hash_keys_under : KeyedFn → List ℕ → ℕ × ℕ

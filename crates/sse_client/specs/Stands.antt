@@ -1,25 +1,28 @@
 -- The place of a session in its script, the effect of a command there, and the end of a run.
 use Rattle.std.specs.Prelude.{◌≡◌, ◌≢◌, ◌⊎◌, Bool, true, false, List, [], ◌∷◌, ℕ, map, Option, Some, None}
+use Rattle.std.specs.Option.{option_or}
 use Rattle.client_core.specs.StandsFor.{StandsFor}
 use Rattle.client_registry.specs.Acceptance.{size_refusal}
 use Rattle.client_registry.specs.Histories.{is_set_up}
 use Rattle.client_registry.specs.Live.{in_order}
-use Rattle.client_registry.specs.Run.{History, Run, at_first, From}
+use Rattle.client_registry.specs.Epochs.{begins}
+use Rattle.client_registry.specs.Run.{History, Run, Offsets, Epochs, last_run}
 use Rattle.client_registry.specs.Setup.{setup_with}
+use Rattle.keyed_fn.specs.KeyFormulas.{mark_of}
 use Rattle.keyed_fn.specs.KeyedFn.{KeyedFn}
 use Rattle.sse_script.specs.Shown.{Cause, BadWords, NoMemory}
-use Rattle.sse_model.specs.Epochs.{keys_under}
+use Rattle.sse_model.specs.Epochs.{key_in}
 use Rattle.def_script_meaning.specs.Carries.{Keeps, Outside, keys_at, records_by, with_answers, IsSent, Carries, StopsIn, IsUnprinted}
 use Rattle.sse_outside.specs.Kept.{Kept}
 use Rattle.def_script_meaning.specs.Exchange.{Told}
 use Rattle.def_script_meaning.specs.Lines.{Request}
-use Rattle.def_script_meaning.specs.Outcome.{Place, Outcome, outcome, after, shown_by, is_refusal}
+use Rattle.def_script_meaning.specs.Outcome.{Place, Outcome, marks_so_far, used_refusal, setup_after, outcome, after, shown_by, is_refusal}
 use Rattle.script_documents.specs.Refused.{bad_word}
-use Rattle.def_script_meaning.specs.Refused.{delete_refusal}
+use Rattle.def_script_meaning.specs.Refused.{delete_refusal, live_refusal}
 use Rattle.def_script_meaning.specs.Runs.{ended, Moment, RunsFrom, OpensFrom}
 use Rattle.def_script_meaning.specs.Stops as ends
-use Rattle.sse_script.specs.Lines.{Line, Doc, SetupLine, AddLine, Del, Find, Query}
-use Rattle.sse_client.specs.Stages.{key_of, hash_keys_of, hash_keys_under}
+use Rattle.sse_script.specs.Lines.{Line, Doc, SetupLine, AddLine, Del, Find, Query, Rebuild}
+use Rattle.sse_client.specs.Stages.{key_of, hash_keys_of, hash_keys_under, marks_of}
 use Rattle.script_run_texts.specs.LineResultViews.{line_result_view, refuses}
 use Rattle.script_run_texts.specs.Stops.{command_cause, input_cause}
 use Rattle.script_run_texts.specs.declared.line_result.LineResult.{LineResult}
@@ -30,24 +33,33 @@ use Rattle.sse_client.specs.declared.session.Stage.TheVariants.{Collecting, Sear
 use Rattle.script_run_texts.specs.declared.stop_cause.StopCause.{StopCause}
 use Rattle.script_run_texts.specs.declared.stop_cause.StopCause.TheVariants as stops
 
--- a session that is set up stands for this run
-abbrev pub IsReady : KeyedFn → List ℕ → Run → Stage → Type 0
-IsReady f key run (Collecting client docs) = ⊥
-IsReady f key run (Searching client) = StandsFor f (keys_under key (Some (From at_first run))) at_first run client.state
+-- a session that is set up stands for this run, which begins there under this key
+abbrev pub IsReady : KeyedFn → List ℕ → Offsets → Run → Stage → Type 0
+IsReady f key o run (Collecting client docs) = ⊥
+IsReady f key o run (Searching client) = StandsFor f (λ epoch. key) o run client.state
 
 -- a session collects the documents of a place that isn't set up, and after the setup it stands for the history of the place
 abbrev pub IsStage : KeyedFn → Stage → Place → Type 0
 IsStage f (Collecting client docs) place = (docs.documents ≡ place.documents) × (is_set_up place.history ≡ false)
-IsStage f (Searching client) place = (run : Run) × (place.history ≡ Some (From at_first run)) × StandsFor f (keys_at place) at_first run client.state
+IsStage f (Searching client) place = (es : Epochs) × (place.history ≡ Some es) × StandsFor f (keys_at place) (begins es) (last_run es) client.state
 
--- a session stands at a place of its script, under its key, and hashes under numbers that are made of that key
+-- it keeps the marks of the keys of all epochs up to the place; before the setup there is none
+abbrev pub HasMarks : KeyedFn → Stage → Place → Type 0
+HasMarks f (Collecting client docs) place = place.used ≡ []
+HasMarks f (Searching client) place = marks_of (Searching client) ≡ marks_so_far (mark_of f) place
+
+-- a session stands at a place of its script, under the key of the last epoch, and hashes under numbers that are made of that key; a new
+-- key is compared by its mark with those before
 pub record IsAt (f : KeyedFn) (stage : Stage) (place : Place) : Type 0 where
-  pub key : key_of stage ≡ place.key
+  pub key : key_of stage ≡ key_in place.key place.history
   pub stands : IsStage f stage place
-  pub hashed : hash_keys_of stage ≡ hash_keys_under f place.key
+  pub hashed : hash_keys_of stage ≡ hash_keys_under f (key_in place.key place.history)
+  pub mark : place.mark ≡ Some (mark_of f)
+  pub marks : HasMarks f stage place
 
 -- a session may stop in this line: no refusal stands that is found without memory, as those of the stage, of the identifier
--- zero, of a setup's size, of a bad word, and of a deletion. A query is read in memory, so all its refusals may be missed
+-- zero, of a setup's size, of a bad word, of a deletion, and of a rebuild's key or its count of documents or pairs. A query is read in
+-- memory, so all its refusals may be missed
 abbrev pub MayStop : KeyedFn → Stage → Line → Type 0
 MayStop f (Collecting client docs) (Doc id words) = id ≢ 0
 MayStop f (Collecting client docs) (SetupLine b big pad) = size_refusal (setup_with docs.documents b big pad) ≡ None
@@ -55,6 +67,8 @@ MayStop f (Searching client) (AddLine id words) = id ≢ 0
 MayStop f (Searching client) (Del id) = (place : Place) → IsAt f (Searching client) place → delete_refusal place.history id ≡ None
 MayStop f (Searching client) (Find word) = bad_word 0 (word ∷ []) ≡ None
 MayStop f (Searching client) (Query fields) = Unit {0}
+MayStop f (Searching client) (Rebuild key) =
+    (place : Place) → IsAt f (Searching client) place → option_or (used_refusal place.mark place key) (live_refusal (setup_after place.history).documents) ≡ None
 MayStop f _ _ = ⊥
 
 -- what is seen of a session but for what it prints: what the link told, and the records that are kept

@@ -1,5 +1,5 @@
 -- A call with the words of a command line: the run that they ask for, or the line that says that they ask for none; and the devices after it.
-use Rattle.std.specs.Prelude.{◌≡◌, ◌≢◌, ◌⊎◌, ◌≤◌, ℕ, List, Option, None}
+use Rattle.std.specs.Prelude.{◌≡◌, ◌≢◌, ◌⊎◌, ◌≤◌, ℕ, List, Option, None, Some}
 use Rattle.std.specs.Io.KnownBytes.{IsAtEnd}
 use Rattle.def_agreement.specs.TakenFrames.{Expects}
 use Rattle.def_script_meaning.specs.Carries.{Outside}
@@ -12,6 +12,7 @@ use Rattle.def_script_meaning.specs.Recorded.{IsRecorded}
 use Rattle.def_script_meaning.specs.Runs.{Ended, Opens}
 use Rattle.def_script_meaning.specs.Session.{IsFree}
 use Rattle.def_script_meaning.specs.Stops.{status_of}
+use Rattle.keyed_fn.specs.KeyFormulas.{mark_of}
 use Rattle.keyed_fn.specs.KeyedFn.{KeyedFn}
 use Rattle.server_core.specs.State.{ServerState}
 use Rattle.sse_client.specs.Calls.{LinkShows, shows}
@@ -53,7 +54,7 @@ pub record IsRun (f : KeyedFn) (bytes : List ℕ) (now last : Outside) (sink sin
   pub honest : IfHonest f now.told last.told (λ before state. IsFree f end.key end.history → status ≤ 7)
   pub left : IfHonest f now.told last.told (λ before state. IsFree f end.key end.history → LeavesServer f end.key end.history state)
   -- and if nothing disturbed it either, it did what its script means
-  pub headline : IfHonest f now.told last.told (λ before state. IsFree f (meaning bytes).key (meaning bytes).history → IsUndisturbed status → Headline f before (meaning bytes) now last status state)
+  pub headline : IfHonest f now.told last.told (λ before state. IsFree f (meaning (Some (mark_of f)) bytes).key (meaning (Some (mark_of f)) bytes).history → IsUndisturbed status → Headline f before (meaning (Some (mark_of f)) bytes) now last status state)
 
 -- and nothing is sent, received or kept
 pub record DoesNothing {S L R : Type 0} (source source' : S) (link link' : L) (records records' : R) (sink sink' : SinkShows) (status : ℕ) : Type 0 where

@@ -5,6 +5,7 @@
 //! a history on a disk; `run_over_server`, `run_over_store`, `run_in_process` and `run_on_bytes` are the same with a
 //! server, a store, both files or a script in this process. A record is kept before the first frame of its command is
 //! sent. First and resumed runs share one loop, and one function carries every kind of update, so each is proved once.
+//! `renewal_run` carries out a `rebuild` line, after which the session goes on under the new key.
 //! Proved: of a whole run the printed lines, frames, records, the cause of its stop and the status, over any link
 //! (docs/PROMISES.md).
 //! Side: client.
@@ -19,6 +20,7 @@ mod on_disk;
 mod over_store;
 mod peer_fault;
 mod query_run;
+mod renewal_run;
 mod reply_buffer;
 mod resumed_run;
 mod run;

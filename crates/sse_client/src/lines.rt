@@ -61,14 +61,14 @@ enum Turn {
 //   clauses: ends; assumes: observable devices, earlier calls
 /// Carries out the lines after the key line, and prints what each comes to.
 pub(crate) fn run_lines<K: Keyed, L: Link, R: Recorder, S: Source, W: Sink>(
-    tools: &Tools<'_, K>,
+    tools: &mut Tools<'_, K>,
     link: &mut L,
     recorder: &mut R,
     source: &mut S,
     sink: &mut W,
     mut session: Session,
 ) -> Result<Refusals, StopCause>
-    requires prepared { tools.now.master ≡ key_of session.stage }
+    requires prepared { tools.old.master ≡ key_of session.stage }
     requires whole { R.whole recorder.old }
     requires few { session.input.number + bytes_to_come session.input.pending (S.handed_out source.old) ≤ 2 ^ 63 }
     ensures ends { (place : Place) → IsAt (keyed_fn K.prf K.pad) session.stage place →
@@ -93,19 +93,19 @@ pub(crate) fn run_lines<K: Keyed, L: Link, R: Recorder, S: Source, W: Sink>(
 // Promise P138, also here; clauses: turns
 /// Reads the next line and carries it out.
 fn take_turn<K: Keyed, L: Link, R: Recorder, S: Source, W: Sink>(
-    tools: &Tools<'_, K>,
+    tools: &mut Tools<'_, K>,
     link: &mut L,
     recorder: &mut R,
     source: &mut S,
     sink: &mut W,
     session: Session,
 ) -> Result<Turn, StopCause>
-    requires prepared { tools.now.master ≡ key_of session.stage }
+    requires prepared { tools.old.master ≡ key_of session.stage }
     requires whole { R.whole recorder.old }
     requires few { session.input.number + bytes_to_come session.input.pending (S.handed_out source.old) ≤ 2 ^ 63 }
     ensures turns { Turns (keyed_fn K.prf K.pad) session (S.remaining source.old) (outside_of (seen (L.transcript link.old) (R.kept recorder.old)) (W.written sink.old))
         (S.remaining source.new) (outside_of (seen (L.transcript link.new) (R.kept recorder.new)) (W.written sink.new)) result }
-    ensures same_key { IfOk result (λ turn. IfNext turn (λ next. key_of next.stage ≡ key_of session.stage)) }
+    ensures prepared { IfOk result (λ turn. IfNext turn (λ next. tools.new.master ≡ key_of next.stage)) }
     ensures counted { IfOk result (λ turn. IfNext turn (λ next. next.input.number ≡ session.input.number + 1)) }
     ensures less { IfOk result (λ turn. IfNext turn (λ next.
         bytes_to_come next.input.pending (S.handed_out source.new) < bytes_to_come session.input.pending (S.handed_out source.old))) }

@@ -1,13 +1,12 @@
 ghost use Rattle.std.specs.Prelude.{◌≡◌, ◌≢◌, ◌⊎◌, ◌≤◌, ◌<◌, ◌+◌, ◌^◌, ℕ, List, [], None, Option, Some, map, string_bytes, IfErr, IfOk, IfSome};
-ghost use Rattle.client_core.specs.Restores.{Remembers};
 ghost use Rattle.client_journal.specs.Openings.{GivesSome, HasNoRecord, IsNoJournal, IsOfRecords};
 ghost use Rattle.client_rebuild.specs.Recalls.{hash_keys_of};
-ghost use Rattle.client_registry.specs.Run.{Run};
 ghost use Rattle.keyed_fn.specs.KeyedFn.{keyed_fn};
 ghost use Rattle.script_run_texts.specs.Causes.{KeepsRecorder, KeepsSource};
 ghost use Rattle.script_run_texts.specs.Words as asks;
 ghost use Rattle.def_script_meaning.specs.Exchange.{Told};
 ghost use Rattle.sse_client.specs.Calls.{shows};
+ghost use Rattle.sse_client.specs.Known.{Known, Knows};
 ghost use Rattle.sse_client.specs.ResumedRun.{GoesOnTo, Restores};
 ghost use Rattle.sse_client.specs.KeyLines.{FindsKey};
 ghost use Rattle.sse_client.specs.NoRecord.{IsRefusedMore, OverNoRecord};
@@ -94,11 +93,11 @@ fn restored<'a, K: Keyed, D: Disk, S: Source>(
 ) -> Result<Restart<'a, K>, HeldUp>
     requires holds { IfSome (D.content disk.old) (λ file. IsOfRecords journal.now (D.content disk.old) (D.images disk.old)) }
     requires some { 0 < records_of journal.now }
-    ensures restored { IfOk result (λ restart. (run : Run) × Restores (keyed_fn K.prf K.pad) restart.client.key (kept_on (D.content disk.old)) run × Remembers run restart.client.state) }
+    ensures restored { IfOk result (λ restart. (known : Known) × Restores (keyed_fn K.prf K.pad) restart.client.key (kept_on (D.content disk.old)) known × Knows (keyed_fn K.prf K.pad) restart.client.key known restart.client.state) }
     ensures found { IfOk result (λ restart. FindsKey 1 (lines_left [] (S.remaining source.old)) restart.client.key (restart.input.number + 1) (lines_left restart.input.pending (S.remaining source.new))) }
     ensures few_left { IfOk result (λ restart. restart.input.number + bytes_to_come restart.input.pending (S.handed_out source.new) ≤ 2 ^ 63) }
     ensures prepared { IfOk result (λ restart. restart.tools.master ≡ restart.client.key) }
-    ensures hashed { IfOk result (λ restart. hash_keys_of restart.client.state ≡ hash_keys_under (keyed_fn K.prf K.pad) restart.client.key) }
+    ensures hashed { IfOk result (λ restart. hash_keys_of restart.client.state.last ≡ hash_keys_under (keyed_fn K.prf K.pad) restart.client.key) }
     ensures stopped { IfErr result (λ stop. (told : Told) (written : Option (List ℕ)) →
         GoesOnTo (keyed_fn K.prf K.pad) (lines_left [] (S.remaining source.old)) (seen_with told (D.content disk.old) written) (seen_with told (D.content disk.old) written) (held_stop stop)) }
     ensures kept { D.content disk.new ≡ D.content disk.old }

@@ -5,11 +5,11 @@ ghost use Rattle.client_core.specs.Resumes.{Lacks};
 ghost use Rattle.client_core.specs.declared.resume_fault.ResumeFault.{ResumeFault as FaultOfResume};
 ghost use Rattle.client_core.specs.StandsFor.{StandsFor};
 ghost use Rattle.client_rebuild.specs.Recalls.{hash_keys_of};
-ghost use Rattle.client_registry.specs.Run.{Run, at_first};
 ghost use Rattle.keyed_fn.specs.KeyedFn.{KeyedFn, keyed_fn};
 ghost use Rattle.script_run_texts.specs.Causes.{CommandCause, KeepCommandCause, KeepsRecorder, KeepsSink, KeepsSource, LinkCause, RecorderCause, SourceCause};
 ghost use Rattle.script_run_texts.specs.Stops.{command_cause};
 ghost use Rattle.sse_client.specs.Calls.{shows, KeepsLink};
+ghost use Rattle.sse_client.specs.Known.{Known, Knows};
 ghost use Rattle.sse_client.specs.ResumedRun.{HasEndedAfter, HasResent, Restores, ResumesTo, StopsResending};
 ghost use Rattle.sse_client.specs.RecordKept.{StaysWhole, WholeAtStop};
 ghost use Rattle.client_journal.specs.Shows.{LeavesRecorder, gives, prints};
@@ -28,8 +28,7 @@ use crate::reply_buffer::ReplyBuffer;
 use crate::run::finish_run;
 use crate::session::Stage;
 use crate::tools::Tools;
-use client_core::{Client, Ready, ResumeFault, Resumed};
-use client_rebuild::Last;
+use client_core::{Client, Ready, Recorded, ResumeFault, Resumed};
 use client_recorder::Recorder;
 use keyed_fn::Keyed;
 use script_run_texts::{CommandStop, Input, PeerStop, StopCause};
@@ -42,7 +41,7 @@ use sse_script::{Shown, print};
 #[derive(Drop)]
 pub(crate) struct Restart<'a, K: Keyed> {
     pub(crate) tools: Tools<'a, K>,
-    pub(crate) client: Client<Last>,
+    pub(crate) client: Client<Recorded>,
     pub(crate) input: Input,
 }
 
@@ -64,11 +63,11 @@ fn stop_of(fault: ResumeFault) -> CommandStop
 }
 
 /// How many frames a server lacks that expects this update.
-fn lacking(client: &Client<Last>, next: u32) -> Result<u32, CommandStop>
+fn lacking(client: &Client<Recorded>, next: u32) -> Result<u32, CommandStop>
     ensures fits { next < 2 ^ 32 }
     ensures meant { IfErr result (λ stop. (fault : FaultOfResume) × (stop ≡ stop_of_resume fault)) }
-    ensures lacks { IfOk result (λ left. (f : KeyedFn) (key : List ℕ) (run : Run) → Remembers run client.now.state → Lacks f key run next (Ok left)) }
-    ensures stopped { IfErr result (λ stop. (f : KeyedFn) (key : List ℕ) (run : Run) → Remembers run client.now.state → (fault : FaultOfResume) × (stop ≡ stop_of_resume fault) × Lacks f key run next (Err fault)) }
+    ensures lacks { IfOk result (λ left. (f : KeyedFn) (key : List ℕ) (known : Known) → Remembers known.begins known.run client.now.state → Lacks f key known.begins known.run next (Ok left)) }
+    ensures stopped { IfErr result (λ stop. (f : KeyedFn) (key : List ℕ) (known : Known) → Remembers known.begins known.run client.now.state → (fault : FaultOfResume) × (stop ≡ stop_of_resume fault) × Lacks f key known.begins known.run next (Err fault)) }
 {
     match client.lacks(next) {
         Ok(left) => Ok(left),
@@ -80,18 +79,19 @@ fn lacking(client: &Client<Last>, next: u32) -> Result<u32, CommandStop>
 /// whole history with how many they were.
 fn resend<K: Keyed, L: Link, R: Recorder>(
     tools: &Tools<'_, K>,
-    client: Client<Last>,
+    client: Client<Recorded>,
     link: &mut L,
     recorder: &R,
     buffer: &mut ReplyBuffer,
 ) -> Result<(Client<Ready>, u32), CommandStop>
-    requires restores { (run : Run) × Restores (keyed_fn K.prf K.pad) client.key (R.kept recorder.now) run × Remembers run client.state }
+    requires restores { (known : Known) × Restores (keyed_fn K.prf K.pad) client.key (R.kept recorder.now) known × Knows (keyed_fn K.prf K.pad) client.key known client.state }
     requires whole { R.whole recorder.now }
-    ensures resent { (run : Run) → Remembers run client.state → IfOk result (λ done. HasResent (keyed_fn K.prf K.pad) client.key run (L.transcript link.old) (L.transcript link.new) done.1) }
-    ensures stands { (run : Run) → Remembers run client.state → IfOk result (λ done. StandsFor (keyed_fn K.prf K.pad) (λ epoch. client.key) at_first run done.0.state) }
-    ensures stopped { (run : Run) → Remembers run client.state → IfErr result (λ stop. StopsResending (keyed_fn K.prf K.pad) client.key run (L.transcript link.old) (L.transcript link.new) (command_cause stop)) }
-    ensures key { (run : Run) → Remembers run client.state → IfOk result (λ done. done.0.key ≡ client.key) }
-    ensures hash_keys { IfOk result (λ done. done.0.state.registry.keys ≡ hash_keys_of client.state) }
+    ensures resent { (known : Known) → Remembers known.begins known.run client.state → IfOk result (λ done. HasResent (keyed_fn K.prf K.pad) client.key known (L.transcript link.old) (L.transcript link.new) done.1) }
+    ensures stands { (known : Known) → Remembers known.begins known.run client.state → IfOk result (λ done. StandsFor (keyed_fn K.prf K.pad) (λ epoch. client.key) known.begins known.run done.0.state) }
+    ensures stopped { (known : Known) → Remembers known.begins known.run client.state → IfErr result (λ stop. StopsResending (keyed_fn K.prf K.pad) client.key known (L.transcript link.old) (L.transcript link.new) (command_cause stop)) }
+    ensures key { (known : Known) → Remembers known.begins known.run client.state → IfOk result (λ done. done.0.key ≡ client.key) }
+    ensures hash_keys { IfOk result (λ done. done.0.state.registry.keys ≡ hash_keys_of client.state.last) }
+    ensures marks { IfOk result (λ done. done.0.state.past.marks.items ≡ client.state.past.marks.items) }
     ensures keeps { KeepsLink CommandCause (shows (L.transcript link.old) (L.faults link.old) (L.began link.old)) (shows (L.transcript link.new) (L.faults link.new) (L.began link.new)) result }
     ensures unkept { IfErr result (λ stop. (count : ℕ) → KeepCommandCause count count stop) }
 {
@@ -127,13 +127,13 @@ fn go_on<K: Keyed, L: Link, R: Recorder, S: Source, W: Sink>(
     source: &mut S,
     sink: &mut W,
 ) -> Result<Refusals, StopCause>
-    requires restores { (run : Run) × Restores (keyed_fn K.prf K.pad) restart.client.key (R.kept recorder.old) run × Remembers run restart.client.state }
+    requires restores { (known : Known) × Restores (keyed_fn K.prf K.pad) restart.client.key (R.kept recorder.old) known × Knows (keyed_fn K.prf K.pad) restart.client.key known restart.client.state }
     requires prepared { restart.tools.master ≡ restart.client.key }
-    requires hashed { hash_keys_of restart.client.state ≡ hash_keys_under (keyed_fn K.prf K.pad) restart.client.key }
+    requires hashed { hash_keys_of restart.client.state.last ≡ hash_keys_under (keyed_fn K.prf K.pad) restart.client.key }
     requires whole { R.whole recorder.old }
     requires few { restart.input.number + bytes_to_come restart.input.pending (S.handed_out source.old) ≤ 2 ^ 63 }
-    ensures ends { (run : Run) → Remembers run restart.entry.client.state →
-        ResumesTo (keyed_fn K.prf K.pad) restart.entry.client.key run (restart.entry.input.number + 1) (lines_left restart.entry.input.pending (S.remaining source.old))
+    ensures ends { (known : Known) → Knows (keyed_fn K.prf K.pad) restart.entry.client.key known restart.entry.client.state →
+        ResumesTo (keyed_fn K.prf K.pad) restart.entry.client.key known (restart.entry.input.number + 1) (lines_left restart.entry.input.pending (S.remaining source.old))
         (outside_of (seen (L.transcript link.old) (R.kept recorder.old)) (W.written sink.old)) (outside_of (seen (L.transcript link.new) (R.kept recorder.new)) (W.written sink.new)) (ending result) }
     ensures at_end { OnOk result (IsAtEnd (S.remaining source.new)) }
     ensures source { KeepsSource SourceCause (S.faults source.old) (S.faults source.new) result }
@@ -144,7 +144,7 @@ fn go_on<K: Keyed, L: Link, R: Recorder, S: Source, W: Sink>(
     ensures recorder { KeepsRecorder RecorderCause (R.faults recorder.old) (R.faults recorder.new) result }
 {
     let Restart {
-        tools,
+        mut tools,
         client,
         input,
     } = restart;
@@ -166,7 +166,7 @@ fn go_on<K: Keyed, L: Link, R: Recorder, S: Source, W: Sink>(
         input,
         buffer,
     };
-    run_lines(&tools, link, recorder, source, sink, session)
+    run_lines(&mut tools, link, recorder, source, sink, session)
 }
 
 /// Goes on, prints the last line where it stopped, and answers the run's status.
@@ -177,13 +177,13 @@ pub(crate) fn gone_on<K: Keyed, L: Link, R: Recorder, S: Source, W: Sink>(
     source: &mut S,
     sink: &mut W,
 ) -> u8
-    requires restores { (run : Run) × Restores (keyed_fn K.prf K.pad) restart.client.key (R.kept recorder.old) run × Remembers run restart.client.state }
+    requires restores { (known : Known) × Restores (keyed_fn K.prf K.pad) restart.client.key (R.kept recorder.old) known × Knows (keyed_fn K.prf K.pad) restart.client.key known restart.client.state }
     requires prepared { restart.tools.master ≡ restart.client.key }
-    requires hashed { hash_keys_of restart.client.state ≡ hash_keys_under (keyed_fn K.prf K.pad) restart.client.key }
+    requires hashed { hash_keys_of restart.client.state.last ≡ hash_keys_under (keyed_fn K.prf K.pad) restart.client.key }
     requires whole { R.whole recorder.old }
     requires few { restart.input.number + bytes_to_come restart.input.pending (S.handed_out source.old) ≤ 2 ^ 63 }
-    ensures gone_on { (run : Run) → Remembers run restart.entry.client.state →
-        HasEndedAfter (keyed_fn K.prf K.pad) restart.entry.client.key run (restart.entry.input.number + 1) (lines_left restart.entry.input.pending (S.remaining source.old))
+    ensures gone_on { (known : Known) → Knows (keyed_fn K.prf K.pad) restart.entry.client.key known restart.entry.client.state →
+        HasEndedAfter (keyed_fn K.prf K.pad) restart.entry.client.key known (restart.entry.input.number + 1) (lines_left restart.entry.input.pending (S.remaining source.old))
         (outside_of (seen (L.transcript link.old) (R.kept recorder.old)) (W.written sink.old)) (outside_of (seen (L.transcript link.new) (R.kept recorder.new)) (W.written sink.new)) result
         (W.faults sink.old) (W.faults sink.new) (W.shortages sink.old) (W.shortages sink.new) }
     ensures devices { LeavesDevices (gives (S.remaining source.old) (S.faults source.old)) (gives (S.remaining source.new) (S.faults source.new))

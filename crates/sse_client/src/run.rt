@@ -182,14 +182,14 @@ fn run_script<K: Keyed, L: Link, R: Recorder, S: Source, W: Sink>(
     greet(alloc, link, &mut buffer)?;
     let master = key.prepare(keyed);
     let docs = Docs::new(alloc, master.hash_keys());
-    let tools = Tools { alloc, master };
+    let mut tools = Tools { alloc, master };
     let session = Session {
         stage: Stage::Collecting(Client::fresh(key), docs),
         refusals: Refusals::None,
         input,
         buffer,
     };
-    run_lines(&tools, link, recorder, source, sink, session)
+    run_lines(&mut tools, link, recorder, source, sink, session)
 }
 
 // Promise P138, also here; clauses: key, stopped

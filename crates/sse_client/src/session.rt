@@ -1,5 +1,6 @@
 ghost use Rattle.std.specs.Prelude.{◌≡◌, ◌≤◌, ◌^◌, ℕ, List, [], ◌∷◌, false, Err, length, map, IfOk, IfErr, OnOk, OnErr, IsErrOf, Ok};
 ghost use Rattle.std.specs.List.{AllByRecursion};
+ghost use Rattle.client_registry.specs.Run.{at_first};
 ghost use Rattle.client_registry.specs.Setup.{setup_with};
 ghost use Rattle.keyed_fn.specs.KeyedFn.{KeyedFn, keyed_fn};
 ghost use Rattle.script_run_texts.specs.Causes.{CommandCause, KeepCommandCause, KeepsRecorder};
@@ -14,7 +15,7 @@ ghost use Rattle.def_script_meaning.specs.Lines.{Request, line_read};
 ghost use Rattle.sse_client.specs.Calls.{shows, KeepsLink};
 ghost use Rattle.client_core.specs.Owes.{AreNumbered};
 ghost use Rattle.sse_client.specs.SetupFaults.{setup_answer};
-ghost use Rattle.sse_client.specs.Stages.{key_of, hash_keys_of};
+ghost use Rattle.sse_client.specs.Stages.{key_of, hash_keys_of, marks_of};
 ghost use Rattle.sse_client.specs.Stands.{IsReady, MayStop, Seen, seen, Takes, StopsWithin};
 ghost use Rattle.sse_frames.specs.Frames.{FrameText, IsFrame, frame_bytes};
 ghost use Rattle.client_recorder.specs.KeepsOn.{KeepsOn};
@@ -26,6 +27,7 @@ ghost use Rattle.sse_script.specs.declared.refusal.Refusal.{Refusal as Reason};
 use crate::frame_exchange::catch_up;
 use crate::kept_records::keep_setup;
 use crate::query_run::run_query;
+use crate::renewal_run::rebuild;
 use crate::reply_buffer::ReplyBuffer;
 use crate::search_run::search;
 use crate::tools::Tools;
@@ -52,17 +54,18 @@ pub(crate) enum Stage {
 // Promise P136 (inside): Wherever the session stands, a command exchanges exactly its frames and shows its lines with the answers received, or stops the run there.
 //   clauses: takes, stops; assumes: observable devices, earlier calls; not: The traffic over a link that isn't observable.
 // Promise P137 (inside): No stop comes in place of a refusal that is found without memory.
-//   clauses: may_stop; assumes: earlier calls; not: The words of a document that is collected or added, and its later refusals, and a query after the setup: there memory may run out instead.
+//   clauses: may_stop; assumes: earlier calls; not: The words of a document that is collected or added, and its later refusals, a query after the setup, and of a
+//     rebuild what is refused for its size or for the numbers of its frames: there memory may run out instead.
 /// Carries out a line of the script that is no key line.
 pub(crate) fn take_line<K: Keyed, L: Link, R: Recorder>(
-    tools: &Tools<'_, K>,
+    tools: &mut Tools<'_, K>,
     link: &mut L,
     recorder: &mut R,
     buffer: &mut ReplyBuffer,
     stage: Stage,
     line: Line<'_>,
 ) -> Result<(Stage, LineResult), CommandStop>
-    requires prepared { tools.now.master ≡ key_of stage }
+    requires prepared { tools.old.master ≡ key_of stage }
     requires words { words_in (line_view line) ≤ 2 ^ 19 }
     requires whole { R.whole recorder.old }
     ensures takes { IfOk result (λ done. (request : Request) → line_read (line_view line.entry) ≡ requests.Command request →
@@ -70,7 +73,7 @@ pub(crate) fn take_line<K: Keyed, L: Link, R: Recorder>(
     ensures stops { IfErr result (λ stop. (request : Request) → line_read (line_view line.entry) ≡ requests.Command request →
         StopsWithin (keyed_fn K.prf K.pad) stage request (seen (L.transcript link.old) (R.kept recorder.old)) (seen (L.transcript link.new) (R.kept recorder.new)) (command_cause stop)) }
     ensures may_stop { OnErr result (MayStop (keyed_fn K.prf K.pad) stage (line_view line.entry)) }
-    ensures same_key { IfOk result (λ done. key_of done.0 ≡ key_of stage) }
+    ensures prepared { IfOk result (λ done. tools.new.master ≡ key_of done.0) }
     ensures keeps { KeepsLink CommandCause (shows (L.transcript link.old) (L.faults link.old) (L.began link.old)) (shows (L.transcript link.new) (L.faults link.new) (L.began link.new)) result }
     ensures keeps_on { KeepsOn R.kept R.moment R.left_since recorder.old recorder.new }
     ensures whole_after { StaysWhole WholeAt (R.whole recorder.new) result }
@@ -80,19 +83,27 @@ pub(crate) fn take_line<K: Keyed, L: Link, R: Recorder>(
         Line::Empty | Line::Key(_) => Ok((stage, LineResult::Nothing)),
         Line::Doc { id, words } => collect(tools.alloc, stage, id, words),
         Line::Setup { b, big, pad } => {
-            set_up(tools, link, recorder, buffer, stage, Sizes { b, big, pad })
+            set_up(
+                &*tools,
+                link,
+                recorder,
+                buffer,
+                stage,
+                Sizes { b, big, pad },
+            )
         }
         Line::Add { id, words } => add(
-            tools,
+            &*tools,
             link,
             recorder,
             buffer,
             stage,
             Addition { id, words },
         ),
-        Line::Del { id } => delete(tools, link, recorder, buffer, stage, id),
-        Line::Find { word } => find(tools, link, buffer, stage, word),
-        Line::Query(fields) => query(tools, link, buffer, stage, fields),
+        Line::Del { id } => delete(&*tools, link, recorder, buffer, stage, id),
+        Line::Find { word } => find(&*tools, link, buffer, stage, word),
+        Line::Query(fields) => query(&*tools, link, buffer, stage, fields),
+        Line::Rebuild(key) => rebuild(tools, link, recorder, buffer, stage, key),
     }
 }
 
@@ -208,8 +219,9 @@ fn send_setup<K: Keyed, L: Link, R: Recorder>(
         SendsKept (setup_payload setup.planned) (seen (L.transcript link.old) (R.kept recorder.old)) (seen (L.transcript link.new) (R.kept recorder.new)) frames result }
     ensures shown { IfOk result (λ done. line_result_view done.1 ≡ says.SetUp setup.planned.own_words setup.planned.own_blocks ∷ []) }
     ensures accepted { IfOk result (λ done. refuses done.1 ≡ false) }
-    ensures stands { (f : KeyedFn) → IfOk result (λ done. IsReady f setup.client.key (record { setup = setup_with setup.planned.docs.documents setup.planned.b setup.planned.big setup.planned.pad; later = [] }) done.0) }
+    ensures stands { (f : KeyedFn) → IfOk result (λ done. IsReady f setup.client.key at_first (record { setup = setup_with setup.planned.docs.documents setup.planned.b setup.planned.big setup.planned.pad; later = [] }) done.0) }
     ensures hash_keys { IfOk result (λ done. hash_keys_of done.0 ≡ setup.planned.docs.keys) }
+    ensures marks { IfOk result (λ done. marks_of done.0 ≡ setup.planned.mark ∷ []) }
     ensures key { IfOk result (λ done. key_of done.0 ≡ setup.client.key) }
     ensures keeps { KeepsLink CommandCause (shows (L.transcript link.old) (L.faults link.old) (L.began link.old)) (shows (L.transcript link.new) (L.faults link.new) (L.began link.new)) result }
     ensures keeps_on { KeepsOn R.kept R.moment R.left_since recorder.old recorder.new }

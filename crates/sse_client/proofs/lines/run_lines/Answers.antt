@@ -1,4 +1,4 @@
-use Rattle.std.proofs.Common.{◌≡◌, refl, sym, subst, ◌∙◌, arith}
+use Rattle.std.proofs.Common.{◌≡◌, refl, subst, ◌∙◌, arith}
 use Rattle.std.specs.Prelude.{◌<◌, ◌+◌, Ok}
 use Rattle.keyed_fn.specs.KeyedFn.{keyed_fn}
 use Rattle.std.specs.Io.KnownBytes.{IsAtEnd}
@@ -35,12 +35,11 @@ lines-preserved g c =
     let f = keyed_fn g.K.Keyed.prf g.K.Keyed.pad in
     let is = c.in-Next.is in
     let next = c.in-Next.next in
-    let key : key_of next.stage ≡ key_of c.lines.session.stage = subst (λ (t : Turn). IfNext t (λ s. key_of s.stage ≡ key_of c.lines.session.stage)) is c.in_ok-next.ensures.same_key in
     let counted : next.input.number ≡ c.lines.session.input.number + 1 = subst (λ (t : Turn). IfNext t (λ s. s.input.number ≡ c.lines.session.input.number + 1)) is c.in_ok-next.ensures.counted in
     let less : bytes_to_come next.input.pending (g.S.Source.handed_out c.take_turn.new.source) < bytes_to_come c.lines.session.input.pending (g.S.Source.handed_out c.lines.source) =
     subst (λ (t : Turn). IfNext t (λ s. bytes_to_come s.input.pending (g.S.Source.handed_out c.take_turn.new.source) < bytes_to_come c.lines.session.input.pending (g.S.Source.handed_out c.lines.source))) is c.in_ok-next.ensures.less in
     record {
-      prepared = c.lines.invariant.prepared ∙ sym key;
+      prepared = subst (λ (t : Turn). IfNext t (λ s. c.take_turn.new.tools.master ≡ key_of s.stage)) is c.in_ok-next.ensures.prepared;
       few = omega (arith, c.lines.invariant.few, counted, less);
       source = c.in_ok-next.ensures.source.steady ∙ c.lines.invariant.source;
       sink = c.in_ok-next.ensures.sink.steady ∙ c.lines.invariant.sink;

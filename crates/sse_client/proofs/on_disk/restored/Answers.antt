@@ -7,7 +7,9 @@ use Rattle.def_script_meaning.specs.Exchange.{Told}
 use Rattle.sse_script.specs.TextLines.{lines_left}
 use Rattle.sse_client.proofs.RunsOnDisk.{found_from_start, goes_on-unread, goes_on-unrestored, holds_on, missing_from_start, restores, unrestored, unrestored-fresh}
 use Rattle.sse_client.proofs.TranscriptsJoined.{IfErr-from}
-use Rattle.sse_client.specs.ResumedRun.{GoesOnTo}
+use Rattle.client_journal.specs.DiskRuns.{kept_on}
+use Rattle.sse_client.specs.Known.{Known, Knows}
+use Rattle.sse_client.specs.ResumedRun.{GoesOnTo, Restores}
 use Rattle.sse_client.specs.KeyLines.{FindsKey}
 use Rattle.sse_client.specs.OnDisk.{held_stop, seen_with}
 use Rattle.sse_client.specs.Stages.{hash_keys_under}
@@ -55,10 +57,12 @@ returns-in-Recorded-clause-restored g c =
     let f = keyed_fn g.K.Keyed.prf g.K.Keyed.pad in
     let r = c.in_ok-rebuilt.rebuilt in
     let client = c.in-Recorded.client in
+    let key = c.in_ok-key.key in
+    let content = g.D.Disk.content c.args.disk.now in
     let w = c.in_ok-rebuilt.ensures.rebuilt in
-    let same : client.key ≡ c.in_ok-key.key = c.in-Recorded.ensures.key ∙ c.in_ok-rebuilt.ensures.key in
-    restores f client.key c.args.journal.now (g.D.Disk.content c.args.disk.now) (g.D.Disk.images c.args.disk.now) c.requires.holds r client w (c.in_ok-rebuilt.ensures.mark ∙ ap (mark_of f) (sym same))
-    (c.in-Recorded.ensures.restored w.payloads w.taken)
+    let same : client.key ≡ key = c.in-Recorded.ensures.key ∙ c.in_ok-rebuilt.ensures.key in
+    subst (λ k. (known : Known) × Restores f k (kept_on content) known × Knows f k known client.state) (sym same)
+    (restores f key c.args.journal.now content (g.D.Disk.images c.args.disk.now) c.requires.holds r client w (c.in-Recorded.ensures.restored (mark_of f key) w.payloads w.finished))
 
 pub returns-in-Recorded-clause-found : goal.returns-in-Recorded-clause-found
 returns-in-Recorded-clause-found g c =
@@ -74,7 +78,7 @@ returns-in-Recorded-clause-hashed g c =
     let f = keyed_fn g.K.Keyed.prf g.K.Keyed.pad in
     let w = c.in_ok-rebuilt.ensures.rebuilt in
     let same : c.in-Recorded.client.key ≡ c.in_ok-key.key = c.in-Recorded.ensures.key ∙ c.in_ok-rebuilt.ensures.key in
-    c.in-Recorded.ensures.hash_keys w.payloads w.taken ∙ c.in_ok-rebuilt.ensures.hash_keys ∙ ap (hash_keys_under f) (sym same)
+    c.in-Recorded.ensures.hash_keys (mark_of f c.in_ok-key.key) w.payloads w.finished ∙ c.in_ok-rebuilt.ensures.hash_keys ∙ ap (hash_keys_under f) (sym same)
 
 pub returns-in-Recorded-clause-holds : goal.returns-in-Recorded-clause-holds
 returns-in-Recorded-clause-holds g c =
@@ -91,7 +95,7 @@ returns-clause-stopped g c = λ told written.
     let w = c.in_ok-rebuilt.ensures.rebuilt in
     goes_on-unrestored f (lines_left [] remaining) (seen_with told content written) key next behind journals.NoJournal
     (found_from_start c.in_ok-input.input.number c.in_ok-input.input.pending remaining c.in_ok-input.ensures.number c.in_ok-input.ensures.pending key next behind c.in_ok-key.ensures.found)
-    (unrestored-fresh f key c.args.journal.now content (g.D.Disk.images c.args.disk.now) c.requires.holds c.in_ok-rebuilt.rebuilt c.in-Fresh.field-0 w (c.in-Fresh.ensures.restored w.payloads w.taken) c.requires.some)
+    (unrestored-fresh f key c.args.journal.now content (g.D.Disk.images c.args.disk.now) c.requires.holds c.in_ok-rebuilt.rebuilt c.in-Fresh.field-0 w (c.in-Fresh.ensures.restored (mark_of f key) w.payloads w.finished) c.requires.some)
 
 pub returns-clause-holds : goal.returns-clause-holds
 returns-clause-holds g c =

@@ -1,4 +1,4 @@
-use Rattle.std.proofs.Common.{◌+◌, [], Err, inl, refl, subst, sym, ◌≡◌, ◌∙◌, arith}
+use Rattle.std.proofs.Common.{◌+◌, Err, inl, refl, subst, sym, ◌≡◌, ◌∙◌, arith}
 use Rattle.std.specs.Prelude.{IfErr, OnOk}
 use Rattle.client_core.specs.Resumes.{first_of_last}
 use Rattle.client_registry.specs.Sized.{update_frames}
@@ -6,7 +6,7 @@ use Rattle.keyed_fn.specs.KeyedFn.{keyed_fn}
 use Rattle.script_run_texts.specs.Causes.{LinkCause, RecorderCause, SinkCause, SourceCause}
 use Rattle.script_run_texts.specs.Stops.{command_cause, stop_of_sink}
 use Rattle.script_run_texts.specs.declared.stop_cause.StopCause.TheVariants as stops
-use Rattle.def_script_meaning.specs.Continues.{at_run}
+use Rattle.sse_client.specs.Known.{epochs_known, place_known}
 use Rattle.sse_script.specs.Shown.{NoMemory}
 use Rattle.sse_script.specs.TextLines.{lines_left}
 use Rattle.sse_client.proofs.CountsAtStop.{LinkCause-printed, RecorderCause-printed, SinkCause-printed, SourceCause-printed}
@@ -24,13 +24,13 @@ use Rattle.sse_client.proofs.resumed_run.go_on.Goals as goal
 
 pub run_lines-requires : goal.run_lines-requires
 run_lines-requires g c = record {
-  prepared = c.requires.prepared ∙ sym (c.in_ok-ready.ensures.key c.requires.restores.0 c.requires.restores.2);
+  prepared = c.requires.prepared ∙ sym (c.in_ok-ready.ensures.key c.requires.restores.0 c.requires.restores.2.remembers);
   whole = c.requires.whole;
   few = c.requires.few;
 }
 
 pub returns-in_default-clause-ends : goal.returns-in_default-clause-ends
-returns-in_default-clause-ends g c = λ run knows.
+returns-in_default-clause-ends g c = λ known knows.
     let f = keyed_fn g.K.Keyed.prf g.K.Keyed.pad in
     let told = g.L.Link.transcript c.args.link.now in
     let kept = g.R.Recorder.kept c.args.recorder.now in
@@ -39,11 +39,11 @@ returns-in_default-clause-ends g c = λ run knows.
     let number = c.args.restart.input.number + 1 in
     let lines = lines_left c.args.restart.input.pending (g.S.Source.remaining c.args.source.now) in
     let now = outside_of (seen told kept) written in
-    resumes-stopped f key run number lines now now (Err stops.Memory) stops.Memory refl
-    (resumes-held f key run _ _ told kept written told NoMemory (inl (TurnsAway-memory (first_of_last f key run) (update_frames run) told)))
+    resumes-stopped f key known number lines now now (Err stops.Memory) stops.Memory refl
+    (resumes-held f key known _ _ told kept written told NoMemory (inl (TurnsAway-memory (first_of_last f key known.begins known.run) (known.begins.frame + update_frames known.run) told)))
 
 pub returns-in_err-ready-clause-ends : goal.returns-in_err-ready-clause-ends
-returns-in_err-ready-clause-ends g c = λ run knows.
+returns-in_err-ready-clause-ends g c = λ known knows.
     let f = keyed_fn g.K.Keyed.prf g.K.Keyed.pad in
     let told = g.L.Link.transcript c.args.link.now in
     let kept = g.R.Recorder.kept c.args.recorder.now in
@@ -51,11 +51,11 @@ returns-in_err-ready-clause-ends g c = λ run knows.
     let key = c.args.restart.client.key in
     let new = g.L.Link.transcript c.resend.new.link in
     let stop = c.in_err-ready.field-0.0 in
-    resumes-stopped f key run _ _ (outside_of (seen told kept) written) (outside_of (seen new kept) written) c.from_residual.result (stops.Command stop) c.from_residual.ensures.1
-    (resumes-held f key run _ _ told kept written new (command_cause stop) (c.in_err-ready.ensures.stopped run knows))
+    resumes-stopped f key known _ _ (outside_of (seen told kept) written) (outside_of (seen new kept) written) c.from_residual.result (stops.Command stop) c.from_residual.ensures.1
+    (resumes-held f key known _ _ told kept written new (command_cause stop) (c.in_err-ready.ensures.stopped known knows.remembers))
 
 pub returns-in-Err-clause-ends : goal.returns-in-Err-clause-ends
-returns-in-Err-clause-ends g c = λ run knows.
+returns-in-Err-clause-ends g c = λ known knows.
     let f = keyed_fn g.K.Keyed.prf g.K.Keyed.pad in
     let told = g.L.Link.transcript c.args.link.now in
     let kept = g.R.Recorder.kept c.args.recorder.now in
@@ -65,25 +65,27 @@ returns-in-Err-clause-ends g c = λ run knows.
     let fault = c.in-Err.fault in
     let number = c.args.restart.input.number + 1 in
     let lines = lines_left c.args.restart.input.pending (g.S.Source.remaining c.args.source.now) in
-    resumes-stopped f key run number lines (outside_of (seen told kept) written) (outside_of (seen new kept) (g.W.Sink.written c.print.new.sink)) (Err c.from.result) (stop_of_sink fault) c.from.ensures
-    (resumes-untold f key run _ _ told kept written new c.in_ok-ready.frames (c.in_ok-ready.ensures.resent run knows) (g.W.Sink.written c.print.new.sink) fault c.in-Err.ensures.front)
+    resumes-stopped f key known number lines (outside_of (seen told kept) written) (outside_of (seen new kept) (g.W.Sink.written c.print.new.sink)) (Err c.from.result) (stop_of_sink fault) c.from.ensures
+    (resumes-untold f key known _ _ told kept written new c.in_ok-ready.frames (c.in_ok-ready.ensures.resent known knows.remembers) (g.W.Sink.written c.print.new.sink) fault c.in-Err.ensures.front)
 
 pub returns-clause-ends : goal.returns-clause-ends
-returns-clause-ends g c = λ run knows.
+returns-clause-ends g c = λ known knows.
     let f = keyed_fn g.K.Keyed.prf g.K.Keyed.pad in
     let told = g.L.Link.transcript c.args.link.now in
     let kept = g.R.Recorder.kept c.args.recorder.now in
     let written = g.W.Sink.written c.args.sink.now in
     let key = c.args.restart.client.key in
     let new = g.L.Link.transcript c.resend.new.link in
-    let at : IsAt f (Searching c.in_ok-ready.ready) (at_run key [] run) = record {
-      key = c.in_ok-ready.ensures.key run knows;
-      stands = (run, refl, c.in_ok-ready.ensures.stands run knows);
+    let at : IsAt f (Searching c.in_ok-ready.ready) (place_known f key known) = record {
+      key = c.in_ok-ready.ensures.key known knows.remembers;
+      stands = (epochs_known known, refl, c.in_ok-ready.ensures.stands known knows.remembers);
       hashed = c.in_ok-ready.ensures.hash_keys ∙ c.requires.hashed;
+      mark = refl;
+      marks = c.in_ok-ready.ensures.marks ∙ knows.marks;
     } in
-    resumes-lines f key run _ _ told kept written new c.in_ok-ready.frames (c.in_ok-ready.ensures.resent run knows) (g.W.Sink.written c.print.new.sink)
+    resumes-lines f key known _ _ told kept written new c.in_ok-ready.frames (c.in_ok-ready.ensures.resent known knows.remembers) (g.W.Sink.written c.print.new.sink)
     (outside_of (seen (g.L.Link.transcript c.run_lines.new.link) (g.R.Recorder.kept c.run_lines.new.recorder)) (g.W.Sink.written c.run_lines.new.sink)) (ending c.run_lines.result) c.in-Ok-print.ensures.all
-    (c.run_lines.ensures.ends (at_run key [] run) at)
+    (c.run_lines.ensures.ends (place_known f key known) at)
 
 pub returns-clause-link : goal.returns-clause-link
 returns-clause-link g c =

@@ -7,11 +7,11 @@ use Rattle.sse_client.proofs.LastLine.{counts-line, ends_line}
 use Rattle.sse_client.proofs.resumed_run.gone_on.Goals as goal
 
 pub returns-clause-gone_on : goal.returns-clause-gone_on
-returns-clause-gone_on g c = λ run knows.
+returns-clause-gone_on g c = λ known knows.
     let ran = c.go_on-ran in
     let told = seen (g.L.Link.transcript ran.new.link) (g.R.Recorder.kept ran.new.recorder) in
     let written = g.W.Sink.written ran.new.sink in
-    let o = ran.ensures.ends run knows in
+    let o = ran.ensures.ends known knows in
     record {
       end = ended (outside_of told written) (Some c.args.restart.client.key) o.0 (ending ran.result);
       goes_on = o.1;

@@ -1,5 +1,6 @@
-use Rattle.std.proofs.Common.{None, [], refl, ap, subst, ◌∙◌}
+use Rattle.std.proofs.Common.{None, Some, [], refl, ap, subst, ◌∙◌}
 use Rattle.client_registry.specs.Histories.{empty}
+use Rattle.keyed_fn.specs.KeyFormulas.{mark_of}
 use Rattle.keyed_fn.specs.KeyedFn.{keyed_fn}
 use Rattle.script_run_texts.specs.Causes.{KeepsSource, LinkCause, SourceCause}
 use Rattle.script_run_texts.specs.Stops.{peer_cause}
@@ -60,9 +61,9 @@ returns-clause-ends g c =
     let written = g.W.Sink.written c.args.sink.now in
     let f = keyed_fn g.K.Keyed.prf g.K.Keyed.pad in
     let mid = g.L.Link.transcript c.greet.new.link in
-    let at : IsAt f (Collecting c.fresh.result c.new-docs.result) (opened c.in_ok-key.key) = record { key = c.fresh.ensures; stands = (c.new-docs.ensures.none, refl); hashed = c.new-docs.ensures.keys ∙ c.hash_keys.ensures ∙ ap (hash_keys_under f) c.prepare-master.ensures } in
+    let at : IsAt f (Collecting c.fresh.result c.new-docs.result) (opened (Some (mark_of f)) c.in_ok-key.key) = record { key = c.fresh.ensures; stands = (c.new-docs.ensures.none, refl); hashed = c.new-docs.ensures.keys ∙ c.hash_keys.ensures ∙ ap (hash_keys_under f) c.prepare-master.ensures; mark = refl; marks = refl } in
     let last = outside_of (seen (g.L.Link.transcript c.run_lines.new.link) (g.R.Recorder.kept c.run_lines.new.recorder)) (g.W.Sink.written c.run_lines.new.sink) in
-    opens-greeted f c.in_ok-input.input.number c.in_ok-input.input.pending (g.S.Source.remaining c.args.source.now) c.in_ok-input.ensures.number c.in_ok-input.ensures.pending told written c.in_ok-key.key c.key_line.new.input.number (lines_left c.key_line.new.input.pending (g.S.Source.remaining c.key_line.new.source)) c.in_ok-key.ensures.key mid last (ending c.run_lines.result) c.in_ok-greet.ensures.opened (c.run_lines.ensures.ends (opened c.in_ok-key.key) at)
+    opens-greeted f c.in_ok-input.input.number c.in_ok-input.input.pending (g.S.Source.remaining c.args.source.now) c.in_ok-input.ensures.number c.in_ok-input.ensures.pending told written c.in_ok-key.key c.key_line.new.input.number (lines_left c.key_line.new.input.pending (g.S.Source.remaining c.key_line.new.source)) c.in_ok-key.ensures.key mid last (ending c.run_lines.result) c.in_ok-greet.ensures.opened (c.run_lines.ensures.ends (opened (Some (mark_of f)) c.in_ok-key.key) at)
 
 pub returns-clause-source : goal.returns-clause-source
 returns-clause-source g c =

@@ -1,6 +1,7 @@
-use Rattle.std.proofs.Common.{[], ◌∷◌, ◌+◌, List, ℕ, Vec, Global, map, take, sym, ap, subst, ◌∙◌, arith}
+use Rattle.std.proofs.Common.{[], ◌∷◌, ◌+◌, List, ℕ, Vec, Global, map, rules, take, refl, sym, ap, subst, ◌∙◌, arith}
 use Rattle.std.proofs.lemmas.List.{map-append}
 use Rattle.client_registry.specs.WordBytes.{word_bytes}
+use Rattle.def_script_meaning.proofs.GoneAsMeant.{Adds-nothing, AreExchanged-none}
 use Rattle.keyed_fn.specs.KeyedFn.{keyed_fn}
 use Rattle.script_run_texts.specs.Stops.{peer_cause}
 use Rattle.script_run_texts.specs.declared.peer_stop.PeerStop.TheVariants as peers
@@ -9,6 +10,20 @@ use Rattle.sse_client.proofs.WordsSearched.{HasCut-none, searched_more, cut_here
 use Rattle.sse_client.specs.Exchanges.{HasCut, HaveSearched, search_frames}
 use Rattle.sse_script.specs.Shown as says
 use Rattle.sse_client.proofs.search_run.search_all.Goals as goal
+
+pub loop-word-init : goal.loop-word-init
+loop-word-init g c = record {
+  began = refl;
+  steady = refl;
+  count = search rules;
+  room = search rules;
+  searched = record {
+    answers = [];
+    exchanged = record { events = []; adds = Adds-nothing (g.L.Link.transcript c.args.link.now); exchanged = AreExchanged-none };
+    rising = search rules;
+  };
+  spent = λ some. absurd (omega (arith, some));
+}
 
 pub returns-in_err-lists-clause-stopped : goal.returns-in_err-lists-clause-stopped
 returns-in_err-lists-clause-stopped g c =

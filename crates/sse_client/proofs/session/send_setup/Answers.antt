@@ -1,12 +1,10 @@
-use Rattle.std.proofs.Common.{inl, [], refl, sym, ap, subst, ◌∙◌}
+use Rattle.std.proofs.Common.{inl, ℕ, [], refl, sym, ap, subst, ◌∙◌}
 use Rattle.client_core.specs.Owes.{AreNumbered}
 use Rattle.client_core.specs.StandsFor.{StandsFor}
 use Rattle.client_core.specs.declared.ready.Ready.{Ready}
-use Rattle.client_registry.specs.Run.{Run, at_first, From}
+use Rattle.client_registry.specs.Run.{Run, at_first}
 use Rattle.client_registry.specs.Setup.{setup_with}
 use Rattle.keyed_fn.specs.KeyedFn.{keyed_fn}
-use Rattle.sse_model.specs.Epochs.{keys_under}
-use Rattle.std.specs.Prelude.{Some}
 use Rattle.client_core.specs.Payloads.{setup_payload}
 use Rattle.script_run_texts.specs.declared.command_stop.CommandStop.TheVariants.{Exchange}
 use Rattle.sse_client.specs.Stands.{seen}
@@ -26,7 +24,7 @@ returns-in-Err-clause-sends g c = λ frames planned numbered. (refl, c.in-Err.en
 pub returns-clause-stands : goal.returns-clause-stands
 returns-clause-stands g c = λ f.
     let run : Run = record { setup = setup_with c.args.setup.planned.docs.documents c.args.setup.planned.b c.args.setup.planned.big c.args.setup.planned.pad; later = [] } in
-    let keys = keys_under c.args.setup.client.key (Some (From at_first run)) in
+    let keys = λ (epoch : ℕ). c.args.setup.client.key in
     subst (StandsFor f keys at_first run) (sym c.in_ok-ready.ensures.ready) (c.commit-behind.ensures.stands f keys)
 
 pub returns-in_err-ready-clause-sends : goal.returns-in_err-ready-clause-sends
@@ -43,3 +41,6 @@ returns-clause-hash_keys g c = ap (λ (r : Ready). r.registry.keys) c.in_ok-read
 pub catch_up-requires-clause-recorded : goal.catch_up-requires-clause-recorded
 catch_up-requires-clause-recorded g c =
     owes-taken (keyed_fn g.K.Keyed.prf g.K.Keyed.pad) (g.R.Recorder.kept c.args.recorder.now) (g.R.Recorder.kept c.keep_setup.new.recorder) (setup_payload c.args.setup.planned) c.commit-behind.result c.in-Ok.ensures.kept (λ records ends. inl (c.args.setup.planned, ends, c.commit-behind.ensures.owed))
+
+pub returns-clause-marks : goal.returns-clause-marks
+returns-clause-marks g c = ap (λ (r : Ready). r.past.marks.items) c.in_ok-ready.ensures.ready ∙ c.commit-behind.ensures.marks

@@ -19,7 +19,7 @@ use Rattle.sse_client.proofs.TranscriptsJoined.{IfErr-from, may_stop}
 use Rattle.sse_client.proofs.SetupPlan.{frames_of_setup-are_numbered, stopped_plan}
 use Rattle.def_script_meaning.specs.Lines as requests
 use Rattle.sse_client.specs.Stands.{IsAt, seen, IsReady, MayStop, StopsWithin}
-use Rattle.sse_client.proofs.CommandTaken.{IsCollecting, is_up, takes_if_sent, stops_if_sent, takes-refused_setup, stops-plan, takes-set_up_already}
+use Rattle.sse_client.proofs.CommandTaken.{IsCollecting, collecting_at, is_up, takes_if_sent, stops_if_sent, takes-refused_setup, stops-plan, takes-set_up_already}
 use Rattle.sse_client.specs.Stages.{key_of}
 use Rattle.sse_script.specs.Lines as lines
 use Rattle.client_recorder.proofs.GrownRecords.{keeps-same}
@@ -38,14 +38,14 @@ returns-in_ok-send_setup-in-Ok-clause-takes g c =
     let done = c.in_ok-send_setup-in-Ok.field-0 in
     let at : IsCollecting f key docs c.in-Collecting.docs.keys c.args.stage = λ place a.
     let here : IsAt f (Collecting c.in-Collecting.client c.in-Collecting.docs) place = subst (λ (s : Stage). IsAt f s place) c.in-Collecting.is a in
-    (here.key, here.stands.0, here.stands.1, here.hashed) in
-    let ready : IsReady f key (record { setup = s; later = [] }) done.0 = subst (λ (p : List Document × ℕ × ℕ × ℕ). IsReady f key (record { setup = setup_with p.0 p.1 p.2 p.3; later = [] }) done.0)
+    collecting_at f c.in-Collecting.client c.in-Collecting.docs place here in
+    let ready : IsReady f key at_first (record { setup = s; later = [] }) done.0 = subst (λ (p : List Document × ℕ × ℕ × ℕ). IsReady f key at_first (record { setup = setup_with p.0 p.1 p.2 p.3; later = [] }) done.0)
     (λ i. ((c.in-Ok.ensures.documents i).documents, shape.0 i, shape.1 i, c.in-Ok.ensures.pad i)) (c.in_ok-send_setup-in-Ok.ensures.stands f) in
     let spelled = c.in-Ok.ensures.payload in
     let sends = c.in_ok-send_setup-in-Ok.ensures.sends frames c.in-Ok.ensures.frames (frames_of_setup-are_numbered (key_table f key s) at_first s) in
     takes_if_sent f key old new c.args.stage docs c.in-Collecting.docs.keys c.args.sizes.b c.args.sizes.big c.args.sizes.pad at c.in-Ok.ensures.accepted c.in-Ok.planned.own_words c.in-Ok.planned.own_blocks c.in-Ok.ensures.own_words c.in-Ok.ensures.own_blocks
     done.0 done.1 (subst (λ payload. Keeps old.kept new.kept (payload ∷ [])) spelled sends.0) sends.1 c.in_ok-send_setup-in-Ok.ensures.shown c.in_ok-send_setup-in-Ok.ensures.accepted ready
-    c.in_ok-send_setup-in-Ok.ensures.key (c.in_ok-send_setup-in-Ok.ensures.hash_keys ∙ (λ i. (c.in-Ok.ensures.documents i).keys))
+    c.in_ok-send_setup-in-Ok.ensures.key (c.in_ok-send_setup-in-Ok.ensures.hash_keys ∙ (λ i. (c.in-Ok.ensures.documents i).keys)) (c.in_ok-send_setup-in-Ok.ensures.marks ∙ ap (λ mark. mark ∷ []) c.in-Ok.ensures.mark)
 
 pub returns-in_err-send_setup-in-Ok-clause-stops : goal.returns-in_err-send_setup-in-Ok-clause-stops
 returns-in_err-send_setup-in-Ok-clause-stops g c =
@@ -60,7 +60,7 @@ returns-in_err-send_setup-in-Ok-clause-stops g c =
     let spelled = c.in-Ok.ensures.payload in
     let at : IsCollecting f key docs c.in-Collecting.docs.keys c.args.stage = λ place a.
     let here : IsAt f (Collecting c.in-Collecting.client c.in-Collecting.docs) place = subst (λ (s : Stage). IsAt f s place) c.in-Collecting.is a in
-    (here.key, here.stands.0, here.stands.1, here.hashed) in
+    collecting_at f c.in-Collecting.client c.in-Collecting.docs place here in
     IfErr-from c.from_residual.result stop (λ e. StopsWithin f c.args.stage (requests.SetupLine c.args.sizes.b c.args.sizes.big c.args.sizes.pad) old new (command_cause e)) c.from_residual.ensures.1
     (stops_if_sent f key old new c.args.stage docs c.in-Collecting.docs.keys c.args.sizes.b c.args.sizes.big c.args.sizes.pad at c.in-Ok.ensures.accepted (Stage × LineResult) (setup_payload c.in-Ok.planned) stop spelled
     (c.in_err-send_setup-in-Ok.ensures.sends frames c.in-Ok.ensures.frames (frames_of_setup-are_numbered (key_table f key s) at_first s)))
@@ -76,7 +76,7 @@ returns-in-Err-setup_refusal-clause-stops g c =
     let plan = c.in-Err.ensures in
     let at : IsCollecting f key docs c.in-Collecting.docs.keys c.args.stage = λ place a.
     let here : IsAt f (Collecting c.in-Collecting.client c.in-Collecting.docs) place = subst (λ (s : Stage). IsAt f s place) c.in-Collecting.is a in
-    (here.key, here.stands.0, here.stands.1, here.hashed) in
+    collecting_at f c.in-Collecting.client c.in-Collecting.docs place here in
     λ place a written.
     let p = at place a in
     stops-plan f key docs c.args.sizes.b c.args.sizes.big c.args.sizes.pad place p.0 p.1 p.2 Planned c.in-Err.fault (record { refused = plan.refused; clash = plan.clash; built = plan.built }) old stop
@@ -95,7 +95,8 @@ returns-in-Ok-setup_refusal-clause-takes g c =
     λ place a.
     let here : IsAt f (Collecting c.in-Collecting.client c.in-Collecting.docs) place = subst (λ (s : Stage). IsAt f s place) c.in-Collecting.is a in
     let still : IsAt f next place = subst (λ d. IsAt f (Collecting c.in-Collecting.client d) place) (sym c.in-Err.ensures.kept) here in
-    takes-refused_setup f c.in-Collecting.client.key docs c.args.sizes.b c.args.sizes.big c.args.sizes.pad place here.key here.stands.0 here.stands.1 Planned c.in-Err.fault
+    let p = collecting_at f c.in-Collecting.client c.in-Collecting.docs place here in
+    takes-refused_setup f c.in-Collecting.client.key docs c.args.sizes.b c.args.sizes.big c.args.sizes.pad place p.0 p.1 p.2 Planned c.in-Err.fault
     (record { refused = plan.refused; clash = plan.clash; built = plan.built }) old next came shown refl refl still (sym c.in-Ok-setup_refusal.ensures)
 
 pub returns-in-Searching-clause-takes : goal.returns-in-Searching-clause-takes

@@ -139,3 +139,16 @@ returns-in-Find-clause-keeps_on g c = keeps-same g.R.Recorder.kept g.R.Recorder.
 
 pub returns-in-Query-clause-keeps_on : goal.returns-in-Query-clause-keeps_on
 returns-in-Query-clause-keeps_on g c = keeps-same g.R.Recorder.kept g.R.Recorder.moment g.R.Recorder.left_since c.args.recorder.now (g.met.R.Recorder.at_rest c.args.recorder.now c.requires.whole)
+
+pub returns-in-Rebuild-clause-takes : goal.returns-in-Rebuild-clause-takes
+returns-in-Rebuild-clause-takes g c =
+    takes_own (keyed_fn g.K.Keyed.prf g.K.Keyed.pad) c.args.stage (seen (g.L.Link.transcript c.args.link.now) (g.R.Recorder.kept c.args.recorder.now)) (seen (g.L.Link.transcript c.rebuild.new.link) (g.R.Recorder.kept c.rebuild.new.recorder)) (line_read (line_view c.args.line)) (requests.RebuildLine c.in-Rebuild.key)
+    (ap (λ (line : Line). line_read (line_view line)) c.in-Rebuild.is) c.rebuild.result c.rebuild.ensures.takes
+
+pub returns-in-Rebuild-clause-stops : goal.returns-in-Rebuild-clause-stops
+returns-in-Rebuild-clause-stops g c =
+    stops_own (keyed_fn g.K.Keyed.prf g.K.Keyed.pad) c.args.stage (seen (g.L.Link.transcript c.args.link.now) (g.R.Recorder.kept c.args.recorder.now)) (seen (g.L.Link.transcript c.rebuild.new.link) (g.R.Recorder.kept c.rebuild.new.recorder)) (line_read (line_view c.args.line)) (requests.RebuildLine c.in-Rebuild.key)
+    (ap (λ (line : Line). line_read (line_view line)) c.in-Rebuild.is) c.rebuild.result c.rebuild.ensures.stops
+
+pub returns-in-Rebuild-clause-may_stop : goal.returns-in-Rebuild-clause-may_stop
+returns-in-Rebuild-clause-may_stop g c = subst (λ (line : Line). OnErr c.rebuild.result (MayStop (keyed_fn g.K.Keyed.prf g.K.Keyed.pad) c.args.stage (line_view line))) (sym c.in-Rebuild.is) c.rebuild.ensures.may_stop

@@ -1,7 +1,9 @@
-use Rattle.std.proofs.Common.{◌≡◌, ◌∙◌, None, Ok, Err, sym, subst}
+use Rattle.std.proofs.Common.{◌≡◌, ◌∙◌, None, Ok, Err, sym, ap, subst}
 use Rattle.std.specs.Prelude.{IfErr}
 use Rattle.client_registry.specs.Command.{Add}
-use Rattle.client_registry.specs.Run.{at_first}
+use Rattle.client_registry.specs.Epochs.{begins}
+use Rattle.client_registry.specs.Run.{last_run}
+use Rattle.client_renewal.specs.declared.past.Past.{Past}
 use Rattle.def_script_meaning.specs.Carries.{keys_at}
 use Rattle.keyed_fn.specs.KeyedFn.{keyed_fn}
 use Rattle.script_documents.specs.LineDocument.{document}
@@ -34,7 +36,7 @@ returns-in-Err-plan_add-clause-plan g c = λ place at.
     let x = c.in-Err-plan_add.fault in
     let same = at_master f place client at c.args.tools.now.master c.requires.prepared in
     let valid = subst (λ d. document_refusal d.id d.words ≡ None) (sym c.in-Ok.ensures.document) c.in-Ok.ensures.good in
-    let plan = addition_at f place client at (Err x) doc valid (c.in-Err-plan_add.ensures.fault (keys_at place) at_first at.stands.0 same at.stands.2) in
+    let plan = addition_at f place client at (Err x) doc valid (c.in-Err-plan_add.ensures.fault (keys_at place) (begins at.stands.0) (last_run at.stands.0) same at.stands.2) in
     subst (λ d. IsUpdatePlan f place (add_refusal place.history d) (Add d) c.answer_of_command.result) c.in-Ok.ensures.document
     (subst (IsUpdatePlan f place (add_refusal place.history doc) (Add doc)) (sym c.answer_of_command.ensures) (unplanned f place (add_refusal place.history doc) (Add doc) (answer_to_command x) plan.fault))
 
@@ -52,12 +54,12 @@ returns-in-Ok-plan_add-clause-plan g c = λ place at.
     let planned = c.in-Ok-plan_add.planned in
     let same = at_master f place client at c.args.tools.now.master c.requires.prepared in
     let valid = subst (λ d. document_refusal d.id d.words ≡ None) (sym c.in-Ok.ensures.document) c.in-Ok.ensures.good in
-    let plan = addition_at f place client at (Ok planned) doc valid (c.in-Ok-plan_add.ensures.fault (keys_at place) at_first at.stands.0 same at.stands.2) in
+    let plan = addition_at f place client at (Ok planned) doc valid (c.in-Ok-plan_add.ensures.fault (keys_at place) (begins at.stands.0) (last_run at.stands.0) same at.stands.2) in
     subst (λ d. IsUpdatePlan f place (add_refusal place.history d) (Add d) (Ok (Planned planned))) c.in-Ok.ensures.document (
       plan.planned.0,
       record {
         command = c.in-Ok-plan_add.ensures.command;
-        frame = frame_at f place client at (Add doc) planned.frame (c.in-Ok-plan_add.ensures.frame (keys_at place) at_first at.stands.0 same at.stands.2);
+        frame = frame_at f place client at (Add doc) planned.frame (c.in-Ok-plan_add.ensures.frame (keys_at place) (begins at.stands.0) (last_run at.stands.0) same at.stands.2);
         no_clash = plan.planned.1;
       },
     )
@@ -65,9 +67,9 @@ returns-in-Ok-plan_add-clause-plan g c = λ place at.
 pub returns-in-Err-plan_add-clause-stands : goal.returns-in-Err-plan_add-clause-stands
 returns-in-Err-plan_add-clause-stands g c = λ place at.
     let same = at_master (keyed_fn g.K.Keyed.prf g.K.Keyed.pad) place c.args.client.now at c.args.tools.now.master c.requires.prepared in
-    record { key = c.plan_add.ensures.key ∙ at.key; stands = (at.stands.0, at.stands.1, c.plan_add.ensures.stands (keys_at place) at_first at.stands.0 same at.stands.2); hashed = c.plan_add.ensures.hash_keys ∙ at.hashed }
+    record { key = c.plan_add.ensures.key ∙ at.key; stands = (at.stands.0, at.stands.1, c.plan_add.ensures.stands (keys_at place) (begins at.stands.0) (last_run at.stands.0) same at.stands.2); hashed = c.plan_add.ensures.hash_keys ∙ at.hashed; mark = at.mark; marks = ap (λ (p : Past). p.marks.items) c.plan_add.ensures.past ∙ at.marks }
 
 pub returns-in-Ok-plan_add-clause-stands : goal.returns-in-Ok-plan_add-clause-stands
 returns-in-Ok-plan_add-clause-stands g c = λ place at.
     let same = at_master (keyed_fn g.K.Keyed.prf g.K.Keyed.pad) place c.args.client.now at c.args.tools.now.master c.requires.prepared in
-    record { key = c.plan_add.ensures.key ∙ at.key; stands = (at.stands.0, at.stands.1, c.plan_add.ensures.stands (keys_at place) at_first at.stands.0 same at.stands.2); hashed = c.plan_add.ensures.hash_keys ∙ at.hashed }
+    record { key = c.plan_add.ensures.key ∙ at.key; stands = (at.stands.0, at.stands.1, c.plan_add.ensures.stands (keys_at place) (begins at.stands.0) (last_run at.stands.0) same at.stands.2); hashed = c.plan_add.ensures.hash_keys ∙ at.hashed; mark = at.mark; marks = ap (λ (p : Past). p.marks.items) c.plan_add.ensures.past ∙ at.marks }

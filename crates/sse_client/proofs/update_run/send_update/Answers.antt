@@ -2,7 +2,8 @@ use Rattle.std.proofs.Common.{inl, inr, ◌∷◌, [], List, Ok, refl, sym, ap, 
 use Rattle.client_core.specs.declared.ready.Ready.{Ready}
 use Rattle.client_core.specs.TakenViews.{first_number}
 use Rattle.client_core.specs.StandsFor.{StandsFor, with_command}
-use Rattle.client_registry.specs.Run.{at_first}
+use Rattle.client_registry.specs.Epochs.{begins}
+use Rattle.client_registry.specs.Run.{last_run}
 use Rattle.sse_frames.specs.Frames.{FrameText}
 use Rattle.sse_model.specs.Histories.{frames_of_next}
 use Rattle.def_script_meaning.specs.Carries.{keys_at}
@@ -41,15 +42,16 @@ returns-in_ok-ready-in-Ok-Planned-clause-goes_on g c = λ f place refusal update
     let client = c.args.update.client in
     let planned = c.in-Ok-Planned.planned in
     let ready = c.in_ok-ready-in-Ok-Planned.ready in
-    let run = at.stands.0 in
+    let o = begins at.stands.0 in
+    let run = last_run at.stands.0 in
     let p : IsUpdatePlan f place refusal update (Ok (Planned planned)) = subst (IsUpdatePlan f place refusal update) (c.in-Ok-Planned.is ∙ ap (λ answer. Ok answer) c.in-Ok-Planned.field-0-is) plan in
     let commits : CanCarryOut client.state planned = subst (λ r. IfPlanned r (CanCarryOut client.state)) (c.in-Ok-Planned.is ∙ ap (λ answer. Ok answer) c.in-Ok-Planned.field-0-is) c.requires.commits in
     let frames : List FrameText = frames_of_next f place.key place.history (update ∷ []) in
     let numbered : AreNumbered (first_number c.commit-behind.result.state) frames = subst (λ n. AreNumbered n frames) (sym (c.commit-behind.ensures.first ∙ commits.commits.next)) (numbered-at f place client at planned.update update p.1.command) in
-    let stands : StandsFor f (keys_at place) at_first (with_command run update) ready.state = subst (StandsFor f (keys_at place) at_first (with_command run update)) (sym c.in_ok-ready-in-Ok-Planned.ensures.ready)
-    (subst (λ d. StandsFor f (keys_at place) at_first (with_command run d) c.commit-behind.result.state.ready) p.1.command (c.commit-behind.ensures.stands f (keys_at place) at_first run at.stands.2)) in
+    let stands : StandsFor f (keys_at place) o (with_command run update) ready.state = subst (StandsFor f (keys_at place) o (with_command run update)) (sym c.in_ok-ready-in-Ok-Planned.ensures.ready)
+    (subst (λ d. StandsFor f (keys_at place) o (with_command run d) c.commit-behind.result.state.ready) p.1.command (c.commit-behind.ensures.stands f (keys_at place) o run at.stands.2)) in
     goes-updated f place refusal update shown client at planned p.0 p.1 old new ready c.args.update.done c.in-Ok.ensures.kept
-    (c.in_ok-ready-in-Ok-Planned.ensures.sends frames (c.commit-behind.ensures.owed ∙ p.1.frame) numbered) view c.requires.accepts (c.in_ok-ready-in-Ok-Planned.ensures.key ∙ c.commit-behind.ensures.key) (ap (λ (r : Ready). r.registry.keys) c.in_ok-ready-in-Ok-Planned.ensures.ready ∙ c.commit-behind.ensures.hash_keys) stands
+    (c.in_ok-ready-in-Ok-Planned.ensures.sends frames (c.commit-behind.ensures.owed ∙ p.1.frame) numbered) view c.requires.accepts (c.in_ok-ready-in-Ok-Planned.ensures.key ∙ c.commit-behind.ensures.key) (ap (λ (r : Ready). r.registry.keys) c.in_ok-ready-in-Ok-Planned.ensures.ready ∙ c.commit-behind.ensures.hash_keys) (ap (λ (r : Ready). r.past) c.in_ok-ready-in-Ok-Planned.ensures.ready ∙ c.commit-behind.ensures.past) stands
 
 pub returns-in-Ok-Refused-clause-goes_on : goal.returns-in-Ok-Refused-clause-goes_on
 returns-in-Ok-Refused-clause-goes_on g c = λ f place refusal update shown at plan view.
