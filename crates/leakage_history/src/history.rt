@@ -172,6 +172,15 @@ impl History {
         self.keys
     }
 
+    /// What is live, listed and counted after the commands; none before the first.
+    pub(crate) fn registry(&self) -> Option<&Registry>
+        ensures told { IfSome result (λ registry. Represents registry.now self.now.setup self.now.later) }
+        ensures first { result ≡ None → self.now.later ≡ [] }
+        ensures valid { AreAccepted (run_of self.now) }
+    {
+        self.registry.as_ref()
+    }
+
     // Promise P59, also here; clauses: keys
     // Promise P76, also here; clauses: setup, words
     /// A registry that was told the setup alone: [`register`] tells it a command after the others. It hashes under the keys of the

@@ -17,7 +17,7 @@ use Rattle.script_documents.specs.declared.line_fault.LineFault.{LineFault}
 use Rattle.script_documents.specs.declared.line_fault.LineFault.TheVariants as faults
 use Rattle.script_documents.specs.Refused.{collect_refusal}
 use Rattle.def_script_meaning.specs.Lines.{Line, Empty, Key, Command, Request, Doc, SetupLine}
-use Rattle.def_script_meaning.specs.Outcome.{Place, Printed, Outcome, Collects, Refuses, SetsUp, Does, unless, before_setup, after_setup, after, is_refusal}
+use Rattle.def_script_meaning.specs.Outcome.{Place, Printed, Outcome, Collects, Refuses, SetsUp, Does, Renews, unless, before_setup, after_setup, after, is_refusal}
 use Rattle.def_script_meaning.specs.Refused.{index_refusal}
 use Rattle.client_registry.specs.Setup.{setup_with}
 use Rattle.sse_script.specs.declared.refusal.Refusal.{Refusal}
@@ -31,13 +31,14 @@ use Rattle.script_history.specs.declared.stage.Stage.TheVariants.{Collecting, Bu
 
 -- Lines.
 
-abbrev asked : Request → Line → Request
-asked other Empty = other
-asked other (Key key) = other
-asked other (Command request) = request
+abbrev asked : Request → Option Line → Request
+asked other None = other
+asked other (Some Empty) = other
+asked other (Some (Key key)) = other
+asked other (Some (Command request)) = request
 
 -- what holds of a line's own request holds of the one that it is
-pub of_own : (P : Request → Type 0) (read : Line) (own : Request) → read ≡ Command own → P own → (request : Request) → read ≡ Command request → P request
+pub of_own : (P : Request → Type 0) (read : Option Line) (own : Request) → read ≡ Some (Command own) → P own → (request : Request) → read ≡ Some (Command request) → P request
 of_own P read own is holds request e = subst P (ap (asked own) (sym is ∙ e)) holds
 
 -- Outcomes.
@@ -48,6 +49,7 @@ is_refusal-found (Collects d) = refl
 is_refusal-found (Refuses refusal) = refl
 is_refusal-found (SetsUp s) = refl
 is_refusal-found (Does commands shown) = refl
+is_refusal-found (Renews key s) = refl
 
 -- before a setup nothing is numbered
 pub numbered-none : (o : Outcome) → numbered None o ≡ o
@@ -55,6 +57,7 @@ numbered-none (Collects d) = refl
 numbered-none (Refuses refusal) = refl
 numbered-none (SetsUp s) = refl
 numbered-none (Does commands shown) = refl
+numbered-none (Renews key s) = refl
 
 -- a command is refused where it is in a run, and then where the history with it can't be numbered
 pub numbered-command : (h : History) (r : Option Refusal) (commands : List Meant) (shown : Printed)
@@ -69,18 +72,18 @@ numbered-command h None commands shown = by (is_full (longer commands h))
 -- After the setup.
 
 module _ (place : Place) (run : Run) (e : place.history ≡ one_epoch run) where
-  pub behind : (request : Request) → read_outcome place request ≡ numbered (one_epoch run) (after_setup (one_epoch run) request)
-  behind request = ap (λ h. numbered h (if is_set_up h then after_setup h request else before_setup place.documents request)) e
+  pub behind : (request : Request) → read_outcome place request ≡ numbered (one_epoch run) (after_setup place (one_epoch run) request)
+  behind request = ap (λ h. numbered h (if is_set_up h then after_setup place h request else before_setup place.documents request)) e
 
   -- a line that is refused
-  pub refused-behind : (request : Request) (refusal : Refusal) → after_setup (one_epoch run) request ≡ Refuses refusal
+  pub refused-behind : (request : Request) (refusal : Refusal) → after_setup place (one_epoch run) request ≡ Refuses refusal
       → (Some refusal ≡ refusal_in (read_outcome place request)) × ((after (read_outcome place request) place).history ≡ one_epoch run)
   refused-behind request refusal is =
       let whole = behind request ∙ ap (numbered (one_epoch run)) is in
       subst (λ o. (Some refusal ≡ refusal_in o) × ((after o place).history ≡ one_epoch run)) (sym whole) (refl, e)
 
   -- a command
-  pub command-behind : (request : Request) (r found : Option Refusal) (c : Meant) (shown : Printed) (next : Run) → after_setup (one_epoch run) request ≡ unless r (Does (c ∷ []) shown)
+  pub command-behind : (request : Request) (r found : Option Refusal) (c : Meant) (shown : Printed) (next : Run) → after_setup place (one_epoch run) request ≡ unless r (Does (c ∷ []) shown)
       → found ≡ option_or r (number_refusal (one_epoch run) (c ∷ [])) → next ≡ run_after found run c
       → (found ≡ refusal_in (read_outcome place request)) × ((after (read_outcome place request) place).history ≡ one_epoch next)
   command-behind request r found c shown next is same went =
@@ -92,7 +95,7 @@ module _ (place : Place) (run : Run) (e : place.history ≡ one_epoch run) where
       by (Some refusal) went = (refl, e ∙ ap one_epoch (sym went))
 
   -- several commands of one line
-  pub commands-behind : (request : Request) (r found : Option Refusal) (cs : List Meant) (shown : Printed) (next : Run) → after_setup (one_epoch run) request ≡ unless r (Does cs shown)
+  pub commands-behind : (request : Request) (r found : Option Refusal) (cs : List Meant) (shown : Printed) (next : Run) → after_setup place (one_epoch run) request ≡ unless r (Does cs shown)
       → found ≡ option_or r (number_refusal (one_epoch run) cs) → next ≡ run_after_all found run cs
       → (found ≡ refusal_in (read_outcome place request)) × ((after (read_outcome place request) place).history ≡ one_epoch next)
   commands-behind request r found cs shown next is same went =
@@ -121,7 +124,7 @@ stops_any (Err e) = tt
 module _ (place : Place) (e : place.history ≡ None) where
   pub before : (request : Request) → read_outcome place request ≡ before_setup place.documents request
   before request =
-      ap (λ h. numbered h (if is_set_up h then after_setup h request else before_setup place.documents request)) e ∙ numbered-none (before_setup place.documents request)
+      ap (λ h. numbered h (if is_set_up h then after_setup place h request else before_setup place.documents request)) e ∙ numbered-none (before_setup place.documents request)
 
   -- a line that is refused
   pub refused-before : (request : Request) (refusal : Refusal) (stage : Stage) → before_setup place.documents request ≡ Refuses refusal → IsAt stage place → ComesTo place (read_outcome place request) stage (Some refusal)

@@ -1,5 +1,6 @@
 -- A reading over the lines of a script: one line, each way out of the loop over the lines, and each turn of it.
 use Rattle.std.proofs.Common.{◌≡◌, ◌⊎◌, inl, inr, ℕ, ◌+◌, ◌<◌, Bool, true, false, ◌||◌, List, [], ◌∷◌, length, nat_lt, refl, sym, ap, subst, ◌∙◌}
+use Rattle.std.specs.Option.{option_and_then}
 use Rattle.std.specs.Prelude.{Option, None, Some, Result, Ok, Err, IfErr, IfOk, IfSome, IsErrAnd, OnOk, is_some, option_map, ◌^◌, if◌then◌else◌}
 use Rattle.std.specs.Io.KnownBytes.{append_known}
 use Rattle.std.proofs.lemmas.Bool.{lt-ltb}
@@ -10,7 +11,7 @@ use Rattle.script_run_texts.specs.declared.input_stop.InputStop.TheVariants as i
 use Rattle.script_run_texts.specs.declared.stop_cause.StopCause.{StopCause}
 use Rattle.def_script_meaning.proofs.FollowedPlaces.{after-key}
 use Rattle.def_script_meaning.proofs.Steps.{IsBad, IsBadFirst}
-use Rattle.def_script_meaning.specs.Lines.{Line, Empty, Key, Command, Request, line_in, line_read, lines_in}
+use Rattle.def_script_meaning.specs.Lines.{Line, Empty, Key, Command, Request}
 use Rattle.def_script_meaning.specs.Outcome.{Place, Outcome, after, is_refusal, opened}
 use Rattle.sse_outside.specs.declared.device_fault.DeviceFault.{DeviceFault}
 use Rattle.sse_outside.specs.declared.device_fault.DeviceFault.TheVariants as devices
@@ -22,6 +23,7 @@ use Rattle.sse_script.specs.Views.{line_view}
 use Rattle.sse_script.specs.declared.line.Line.{Line as ReadLine}
 use Rattle.sse_script.specs.declared.line.Line.TheVariants as reads
 use Rattle.sse_script.specs.declared.refusal.Refusal.{Refusal}
+use Rattle.script_history.specs.LinesHere.{line_here, line_taken, lines_here}
 use Rattle.script_history.specs.Reads.{ReadEnd, Whole, Stopped, StopsUnread, StopsPrinting, Reads, ReadsFirst, ReadsFrom, ReadsFirstFrom, read_outcome, refusal_in, refused_text}
 use Rattle.script_history.specs.Stages.{IsAt, ComesTo}
 use Rattle.script_history.specs.Turns.{IsElsewhere, Moment, moment, ReadsOn, IsThere, ComesThrough, LeadsOn, LeadsTo, end_at, history_at}
@@ -35,34 +37,35 @@ use Rattle.script_history.proofs.LinesTaken.{is_refusal-found}
 -- Lines.
 
 -- what was read of a text
-pub line_in-read : (line : ReadLine) (text : List ℕ) → Some (line_view line) ≡ line_of text → line_in text ≡ Some (line_read (line_view line))
-line_in-read line text e = sym (ap (option_map line_read) e)
+pub line_here-read : (line : ReadLine) (text : List ℕ) → Some (line_view line) ≡ line_of text → line_here text ≡ line_taken (line_view line)
+line_here-read line text e = sym (ap (option_and_then line_taken) e)
 
 -- a text that is no line
-pub line_in-none : (text : List ℕ) → line_of text ≡ None → line_in text ≡ None
-line_in-none text e = ap (option_map line_read) e
+pub line_here-none : (text : List ℕ) → line_of text ≡ None → line_here text ≡ None
+line_here-none text e = ap (option_and_then line_taken) e
 
 none_if : (b : Bool) (x : Option read.Line) → b ≡ true → (if b then None else x) ≡ None
 none_if true x e = refl
 none_if false x e = absurd (cc)
 
 -- a line that is too long
-line_in-long : (text : List ℕ) → 2 ^ 19 < length text → line_in text ≡ None
-line_in-long text above = line_in-none text (none_if (nat_lt (2 ^ 19) (length text)) _ (lt-ltb (2 ^ 19) (length text) above))
+line_here-long : (text : List ℕ) → 2 ^ 19 < length text → line_here text ≡ None
+line_here-long text above = line_here-none text (none_if (nat_lt (2 ^ 19) (length text)) _ (lt-ltb (2 ^ 19) (length text) above))
 
--- a line that is neither empty nor a key line has a command
-pub command_of : (line : ReadLine) → (line ≡ reads.Empty → ⊥) → ((key : List ℕ) → line ≡ reads.Key key → ⊥) → (request : Request) × (line_read (line_view line) ≡ Command request)
-command_of reads.Empty not_empty not_key = absurd (not_empty refl)
-command_of (reads.Key key) not_empty not_key = absurd (not_key key refl)
-command_of (reads.Doc id words) not_empty not_key = (_, refl)
-command_of (reads.Setup b big pad) not_empty not_key = (_, refl)
-command_of (reads.Add id words) not_empty not_key = (_, refl)
-command_of (reads.Del id) not_empty not_key = (_, refl)
-command_of (reads.Find word) not_empty not_key = (_, refl)
-command_of (reads.Query fields) not_empty not_key = (_, refl)
+-- a line that is neither empty nor a key line nor a `rebuild` line has a command
+pub command_of : (line : ReadLine) → (line ≡ reads.Empty → ⊥) → ((key : List ℕ) → line ≡ reads.Key key → ⊥) → ((key : List ℕ) → line ≡ reads.Rebuild key → ⊥) → (request : Request) × (line_taken (line_view line) ≡ Some (Command request))
+command_of reads.Empty not_empty not_key not_rebuild = absurd (not_empty refl)
+command_of (reads.Key key) not_empty not_key not_rebuild = absurd (not_key key refl)
+command_of (reads.Doc id words) not_empty not_key not_rebuild = (_, refl)
+command_of (reads.Setup b big pad) not_empty not_key not_rebuild = (_, refl)
+command_of (reads.Add id words) not_empty not_key not_rebuild = (_, refl)
+command_of (reads.Del id) not_empty not_key not_rebuild = (_, refl)
+command_of (reads.Find word) not_empty not_key not_rebuild = (_, refl)
+command_of (reads.Query fields) not_empty not_key not_rebuild = (_, refl)
+command_of (reads.Rebuild key) not_empty not_key not_rebuild = absurd (not_rebuild key refl)
 
--- which is bad where the key line must be
-pub bad_first : (line : ReadLine) → (line ≡ reads.Empty → ⊥) → ((key : List ℕ) → line ≡ reads.Key key → ⊥) → IsBadFirst (Some (line_read (line_view line)))
+-- which is bad where the key line must be, and so is a `rebuild` line
+pub bad_first : (line : ReadLine) → (line ≡ reads.Empty → ⊥) → ((key : List ℕ) → line ≡ reads.Key key → ⊥) → IsBadFirst (line_taken (line_view line))
 bad_first reads.Empty not_empty not_key = absurd (not_empty refl)
 bad_first (reads.Key key) not_empty not_key = absurd (not_key key refl)
 bad_first (reads.Doc id words) not_empty not_key = tt
@@ -71,6 +74,7 @@ bad_first (reads.Add id words) not_empty not_key = tt
 bad_first (reads.Del id) not_empty not_key = tt
 bad_first (reads.Find word) not_empty not_key = tt
 bad_first (reads.Query fields) not_empty not_key = tt
+bad_first (reads.Rebuild key) not_empty not_key = tt
 
 -- One step over the lines that are left.
 
@@ -78,7 +82,7 @@ module _ (place : Place) (number : ℕ) (refused : Bool) (now : Option (List ℕ
   -- the reading stops, for the source or for memory
   reads-reading : (left : Option (List (List ℕ))) (end : ReadEnd) → (end ≡ Stopped (Some SourceFault)) ⊎ (end ≡ Stopped (Some NoMemory)) → ReadsFrom place number left refused now now end
   reads-reading None end stops = tt
-  reads-reading (Some texts) end stops = of (lines_in texts)
+  reads-reading (Some texts) end stops = of (lines_here texts)
     where
       unread : StopsUnread now now end
       unread = record { printed = refl; stops = stops }
@@ -93,16 +97,16 @@ module _ (place : Place) (number : ℕ) (refused : Bool) (now : Option (List ℕ
   -- no line is left
   reads-end : (left : Option (List (List ℕ))) → IfSome left (λ lines. lines ≡ []) → ReadsFrom place number left refused now now (Whole place.key place.history refused number)
   reads-end None none = tt
-  reads-end (Some texts) none = subst (λ texts. Reads place number (lines_in texts) refused now now (Whole place.key place.history refused number)) (sym none) (inl (refl, refl))
+  reads-end (Some texts) none = subst (λ texts. Reads place number (lines_here texts) refused now now (Whole place.key place.history refused number)) (sym none) (inl (refl, refl))
 
   module _ (text : List ℕ) where
     abbrev with_text : Option (List (List ℕ)) → Option (List (List ℕ))
     with_text behind = option_map (λ lines. text ∷ lines) behind
 
     -- a line that isn't in the grammar, or one more key line
-    reads-bad : IsBad (line_in text) → (behind : Option (List (List ℕ))) → ReadsFrom place number (with_text behind) refused now now (Stopped (Some (BadLine number)))
+    reads-bad : IsBad (line_here text) → (behind : Option (List (List ℕ))) → ReadsFrom place number (with_text behind) refused now now (Stopped (Some (BadLine number)))
     reads-bad bad None = tt
-    reads-bad bad (Some texts) = of (line_in text) bad (lines_in texts)
+    reads-bad bad (Some texts) = of (line_here text) bad (lines_here texts)
       where
         of : (item : Option Line) → IsBad item → (lines : List (Option Line)) → Reads place number (item ∷ lines) refused now now (Stopped (Some (BadLine number)))
         of None bad lines = inl (refl, refl)
@@ -111,12 +115,12 @@ module _ (place : Place) (number : ℕ) (refused : Bool) (now : Option (List ℕ
         of (Some (Command line)) bad lines = absurd bad
 
     -- an empty line
-    reads-empty : line_in text ≡ Some Empty → (behind : Option (List (List ℕ))) (last : Option (List ℕ)) (end : ReadEnd) → ReadsFrom place (number + 1) behind refused now last end
+    reads-empty : line_here text ≡ Some Empty → (behind : Option (List (List ℕ))) (last : Option (List ℕ)) (end : ReadEnd) → ReadsFrom place (number + 1) behind refused now last end
         → ReadsFrom place number (with_text behind) refused now last end
     reads-empty is None last end rest = tt
-    reads-empty is (Some texts) last end rest = subst (λ item. Reads place number (item ∷ lines_in texts) refused now last end) (sym is) (inr rest)
+    reads-empty is (Some texts) last end rest = subst (λ item. Reads place number (item ∷ lines_here texts) refused now last end) (sym is) (inr rest)
 
-    module _ (line : Request) (is : line_in text ≡ Some (Command line)) where
+    module _ (line : Request) (is : line_here text ≡ Some (Command line)) where
       abbrev result : Outcome
       result = read_outcome place line
 
@@ -124,9 +128,9 @@ module _ (place : Place) (number : ℕ) (refused : Bool) (now : Option (List ℕ
       reads-stops : (behind : Option (List (List ℕ))) (last : Option (List ℕ)) (end : ReadEnd) → StopsUnread now last end ⊎ StopsPrinting (refused_text (refusal_in result)) now last end
           → ReadsFrom place number (with_text behind) refused now last end
       reads-stops None last end stops = tt
-      reads-stops (Some texts) last end stops = subst (λ item. Reads place number (item ∷ lines_in texts) refused now last end) (sym is) (by stops)
+      reads-stops (Some texts) last end stops = subst (λ item. Reads place number (item ∷ lines_here texts) refused now last end) (sym is) (by stops)
         where
-          by : StopsUnread now last end ⊎ StopsPrinting (refused_text (refusal_in result)) now last end → Reads place number (Some (Command line) ∷ lines_in texts) refused now last end
+          by : StopsUnread now last end ⊎ StopsPrinting (refused_text (refusal_in result)) now last end → Reads place number (Some (Command line) ∷ lines_here texts) refused now last end
           by (inl unread) = inl unread
           by (inr printing) = inr (inl printing)
 
@@ -135,7 +139,7 @@ module _ (place : Place) (number : ℕ) (refused : Bool) (now : Option (List ℕ
           → ReadsFrom (after result place) (number + 1) behind (refused || is_refusal result) (append_known now (refused_text (refusal_in result))) last end
           → ReadsFrom place number (with_text behind) refused now last end
       reads-next None last end rest = tt
-      reads-next (Some texts) last end rest = subst (λ item. Reads place number (item ∷ lines_in texts) refused now last end) (sym is) (inr (inr rest))
+      reads-next (Some texts) last end rest = subst (λ item. Reads place number (item ∷ lines_here texts) refused now last end) (sym is) (inr (inr rest))
 
 -- One command.
 
@@ -156,13 +160,13 @@ module _ (place : Place) (progress : Progress) (number : ℕ) (text : List ℕ) 
   abbrev start : Moment
   start = moment place number (option_map (λ lines. text ∷ lines) behind) progress.refused now
 
-  pub leads-empty : IsAt progress.stage place → line_in text ≡ Some Empty → LeadsOn start number behind now (Ok progress)
+  pub leads-empty : IsAt progress.stage place → line_here text ≡ Some Empty → LeadsOn start number behind now (Ok progress)
   leads-empty at is = record { place = place; at = at; key = refl; rest = λ last end rest. reads-empty place number progress.refused now text is behind last end rest }
 
-  pub leads-bad : IsBad (line_in text) → ReadsOn start now (Stopped (Some (BadLine number)))
+  pub leads-bad : IsBad (line_here text) → ReadsOn start now (Stopped (Some (BadLine number)))
   leads-bad bad = reads-bad place number progress.refused now text bad behind
 
-  pub leads-command : (request : Request) → line_in text ≡ Some (Command request) → (last : Option (List ℕ)) (r : Result Progress StopCause) → ComesThrough place request progress.refused now last r → LeadsOn start number behind last r
+  pub leads-command : (request : Request) → line_here text ≡ Some (Command request) → (last : Option (List ℕ)) (r : Result Progress StopCause) → ComesThrough place request progress.refused now last r → LeadsOn start number behind last r
   leads-command request is last (Ok next) comes = record {
     place = after (read_outcome place request) place;
     at = comes.0;
@@ -205,7 +209,7 @@ leads-unread place progress number left behind now (inputs.Line m) skips counts 
     let long = skips m refl in
     subst (λ l. ReadsOn (moment place number l progress.refused now) now (Stopped (Some (BadLine m)))) (sym long.skipped)
     (subst (λ n. ReadsOn (moment place number (option_map (λ lines. long.long ∷ lines) behind) progress.refused now) now (Stopped (Some (BadLine n)))) (sym (counts m refl))
-    (reads-bad place number progress.refused now long.long (subst IsBad (sym (line_in-long long.long long.above)) tt) behind))
+    (reads-bad place number progress.refused now long.long (subst IsBad (sym (line_here-long long.long long.above)) tt) behind))
 leads-unread place progress number left behind now inputs.Source skips counts = reads-reading place number progress.refused now left (Stopped (Some SourceFault)) (inl refl)
 leads-unread place progress number left behind now inputs.Memory skips counts = reads-reading place number progress.refused now left (Stopped (Some NoMemory)) (inr refl)
 
@@ -239,16 +243,16 @@ end_at-stopped from key number last (Err e) stop is reads = subst (λ s. ReadsOn
 
 -- Before the key line.
 
-module _ (number : ℕ) (now : Option (List ℕ)) where
+module _ (mark : Option (List ℕ → List ℕ)) (number : ℕ) (now : Option (List ℕ)) where
   -- the reading stops, for the source or for memory
-  pub first-reading : (left : Option (List (List ℕ))) (end : ReadEnd) → (end ≡ Stopped (Some SourceFault)) ⊎ (end ≡ Stopped (Some NoMemory)) → ReadsFirstFrom number left now now end
+  pub first-reading : (left : Option (List (List ℕ))) (end : ReadEnd) → (end ≡ Stopped (Some SourceFault)) ⊎ (end ≡ Stopped (Some NoMemory)) → ReadsFirstFrom mark number left now now end
   first-reading None end stops = tt
-  first-reading (Some texts) end stops = of (lines_in texts)
+  first-reading (Some texts) end stops = of (lines_here texts)
     where
       unread : StopsUnread now now end
       unread = record { printed = refl; stops = stops }
 
-      of : (lines : List (Option Line)) → ReadsFirst number lines now now end
+      of : (lines : List (Option Line)) → ReadsFirst mark number lines now now end
       of [] = inr unread
       of (None ∷ lines) = inr unread
       of (Some Empty ∷ lines) = inl unread
@@ -256,72 +260,72 @@ module _ (number : ℕ) (now : Option (List ℕ)) where
       of (Some (Command line) ∷ lines) = inr unread
 
   -- no line is left
-  pub first-end : (left : Option (List (List ℕ))) → IfSome left (λ lines. lines ≡ []) → ReadsFirstFrom number left now now (Stopped (Some (BadLine number)))
+  pub first-end : (left : Option (List (List ℕ))) → IfSome left (λ lines. lines ≡ []) → ReadsFirstFrom mark number left now now (Stopped (Some (BadLine number)))
   first-end None none = tt
-  first-end (Some texts) none = subst (λ texts. ReadsFirst number (lines_in texts) now now (Stopped (Some (BadLine number)))) (sym none) (inl (refl, refl))
+  first-end (Some texts) none = subst (λ texts. ReadsFirst mark number (lines_here texts) now now (Stopped (Some (BadLine number)))) (sym none) (inl (refl, refl))
 
   module _ (text : List ℕ) where
     -- a bad line, or a command before the key line
-    first-bad : IsBadFirst (line_in text) → (behind : Option (List (List ℕ))) → ReadsFirstFrom number (option_map (λ lines. text ∷ lines) behind) now now (Stopped (Some (BadLine number)))
+    first-bad : IsBadFirst (line_here text) → (behind : Option (List (List ℕ))) → ReadsFirstFrom mark number (option_map (λ lines. text ∷ lines) behind) now now (Stopped (Some (BadLine number)))
     first-bad bad None = tt
-    first-bad bad (Some texts) = of (line_in text) bad (lines_in texts)
+    first-bad bad (Some texts) = of (line_here text) bad (lines_here texts)
       where
-        of : (item : Option Line) → IsBadFirst item → (lines : List (Option Line)) → ReadsFirst number (item ∷ lines) now now (Stopped (Some (BadLine number)))
+        of : (item : Option Line) → IsBadFirst item → (lines : List (Option Line)) → ReadsFirst mark number (item ∷ lines) now now (Stopped (Some (BadLine number)))
         of None bad lines = inl (refl, refl)
         of (Some Empty) bad lines = absurd bad
         of (Some (Key key)) bad lines = absurd bad
         of (Some (Command line)) bad lines = inl (refl, refl)
 
     -- an empty line
-    first-empty : line_in text ≡ Some Empty → (behind : Option (List (List ℕ))) (last : Option (List ℕ)) (end : ReadEnd) → ReadsFirstFrom (number + 1) behind now last end
-        → ReadsFirstFrom number (option_map (λ lines. text ∷ lines) behind) now last end
+    first-empty : line_here text ≡ Some Empty → (behind : Option (List (List ℕ))) (last : Option (List ℕ)) (end : ReadEnd) → ReadsFirstFrom mark (number + 1) behind now last end
+        → ReadsFirstFrom mark number (option_map (λ lines. text ∷ lines) behind) now last end
     first-empty is None last end rest = tt
-    first-empty is (Some texts) last end rest = subst (λ item. ReadsFirst number (item ∷ lines_in texts) now last end) (sym is) (inr rest)
+    first-empty is (Some texts) last end rest = subst (λ item. ReadsFirst mark number (item ∷ lines_here texts) now last end) (sym is) (inr rest)
 
     -- the key line
-    first-key : (key : List ℕ) → line_in text ≡ Some (Key key) → (behind : Option (List (List ℕ))) (last : Option (List ℕ)) (end : ReadEnd) → ReadsFrom (opened key) (number + 1) behind false now last end
-        → ReadsFirstFrom number (option_map (λ lines. text ∷ lines) behind) now last end
+    first-key : (key : List ℕ) → line_here text ≡ Some (Key key) → (behind : Option (List (List ℕ))) (last : Option (List ℕ)) (end : ReadEnd) → ReadsFrom (opened mark key) (number + 1) behind false now last end
+        → ReadsFirstFrom mark number (option_map (λ lines. text ∷ lines) behind) now last end
     first-key key is None last end rest = tt
-    first-key key is (Some texts) last end rest = subst (λ item. ReadsFirst number (item ∷ lines_in texts) now last end) (sym is) (inr rest)
+    first-key key is (Some texts) last end rest = subst (λ item. ReadsFirst mark number (item ∷ lines_here texts) now last end) (sym is) (inr rest)
 
 -- The loop before it: whatever is read from here is read from the start.
 
-pub record GoesOnFirst (first : ℕ) (all : Option (List (List ℕ))) (number : ℕ) (left : Option (List (List ℕ))) : Type 0 where
-  pub rest : (now last : Option (List ℕ)) (end : ReadEnd) → ReadsFirstFrom number left now last end → ReadsFirstFrom first all now last end
+pub record GoesOnFirst (mark : Option (List ℕ → List ℕ)) (first : ℕ) (all : Option (List (List ℕ))) (number : ℕ) (left : Option (List (List ℕ))) : Type 0 where
+  pub rest : (now last : Option (List ℕ)) (end : ReadEnd) → ReadsFirstFrom mark number left now last end → ReadsFirstFrom mark first all now last end
 
-module _ (first : ℕ) (all : Option (List (List ℕ))) (number : ℕ) (left : Option (List (List ℕ))) (on : GoesOnFirst first all (number + 1) left) where
-  pub opening-end : (now : Option (List ℕ)) (m : ℕ) → IfSome left (λ lines. lines ≡ []) → m ≡ number + 1 → ReadsFirstFrom first all now now (Stopped (Some (BadLine m)))
-  opening-end now m none counted = subst (λ n. ReadsFirstFrom first all now now (Stopped (Some (BadLine n)))) (sym counted) (on.rest now now _ (first-end (number + 1) now left none))
+module _ (mark : Option (List ℕ → List ℕ)) (first : ℕ) (all : Option (List (List ℕ))) (number : ℕ) (left : Option (List (List ℕ))) (on : GoesOnFirst mark first all (number + 1) left) where
+  pub opening-end : (now : Option (List ℕ)) (m : ℕ) → IfSome left (λ lines. lines ≡ []) → m ≡ number + 1 → ReadsFirstFrom mark first all now now (Stopped (Some (BadLine m)))
+  opening-end now m none counted = subst (λ n. ReadsFirstFrom mark first all now now (Stopped (Some (BadLine n)))) (sym counted) (on.rest now now _ (first-end mark (number + 1) now left none))
 
   module _ (behind : Option (List (List ℕ))) (text : List ℕ) (taken : TakesLine left behind text) where
-    pub opening-bad : (now : Option (List ℕ)) (m : ℕ) → IsBadFirst (line_in text) → m ≡ number + 1 → ReadsFirstFrom first all now now (Stopped (Some (BadLine m)))
+    pub opening-bad : (now : Option (List ℕ)) (m : ℕ) → IsBadFirst (line_here text) → m ≡ number + 1 → ReadsFirstFrom mark first all now now (Stopped (Some (BadLine m)))
     opening-bad now m bad counted =
-        subst (λ n. ReadsFirstFrom first all now now (Stopped (Some (BadLine n)))) (sym counted)
-        (on.rest now now _ (subst (λ l. ReadsFirstFrom (number + 1) l now now (Stopped (Some (BadLine (number + 1))))) (sym taken) (first-bad (number + 1) now text bad behind)))
+        subst (λ n. ReadsFirstFrom mark first all now now (Stopped (Some (BadLine n)))) (sym counted)
+        (on.rest now now _ (subst (λ l. ReadsFirstFrom mark (number + 1) l now now (Stopped (Some (BadLine (number + 1))))) (sym taken) (first-bad mark (number + 1) now text bad behind)))
 
-    pub opening-next : (m : ℕ) → line_in text ≡ Some Empty → m ≡ number + 1 → GoesOnFirst first all (m + 1) behind
+    pub opening-next : (m : ℕ) → line_here text ≡ Some Empty → m ≡ number + 1 → GoesOnFirst mark first all (m + 1) behind
     opening-next m is counted = record {
       rest = λ now last end rest.
           on.rest now last end
-          (subst (λ l. ReadsFirstFrom (number + 1) l now last end) (sym taken)
-          (first-empty (number + 1) now text is behind last end (subst (λ n. ReadsFirstFrom (n + 1) behind now last end) counted rest)));
+          (subst (λ l. ReadsFirstFrom mark (number + 1) l now last end) (sym taken)
+          (first-empty mark (number + 1) now text is behind last end (subst (λ n. ReadsFirstFrom mark (n + 1) behind now last end) counted rest)));
     }
 
-    pub opening-key : (m : ℕ) (told key : List ℕ) → line_in text ≡ Some (Key key) → told ≡ key → m ≡ number + 1 → (now last : Option (List ℕ)) (end : ReadEnd) → ReadsFrom (opened told) (m + 1) behind false now last end
-        → ReadsFirstFrom first all now last end
+    pub opening-key : (m : ℕ) (told key : List ℕ) → line_here text ≡ Some (Key key) → told ≡ key → m ≡ number + 1 → (now last : Option (List ℕ)) (end : ReadEnd) → ReadsFrom (opened mark told) (m + 1) behind false now last end
+        → ReadsFirstFrom mark first all now last end
     opening-key m told key is same counted now last end rest =
         on.rest now last end
-        (subst (λ l. ReadsFirstFrom (number + 1) l now last end) (sym taken)
-        (first-key (number + 1) now text key is behind last end
-        (subst (λ n. ReadsFrom (opened key) (n + 1) behind false now last end) counted (subst (λ k. ReadsFrom (opened k) (m + 1) behind false now last end) same rest))))
+        (subst (λ l. ReadsFirstFrom mark (number + 1) l now last end) (sym taken)
+        (first-key mark (number + 1) now text key is behind last end
+        (subst (λ n. ReadsFrom (opened mark key) (n + 1) behind false now last end) counted (subst (λ k. ReadsFrom (opened mark k) (m + 1) behind false now last end) same rest))))
 
   pub opening-unread : (behind : Option (List (List ℕ))) (now : Option (List ℕ)) (stop : InputStop) → ((m : ℕ) → stop ≡ inputs.Line m → SkipsLine left behind) → ((m : ℕ) → stop ≡ inputs.Line m → m ≡ number + 1)
-      → ReadsFirstFrom first all now now (Stopped (Some (input_cause stop)))
+      → ReadsFirstFrom mark first all now now (Stopped (Some (input_cause stop)))
   opening-unread behind now (inputs.Line m) skips counts =
       let long = skips m refl in
-      opening-bad behind long.long long.skipped now m (subst IsBadFirst (sym (line_in-long long.long long.above)) tt) (counts m refl)
-  opening-unread behind now inputs.Source skips counts = on.rest now now _ (first-reading (number + 1) now left (Stopped (Some SourceFault)) (inl refl))
-  opening-unread behind now inputs.Memory skips counts = on.rest now now _ (first-reading (number + 1) now left (Stopped (Some NoMemory)) (inr refl))
+      opening-bad behind long.long long.skipped now m (subst IsBadFirst (sym (line_here-long long.long long.above)) tt) (counts m refl)
+  opening-unread behind now inputs.Source skips counts = on.rest now now _ (first-reading mark (number + 1) now left (Stopped (Some SourceFault)) (inl refl))
+  opening-unread behind now inputs.Memory skips counts = on.rest now now _ (first-reading mark (number + 1) now left (Stopped (Some NoMemory)) (inr refl))
 
 -- Results.
 

@@ -1,3 +1,4 @@
+pub mod LinesHere
 pub mod Reads
 pub mod Meant
 pub mod Numbered

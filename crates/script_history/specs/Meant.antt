@@ -6,13 +6,14 @@ use Rattle.def_script_meaning.specs.Meaning.{Meaning}
 use Rattle.def_script_meaning.specs.Outcome.{said}
 use Rattle.def_script_meaning.specs.Stops as ends
 use Rattle.def_script_meaning.specs.Stops.{Stop}
-use Rattle.sse_script.specs.Shown.{SourceFault, NoMemory, Shown, SetUp, Added, Deleted, Found, Matched, Resumed, Refused, Stopped as StoppedLine}
+use Rattle.sse_script.specs.Shown.{SourceFault, NoMemory, Shown, SetUp, Rebuilt, Added, Deleted, Found, Matched, Resumed, Refused, Stopped as StoppedLine}
 use Rattle.sse_script.specs.Texts.{text_of}
 use Rattle.script_history.specs.Reads.{ReadEnd, Whole, Stopped}
 
 -- the lines that say that a command is refused
 abbrev pub is_refused_line : Shown → Bool
 is_refused_line (SetUp words blocks) = false
+is_refused_line (Rebuilt words blocks) = false
 is_refused_line (Added id) = false
 is_refused_line (Deleted id) = false
 is_refused_line (Found ids) = false

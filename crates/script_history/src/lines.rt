@@ -6,10 +6,11 @@ ghost use Rattle.script_run_texts.specs.LineWords.{words_in};
 ghost use Rattle.script_run_texts.specs.Stops.{stop_cause};
 ghost use Rattle.script_run_texts.specs.Twins.{is_twin_line};
 ghost use Rattle.def_script_meaning.specs.Lines as requests;
-ghost use Rattle.def_script_meaning.specs.Lines.{Request, line_in, line_read};
+ghost use Rattle.def_script_meaning.specs.Lines.{Request};
 ghost use Rattle.def_script_meaning.specs.Outcome.{Place};
 ghost use Rattle.sse_script.specs.TextLines.{bytes_to_come, lines_left};
 ghost use Rattle.sse_script.specs.Views.{line_view};
+ghost use Rattle.script_history.specs.LinesHere.{line_here, line_taken};
 ghost use Rattle.script_history.specs.Reads.{refused_text, Stopped, StopsPrinting};
 ghost use Rattle.script_history.specs.Stages.{IsAt, keys_at};
 ghost use Rattle.script_history.specs.Turns.{ComesThrough, HasAdvanced, IsElsewhere, IsTurnAt, LeadsOn, LeadsTo, OnLine, PartsOn, ReadsOn, end_at, moment, stage_after};
@@ -166,7 +167,7 @@ fn take<W: Sink>(
     line: Line<'_>,
 ) -> Result<Progress, StopCause>
     requires words { words_in (line_view line) ≤ 2 ^ 19 }
-    ensures leads { (place : Place) (text : List ℕ) (behind : Option (List (List ℕ))) → IsAt progress.stage place → line_in text ≡ Some (line_read (line_view line.entry)) →
+    ensures leads { (place : Place) (text : List ℕ) (behind : Option (List (List ℕ))) → IsAt progress.stage place → line_here text ≡ line_taken (line_view line.entry) →
         LeadsOn (moment place number (option_map (λ lines. text ∷ lines) behind) progress.refused (W.written sink.old)) number behind (W.written sink.new) result }
     ensures hashed { keys_at progress.stage ≡ hash_numbers keys → IfOk result (λ next. keys_at next.stage ≡ hash_numbers keys) }
     ensures sink { KeepsSink (W.faults sink.old) (W.faults sink.new) (W.shortages sink.old) (W.shortages sink.new) result }
@@ -175,6 +176,7 @@ fn take<W: Sink>(
     match line {
         Line::Empty => Ok(progress),
         Line::Key(_) => stopped(progress, StopCause::Input(InputStop::Line(number))),
+        Line::Rebuild(_) => stopped(progress, StopCause::Input(InputStop::Line(number))),
         line => take_command(alloc, keys, sink, progress, line),
     }
 }
@@ -196,7 +198,7 @@ fn take_command<W: Sink>(
     line: Line<'_>,
 ) -> Result<Progress, StopCause>
     requires words { words_in (line_view line) ≤ 2 ^ 19 }
-    ensures comes { (request : Request) → line_read (line_view line.entry) ≡ requests.Command request → (place : Place) → IsAt progress.stage place →
+    ensures comes { (request : Request) → line_taken (line_view line.entry) ≡ Some (requests.Command request) → (place : Place) → IsAt progress.stage place →
         ComesThrough place request progress.refused (W.written sink.old) (W.written sink.new) result }
     ensures hashed { keys_at progress.stage ≡ hash_numbers keys → IfOk result (λ next. keys_at next.stage ≡ hash_numbers keys) }
     ensures sink { KeepsSink (W.faults sink.old) (W.faults sink.new) (W.shortages sink.old) (W.shortages sink.new) result }

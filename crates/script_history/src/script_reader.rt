@@ -48,12 +48,13 @@ pub struct FirstScript {
 }
 
 // Promise P75 (caller): A script is read to its key and history and only its refusals are printed, or reading stops at the first cause.
-//   clauses: reads, sized, hashed, at_end, source, sink; assumes: observable devices
+//   clauses: reads, sized, hashed, at_end, source, sink; assumes: observable devices; not: That a script is read past a `rebuild` line: it ends there as at a bad line.
 /// Reads a script up to the end of the source: its key line, then its lines, of which the refusals are printed as a run prints them,
 /// and nothing else is. The keyed function only hashes its words and identifiers.
 ///
 /// A reading stops as a run does: at the first line that isn't in the grammar or stands where its kind may not, where the source
-/// or the sink failed, and for want of memory. The line that says why is the caller's to print.
+/// or the sink failed, and for want of memory. It stops at a `rebuild` line too, as at a line that isn't in the grammar: a history
+/// that is read has one epoch. The line that says why is the caller's to print.
 pub fn read_history<K: Keyed, S: Source, W: Sink>(
     alloc: Global,
     keyed: &K,
@@ -62,7 +63,7 @@ pub fn read_history<K: Keyed, S: Source, W: Sink>(
     input: &mut Input,
 ) -> Result<ReadScript, StopCause>
     requires few { input.old.number + bytes_to_come input.old.pending (S.handed_out source.old) ≤ 2 ^ 63 }
-    ensures reads { ReadsFirstFrom (input.old.number + 1) (lines_left input.old.pending (S.remaining source.old)) (W.written sink.old) (W.written sink.new) (reading_end result) }
+    ensures reads { (mark : Option (List ℕ → List ℕ)) → ReadsFirstFrom mark (input.old.number + 1) (lines_left input.old.pending (S.remaining source.old)) (W.written sink.old) (W.written sink.new) (reading_end result) }
     ensures sized { IfOk result (λ read. IfSome read.history (λ h. IsSized (run_of h))) }
     ensures hashed { IfOk result (λ read. IfSome read.history (λ h. h.keys ≡ numbers_of_key (plain_key (keyed_fn K.prf K.pad) read.key 13))) }
     ensures at_end { OnOk result (IsAtEnd (S.remaining source.new)) }
@@ -93,7 +94,7 @@ pub fn read_first<K: Keyed, S: Source, W: Sink>(
     input: &mut Input,
 ) -> Result<FirstScript, StopCause>
     requires few { input.old.number + bytes_to_come input.old.pending (S.handed_out source.old) ≤ 2 ^ 63 }
-    ensures reads { ReadsFirstFrom (input.old.number + 1) (first_left (lines_left input.old.pending (S.remaining source.old))) (W.written sink.old) (W.written sink.new) (first_end result) }
+    ensures reads { (mark : Option (List ℕ → List ℕ)) → ReadsFirstFrom mark (input.old.number + 1) (first_left (lines_left input.old.pending (S.remaining source.old))) (W.written sink.old) (W.written sink.new) (first_end result) }
     ensures ended { IfOk result (λ first. EndsPart first.at_twin (lines_left input.old.pending (S.remaining source.old)) (lines_left input.new.pending (S.remaining source.new)) (S.remaining source.new)
         (input.new.number + bytes_to_come input.new.pending (S.handed_out source.new) ≤ 2 ^ 63)) }
     ensures numbered { IfOk result (λ first. first.script.next ≡ input.new.number) }
@@ -149,12 +150,12 @@ fn first_script(key: MasterKey, last: Last, next: u64) -> FirstScript
 /// Reads up to the key line, which is the first that isn't empty.
 fn key_line<S: Source>(source: &mut S, input: &mut Input) -> Result<MasterKey, InputStop>
     requires few { input.old.number + bytes_to_come input.old.pending (S.handed_out source.old) ≤ 2 ^ 63 }
-    ensures key { IfOk result (λ key. (now last : Option (List ℕ)) (end : ReadEnd) →
-        ReadsFrom (opened key) (input.new.number + 1) (first_left (lines_left input.new.pending (S.remaining source.new))) false now last end →
-        ReadsFirstFrom (input.old.number + 1) (first_left (lines_left input.old.pending (S.remaining source.old))) now last end) }
+    ensures key { IfOk result (λ key. (mark : Option (List ℕ → List ℕ)) (now last : Option (List ℕ)) (end : ReadEnd) →
+        ReadsFrom (opened mark key) (input.new.number + 1) (first_left (lines_left input.new.pending (S.remaining source.new))) false now last end →
+        ReadsFirstFrom mark (input.old.number + 1) (first_left (lines_left input.old.pending (S.remaining source.old))) now last end) }
     ensures behind { OnOk result (behind_left (lines_left input.old.pending (S.remaining source.old)) ≡ behind_left (lines_left input.new.pending (S.remaining source.new))) }
-    ensures stopped { IfErr result (λ stop. (now : Option (List ℕ)) →
-        ReadsFirstFrom (input.old.number + 1) (first_left (lines_left input.old.pending (S.remaining source.old))) now now (Stopped (Some (input_cause stop)))) }
+    ensures stopped { IfErr result (λ stop. (mark : Option (List ℕ → List ℕ)) (now : Option (List ℕ)) →
+        ReadsFirstFrom mark (input.old.number + 1) (first_left (lines_left input.old.pending (S.remaining source.old))) now now (Stopped (Some (input_cause stop)))) }
     ensures few_left { OnOk result (input.new.number + bytes_to_come input.new.pending (S.handed_out source.new) ≤ 2 ^ 63) }
     ensures source { KeepsSource InputCause (S.faults source.old) (S.faults source.new) result }
 {

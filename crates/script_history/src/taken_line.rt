@@ -4,9 +4,10 @@ ghost use Rattle.script_documents.specs.LineFaults.{SaysRefusal};
 ghost use Rattle.script_documents.specs.Refused.{bad_word, collect_refusal};
 ghost use Rattle.script_run_texts.specs.LineWords.{words_in};
 ghost use Rattle.def_script_meaning.specs.Lines as requests;
-ghost use Rattle.def_script_meaning.specs.Lines.{Request, line_read};
+ghost use Rattle.def_script_meaning.specs.Lines.{Request};
 ghost use Rattle.def_script_meaning.specs.Refused.{delete_refusal, index_refusal, size_refused};
 ghost use Rattle.sse_script.specs.Views.{line_view};
+ghost use Rattle.script_history.specs.LinesHere.{line_taken};
 ghost use Rattle.sse_script.specs.declared.refusal.Refusal.{Refusal as Reason};
 ghost use Rattle.std.specs.declared.option.Option.{Option};
 ghost use Rattle.client_registry.specs.Acceptance.{size_refusal};
@@ -30,7 +31,7 @@ use std::alloc::{AllocError, Global};
 // Promise P74 (inside): Reading a script, a line is refused for the same cause as in a run, or as full; otherwise it is taken.
 //   clauses: takes, may_stop, hashed; not: The words of a document that is collected or added, and its later refusals, and a query after the setup: there memory may run out instead.
 /// Takes a line of a script after its key line, or tells why it is refused, and then the stage is as before. Its tables hash under
-/// these keys. A line without fields, and a key line, change nothing.
+/// these keys. A line without fields, a key line and a `rebuild` line change nothing.
 ///
 /// Error: out of memory, which never comes in place of a refusal that is found without memory (`MayStop`); the stage is lost then.
 pub fn take_line(
@@ -40,7 +41,7 @@ pub fn take_line(
     line: Line<'_>,
 ) -> Result<(Stage, Option<Refusal>), AllocError>
     requires words { words_in (line_view line) ≤ 2 ^ 19 }
-    ensures takes { IfOk result (λ done. (request : Request) → line_read (line_view line.entry) ≡ requests.Command request → Takes stage request done.0 done.1) }
+    ensures takes { IfOk result (λ done. (request : Request) → line_taken (line_view line.entry) ≡ Some (requests.Command request) → Takes stage request done.0 done.1) }
     ensures may_stop { OnErr result (MayStop stage (line_view line.entry)) }
     ensures hashed { keys_at stage ≡ hash_numbers keys → IfOk result (λ done. keys_at done.0 ≡ hash_numbers keys) }
 {
@@ -58,12 +59,12 @@ fn before_setup(
     line: Line<'_>,
 ) -> Result<(Stage, Option<Refusal>), AllocError>
     requires words { words_in (line_view line) ≤ 2 ^ 19 }
-    ensures takes { IfOk result (λ done. (request : Request) → line_read (line_view line.entry) ≡ requests.Command request → Takes (Stage.Collecting docs) request done.0 done.1) }
+    ensures takes { IfOk result (λ done. (request : Request) → line_taken (line_view line.entry) ≡ Some (requests.Command request) → Takes (Stage.Collecting docs) request done.0 done.1) }
     ensures may_stop { OnErr result (MayStop (Stage.Collecting docs) (line_view line.entry)) }
     ensures hashed { docs.keys ≡ hash_numbers keys → IfOk result (λ done. keys_at done.0 ≡ hash_numbers keys) }
 {
     match line {
-        Line::Empty | Line::Key(_) => Ok((Stage::Collecting(docs), None)),
+        Line::Empty | Line::Key(_) | Line::Rebuild(_) => Ok((Stage::Collecting(docs), None)),
         Line::Doc { id, words } => {
             let found = collect(alloc, &mut docs, id, words)?;
             Ok((Stage::Collecting(docs), found))
@@ -82,7 +83,7 @@ fn after_setup(
     line: Line<'_>,
 ) -> Result<(Stage, Option<Refusal>), AllocError>
     requires words { words_in (line_view line) ≤ 2 ^ 19 }
-    ensures takes { IfOk result (λ done. (request : Request) → line_read (line_view line.entry) ≡ requests.Command request → Takes (Stage.Built history) request done.0 done.1) }
+    ensures takes { IfOk result (λ done. (request : Request) → line_taken (line_view line.entry) ≡ Some (requests.Command request) → Takes (Stage.Built history) request done.0 done.1) }
     ensures may_stop { OnErr result (MayStop (Stage.Built history) (line_view line.entry)) }
     ensures hashed { IfOk result (λ done. keys_at done.0 ≡ history.keys) }
 {
@@ -97,12 +98,12 @@ fn command_of_line(
     line: Line<'_>,
 ) -> Result<Option<Refusal>, AllocError>
     requires words { words_in (line_view line) ≤ 2 ^ 19 }
-    ensures takes { IfOk result (λ found. (request : Request) → line_read (line_view line.entry) ≡ requests.Command request → TakesAfter (run_of history.old) request (run_of history.new) found) }
+    ensures takes { IfOk result (λ found. (request : Request) → line_taken (line_view line.entry) ≡ Some (requests.Command request) → TakesAfter (run_of history.old) request (run_of history.new) found) }
     ensures may_stop { OnErr result (MayStop (Stage.Built history.old) (line_view line.entry)) }
     ensures keys { history.new.keys ≡ history.old.keys }
 {
     match line {
-        Line::Empty | Line::Key(_) => Ok(None),
+        Line::Empty | Line::Key(_) | Line::Rebuild(_) => Ok(None),
         Line::Doc { .. } | Line::Setup { .. } => Ok(Some(Refusal::SetUpAlready)),
         Line::Add { id, words } => add(alloc, history, id, words),
         Line::Del { id } => delete(history, id),

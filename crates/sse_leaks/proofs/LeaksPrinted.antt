@@ -63,12 +63,12 @@ goes_without key h refused next now last stop is none = subst (λ o. GoesOn (Who
 
 -- from the start of a script
 pub told_so : (remaining : Option (List ℕ)) (number : ℕ) (pending : List ℕ) (now between last : Option (List ℕ)) (end : ReadEnd) (stop : Stop) → number ≡ 0 → pending ≡ []
-    → ReadsFirstFrom (number + 1) (lines_left pending remaining) now between end → GoesOn end between last stop → IfSome remaining (λ bytes. IsPrintedSo bytes now last stop)
+    → ((mark : Option (List ℕ → List ℕ)) → ReadsFirstFrom mark (number + 1) (lines_left pending remaining) now between end) → GoesOn end between last stop → IfSome remaining (λ bytes. IsPrintedSo bytes now last stop)
 told_so None number pending now between last end stop first none reads goes = tt
 told_so (Some bytes) number pending now between last end stop first none reads goes = record {
   end = end;
   between = between;
-  reads = subst (λ n. ReadsFirstFrom (n + 1) (lines_left [] (Some bytes)) now between end) first (subst (λ p. ReadsFirstFrom (number + 1) (lines_left p (Some bytes)) now between end) none reads);
+  reads = λ mark. subst (λ n. ReadsFirstFrom mark (n + 1) (lines_left [] (Some bytes)) now between end) first (subst (λ p. ReadsFirstFrom mark (number + 1) (lines_left p (Some bytes)) now between end) none (reads mark));
   goes_on = goes;
 }
 
@@ -78,7 +78,7 @@ none_read None now = tt
 none_read (Some bytes) now = record {
   end = NotRead (Some NoMemory);
   between = now;
-  reads = first-reading 1 now (lines_left [] (Some bytes)) (NotRead (Some NoMemory)) (inr refl);
+  reads = λ mark. first-reading mark 1 now (lines_left [] (Some bytes)) (NotRead (Some NoMemory)) (inr refl);
   goes_on = (refl, refl);
 }
 

@@ -4,11 +4,11 @@ use Rattle.std.specs.Io.KnownBytes.{append_known}
 use Rattle.std.specs.List.{enumerate_from}
 use Rattle.client_registry.specs.Run.{History, Epochs}
 use Rattle.script_history.specs.Endings.{EndsIn, Seen, StopsTelling, stop_for}
+use Rattle.script_history.specs.LinesHere.{script_lines_here}
 use Rattle.script_history.specs.Meant.{is_refused_line}
 use Rattle.script_history.specs.Reads.{ReadEnd, Whole, ReadsFirst}
 use Rattle.script_history.specs.Reads.{Stopped as NotRead}
 use Rattle.leakage_texts.specs.LeakTexts.{text_of_leak}
-use Rattle.def_script_meaning.specs.Lines.{script_lines}
 use Rattle.def_script_meaning.specs.Meaning.{Meaning}
 use Rattle.def_script_meaning.specs.Outcome.{said}
 use Rattle.def_script_meaning.specs.Stops.{Stop, AtEnd, SinkFault, At, status_of}
@@ -33,11 +33,11 @@ GoesOn (Whole key (Some es) refused next) now last stop =
 GoesOn (Whole key None refused next) now last stop = (last ≡ now) × (stop ≡ At (BadLine next))
 GoesOn (NotRead cause) now last stop = (last ≡ now) × (stop ≡ stop_for cause)
 
--- a script of these bytes was read and what its history leaks told, up to the last line of a stop
+-- a script of these bytes was read, whatever marks keys have, and what its history leaks told, up to the last line of a stop
 pub record IsPrintedSo (bytes : List ℕ) (now last : Option (List ℕ)) (stop : Stop) : Type 0 where
   pub end : ReadEnd
   pub between : Option (List ℕ)
-  pub reads : ReadsFirst 1 (script_lines bytes) now between end
+  pub reads : (mark : Option (List ℕ → List ℕ)) → ReadsFirst mark 1 (script_lines_here bytes) now between end
   pub goes_on : GoesOn end between last stop
 
 -- a script of these bytes was read, what its history leaks was told, and this is the status

@@ -24,12 +24,13 @@ use std::alloc::{AllocError, Global};
 
 // Promise P28 (user): `sse_leaks` prints a script's refusals and then the leakage of each command of its history.
 //   clauses: tells, at_end, source_failed, source_steady, sink_failed, sink_steady; assumes: observable devices, no device fault, enough memory; checks: .ci/leakage; not: Standard input
-//     and output, which aren't observable. If the run stops, only a prefix of the lines is printed.
+//     and output, which aren't observable. If the run stops, only a prefix of the lines is printed. A script is read up to its
+//     first `rebuild` line, at which it stops as at a bad line.
 /// Reads a script, prints its refusals as a run prints them, then for each command of its history a line of what it leaks, and
 /// answers the status: 0, or 1 where a command was refused. The keyed function only hashes words and identifiers.
 ///
-/// A stop prints its last line: `stopped: line N` and 2 at the first bad line, and behind the last line where no setup was accepted;
-/// `stopped: source` and 3, nothing and 4 where the sink failed, `stopped: memory` and 7.
+/// A stop prints its last line: `stopped: line N` and 2 at the first bad line or `rebuild` line, and behind the last line where no
+/// setup was accepted; `stopped: source` and 3, nothing and 4 where the sink failed, `stopped: memory` and 7.
 pub(crate) fn leaks_run<K: Keyed, S: Source, W: Sink>(
     alloc: Global,
     keyed: &K,

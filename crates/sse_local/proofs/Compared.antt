@@ -41,7 +41,7 @@ compared-same t run other moved (Err e) same values counts = tt
 -- The second script.
 
 pub reads-behind : (f : KeyedFn) (key : List ℕ) (es : Epochs) (refused : Bool) (number : ℕ) (left : Option (List (List ℕ))) (now between last : Option (List ℕ)) (end : ReadEnd) (stop : Stop)
-    → ReadsFirstFrom (number + 1) left now between end → GoesOnBehind f key es refused end between last stop → IfSome left (λ lines. ReadsBehind f key es refused number lines now last stop)
+    → ((mark : Option (List ℕ → List ℕ)) → ReadsFirstFrom mark (number + 1) left now between end) → GoesOnBehind f key es refused end between last stop → IfSome left (λ lines. ReadsBehind f key es refused number lines now last stop)
 reads-behind f key es refused number None now between last end stop reads goes = tt
 reads-behind f key es refused number (Some lines) now between last end stop reads goes = record { end = end; between = between; reads = reads; goes_on = goes }
 
@@ -82,13 +82,13 @@ left-first number pending bytes remaining none is = ap (λ p. lines_left p remai
 
 -- all of it
 pub compared-so : (f : KeyedFn) (remaining : Option (List ℕ)) (number : ℕ) (pending : List ℕ) (now between last : Option (List ℕ)) (end : ReadEnd) (stop : Stop) → number ≡ 0 → pending ≡ []
-    → ReadsFirstFrom (number + 1) (first_left (lines_left pending remaining)) now between end → ((bytes : List ℕ) → remaining ≡ Some bytes → GoesOnFirst f (behind_twin (lines_of bytes)) end between last stop)
+    → ((mark : Option (List ℕ → List ℕ)) → ReadsFirstFrom mark (number + 1) (first_left (lines_left pending remaining)) now between end) → ((bytes : List ℕ) → remaining ≡ Some bytes → GoesOnFirst f (behind_twin (lines_of bytes)) end between last stop)
     → IfSome remaining (λ bytes. AreComparedSo f (lines_of bytes) now last stop)
 compared-so f None number pending now between last end stop first none reads goes = tt
 compared-so f (Some bytes) number pending now between last end stop first none reads goes = record {
   end = end;
   between = between;
-  reads = subst (λ n. ReadsFirstFrom (n + 1) (first_left (lines_left [] (Some bytes))) now between end) first (subst (λ p. ReadsFirstFrom (number + 1) (first_left (lines_left p (Some bytes))) now between end) none reads);
+  reads = λ mark. subst (λ n. ReadsFirstFrom mark (n + 1) (first_left (lines_left [] (Some bytes))) now between end) first (subst (λ p. ReadsFirstFrom mark (number + 1) (first_left (lines_left p (Some bytes))) now between end) none (reads mark));
   goes_on = goes bytes refl;
 }
 
@@ -98,7 +98,7 @@ none-compared f None now = tt
 none-compared f (Some bytes) now = record {
   end = NotRead (Some NoMemory);
   between = now;
-  reads = first-reading 1 now (first_left (lines_left [] (Some bytes))) (NotRead (Some NoMemory)) (inr refl);
+  reads = λ mark. first-reading mark 1 now (first_left (lines_left [] (Some bytes))) (NotRead (Some NoMemory)) (inr refl);
   goes_on = stopped-first f (behind_twin (lines_of bytes)) (Some NoMemory) now;
 }
 

@@ -6,6 +6,7 @@ use Rattle.std.proofs.lemmas.Bool.{leb-false, leb-true}
 use Rattle.std.proofs.lemmas.List.{append-nil}
 use Rattle.script_history.proofs.Ended.{ends_told, status_told, told-fault}
 use Rattle.script_history.specs.Endings.{Seen, seen_of, stop_for}
+use Rattle.keyed_fn.specs.KeyFormulas.{mark_of}
 use Rattle.keyed_fn.specs.KeyedFn.{KeyedFn}
 use Rattle.def_made_meaning.proofs.MadeOutcome.{made_text-end, made_text-ran}
 use Rattle.script_made_lines.specs.Script.{made_text}
@@ -67,12 +68,12 @@ module _ (f : KeyedFn) (seed documents : ℕ) (few : documents ≤ 10000) where
           inr (omega (arith, high, source, sink, link, disk), most)
 
   -- what was printed is what the script means
-  printed : (text : List ℕ) (status : ℕ) → PrintsMeaning (meaning (made_text seed documents)) (Some []) (Some text) status
-      → (status ≡ 0) × (text ≡ flat_map text_of (map said (meaning (made_text seed documents)).shown))
+  printed : (text : List ℕ) (status : ℕ) → PrintsMeaning (meaning (Some (mark_of f)) (made_text seed documents)) (Some []) (Some text) status
+      → (status ≡ 0) × (text ≡ flat_map text_of (map said (meaning (Some (mark_of f)) (made_text seed documents)).shown))
   printed text status m =
-      let at_end = made_text-end seed documents few in
-      let lines = flat_map text_of (map said (meaning (made_text seed documents)).shown) in
-      let nothing : stop_text (meaning (made_text seed documents)).end ≡ [] = ap stop_text at_end in
+      let at_end = made_text-end (Some (mark_of f)) seed documents few in
+      let lines = flat_map text_of (map said (meaning (Some (mark_of f)) (made_text seed documents)).shown) in
+      let nothing : stop_text (meaning (Some (mark_of f)) (made_text seed documents)).end ≡ [] = ap stop_text at_end in
       let same : Some text ≡ Some lines = m.printed ∙ ap (λ (rest : List ℕ). Some (lines ++ take m.q rest)) nothing ∙ ap (λ (rest : List ℕ). Some (lines ++ rest)) (none m.q) ∙ ap (λ b. Some b) (append-nil lines) in
       (m.status_is ∙ ap status_of at_end, inner same)
     where

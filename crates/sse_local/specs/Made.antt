@@ -3,6 +3,7 @@ use Rattle.std.specs.Prelude.{◌≡◌, ◌≤◌, ◌⊎◌, ◌-◌, ℕ, tru
 use Rattle.std.specs.Io.KnownBytes.{append_known}
 use Rattle.std.specs.List.{ends_with, starts_with}
 use Rattle.script_history.specs.Endings.{EndsIn, Seen, StopsTelling}
+use Rattle.keyed_fn.specs.KeyFormulas.{mark_of}
 use Rattle.keyed_fn.specs.KeyedFn.{KeyedFn}
 use Rattle.script_made_lines.specs.Script.{made_text}
 use Rattle.script_made_lines.specs.Summary.{made_summary}
@@ -88,5 +89,5 @@ pub record PrintsSummary (documents : ℕ) (m : Meaning) (old new : Option (List
 -- where its history has no collision
 abbrev pub PrintsSummaryAsMeant : KeyedFn → (seed documents : ℕ) → (old new : Option (List ℕ)) → (status : ℕ) → Type 0
 PrintsSummaryAsMeant f seed documents old new status =
-    let m = meaning (made_text seed documents) in
+    let m = meaning (Some (mark_of f)) (made_text seed documents) in
     IsFree f m.key m.history → PrintsSummary documents m old new status

@@ -32,13 +32,14 @@ struct Parted {
 
 // Promise P29 (user): With `twin` the program compares two scripts by their leakage: the counts of the second, or the first command that leaks otherwise.
 //   clauses: compares, streams, known; fields: TellsStreams.at_end, TellsStreams.source_failed, TellsStreams.source_steady, TellsStreams.sink_failed, TellsStreams.sink_steady; assumes: observable devices, no device fault, enough memory; checks: .ci/twin; not: That histories
-//     with different leakage can be told apart. Standard input and output, which aren't observable.
+//     with different leakage can be told apart. Standard input and output, which aren't observable. Scripts are read up to their
+//     first `rebuild` line, at which a reading stops as at a bad line.
 /// Compares two scripts with a line `twin` between them: prints their refusals as a run prints them, then whether the two histories
 /// look the same to a server, and answers the status: 0 where they do, or 1 where they don't or a command was refused. The first
 /// script's key gives the values; the second one's only hashes.
 ///
-/// A stop prints its last line: `stopped: line N` and 2 at the first bad line, and behind the last line of a script that lacks an
-/// accepted setup, or of the first where no line `twin` follows; `stopped: source` and 3, nothing and 4 where the sink failed,
+/// A stop prints its last line: `stopped: line N` and 2 at the first bad line or `rebuild` line, and behind the last line of a script
+/// that lacks an accepted setup, or of the first where no line `twin` follows; `stopped: source` and 3, nothing and 4 where the sink failed,
 /// `stopped: memory` and 7.
 pub(crate) fn twin_run<K: Keyed, S: Source, W: Sink>(
     alloc: Global,

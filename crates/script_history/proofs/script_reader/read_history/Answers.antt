@@ -8,26 +8,26 @@ use Rattle.script_history.specs.Reads.{ReadsFirstFrom, Stopped, Whole}
 use Rattle.script_history.proofs.script_reader.read_history.Goals as goal
 
 pub returns-then-at_twin-clause-reads : goal.returns-then-at_twin-clause-reads
-returns-then-at_twin-clause-reads g c =
+returns-then-at_twin-clause-reads g c = λ mark.
     let script = c.in-Ok.first.script in
     let end = Whole script.key (option_map epochs_of script.history) script.refused script.next in
     let left = lines_left c.args.input.now.pending (g.S.Source.remaining c.args.source.now) in
     let written = g.W.Sink.written c.args.sink.now in
     let last = g.W.Sink.written c.read_first.new.sink in
-    subst (λ b. ReadsFirstFrom (c.args.input.now.number + 1) left written last (if b then at_line end else end)) c.if-at_twin.true
-    (whole-ended left (c.args.input.now.number + 1) written last c.in-Ok.first.at_twin end _ _ _ c.in-Ok.ensures.ended c.in-Ok.ensures.reads)
+    subst (λ b. ReadsFirstFrom mark (c.args.input.now.number + 1) left written last (if b then at_line end else end)) c.if-at_twin.true
+    (whole-ended mark left (c.args.input.now.number + 1) written last c.in-Ok.first.at_twin end _ _ _ c.in-Ok.ensures.ended (c.in-Ok.ensures.reads mark))
 
 pub returns-else-at_twin-clause-reads : goal.returns-else-at_twin-clause-reads
-returns-else-at_twin-clause-reads g c =
+returns-else-at_twin-clause-reads g c = λ mark.
     let script = c.in-Ok.first.script in
     let end = Whole script.key (option_map epochs_of script.history) script.refused script.next in
     let left = lines_left c.args.input.now.pending (g.S.Source.remaining c.args.source.now) in
     let written = g.W.Sink.written c.args.sink.now in
     let last = g.W.Sink.written c.read_first.new.sink in
-    subst (λ b. ReadsFirstFrom (c.args.input.now.number + 1) left written last (if b then at_line end else end)) c.if-at_twin.false
-    (whole-ended left (c.args.input.now.number + 1) written last c.in-Ok.first.at_twin end _ _ _ c.in-Ok.ensures.ended c.in-Ok.ensures.reads)
+    subst (λ b. ReadsFirstFrom mark (c.args.input.now.number + 1) left written last (if b then at_line end else end)) c.if-at_twin.false
+    (whole-ended mark left (c.args.input.now.number + 1) written last c.in-Ok.first.at_twin end _ _ _ c.in-Ok.ensures.ended (c.in-Ok.ensures.reads mark))
 
 pub returns-in-Err-clause-reads : goal.returns-in-Err-clause-reads
-returns-in-Err-clause-reads g c =
+returns-in-Err-clause-reads g c = λ mark.
     let left = lines_left c.args.input.now.pending (g.S.Source.remaining c.args.source.now) in
-    whole-stopped left (c.args.input.now.number + 1) (g.W.Sink.written c.args.sink.now) (g.W.Sink.written c.read_first.new.sink) (Stopped (stop_cause c.in-Err.stop)) refl c.in-Err.ensures.reads
+    whole-stopped mark left (c.args.input.now.number + 1) (g.W.Sink.written c.args.sink.now) (g.W.Sink.written c.read_first.new.sink) (Stopped (stop_cause c.in-Err.stop)) refl (c.in-Err.ensures.reads mark)

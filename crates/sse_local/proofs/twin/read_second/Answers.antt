@@ -2,7 +2,8 @@ use Rattle.leakage_history.specs.HashedRun.{epochs_of}
 use Rattle.script_history.specs.Endings.{ending}
 use Rattle.script_history.specs.Turns.{reading_end}
 use Rattle.keyed_fn.specs.KeyedFn.{keyed_fn}
-use Rattle.std.specs.Prelude.{Ok}
+use Rattle.std.proofs.Common.{refl}
+use Rattle.std.specs.Prelude.{Ok, Err}
 use Rattle.sse_script.specs.TextLines.{lines_left}
 use Rattle.sse_local.proofs.Compared.{kept-sink, kept-source, reads-behind}
 use Rattle.sse_local.proofs.twin.read_second.Goals as goal
@@ -19,3 +20,8 @@ returns-in-Ok-clause-source g c =
 pub returns-in-Ok-clause-sink : goal.returns-in-Ok-clause-sink
 returns-in-Ok-clause-sink g c =
     kept-sink (g.W.Sink.faults c.args.sink.now) (g.W.Sink.faults c.read_history.new.sink) (g.W.Sink.faults c.compare_read.new.sink) (g.W.Sink.shortages c.args.sink.now) (g.W.Sink.shortages c.read_history.new.sink) (g.W.Sink.shortages c.compare_read.new.sink) c.compare_read.result c.in-Ok.ensures.sink.steady c.in-Ok.ensures.sink.no_fewer c.compare_read.ensures.sink
+
+pub returns-clause-goes_on : goal.returns-clause-goes_on
+returns-clause-goes_on g c =
+    reads-behind (keyed_fn g.K.Keyed.prf g.K.Keyed.pad) c.args.first.key (epochs_of c.args.first.history) c.args.first.refused c.args.input.now.number (lines_left c.args.input.now.pending (g.S.Source.remaining c.args.source.now)) (g.W.Sink.written c.args.sink.now)
+    (g.W.Sink.written c.read_history.new.sink) (g.W.Sink.written c.read_history.new.sink) (reading_end (Err c.in-Err.stop)) (ending (Err c.in-Err.stop)) c.in-Err.ensures.reads (refl, refl)
