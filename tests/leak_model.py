@@ -1,8 +1,9 @@
 """What a server learns, as a plain model: what each command of a history leaks, the values that are drawn for it, and all that a
 simulator makes of these two. docs/LEAKAGE.md has the same in words.
 
-A history is a setup with the accepted commands after it, numbered from 0, the setup first. What a command leaks and what is drawn for it is
-determined by the commands before it (`past`, without the setup) and by the command itself.
+A history is one epoch or several: each has a key, and a setup with the accepted commands after it. The commands are numbered from 0 through
+all epochs, the first setup first. What a command leaks and what is drawn for it is determined by the commands before it in its epoch (`past`,
+without the setup) and by the command itself, but for the numbers of commands.
 
 First come the items of leakage and the draws, then the simulator, which is given only these: no word, no document and no key.
 Histories come next, then their leakage, then their draws, which are the only part that knows the key. Last comes an item as text: in short
@@ -10,7 +11,7 @@ for tests/leakages.txt, and as the line that docs/FORMATS.md has for a person, w
 import functools
 import hmac
 import struct
-from dataclasses import dataclass
+from dataclasses import dataclass, replace
 
 import script_model
 
@@ -220,10 +221,10 @@ def frames_simulated(kept, number, leak, draws):
     return [framed(8, token_kept(kept, leak.earlier))]
 
 
-def simulated(leaks, drawn):
-    """All that passes, each with its way: the greeting, then for each item its frames with their replies. None where an item is bad
-    or has no draws."""
-    passed, kept, number = [(SENT, framed(1)), (RECEIVED, framed(0x81, be(4, 0)))], [], 0
+def simulated(leaks, drawn, number=0):
+    """All that passes, each with its way: the greeting of a server that expects an update frame of this number, then for each item its
+    frames with their replies. None where an item is bad or has no draws."""
+    passed, kept = [(SENT, framed(1)), (RECEIVED, framed(0x81, be(4, number)))], []
     if len(drawn) < len(leaks):
         return None
     for leak, draws in zip(leaks, drawn):
@@ -271,22 +272,36 @@ class Search:
     word: bytes
 
 
-def accepted(script):
-    """Each line of a script with what it brings: the key, a document of the setup, a setup or commands after it; nothing if it is
-    empty or refused, or if the script stops at it or before it."""
-    store, key, documents, is_stopped = script_model.Store(), None, [], False
+@dataclass(frozen=True)
+class Renewal:
+    """A new key, and the setup of what is live under it."""
+    key: bytes
+    setup: Setup
+
+
+@dataclass(frozen=True)
+class Epoch:
+    """What is done under a key."""
+    key: bytes
+    setup: Setup
+    later: tuple = ()
+
+
+def accepted(script, takes_rebuilds=True):
+    """Each line of a script with what it brings: the key, a document of the setup, a setup, commands after it or a renewal; nothing if it
+    is empty or refused, or if the script stops at it or before it."""
+    store, is_stopped = script_model.Store(), False
     for line in script_model.lines_of(script):
         found = []
         try:
-            command = None if is_stopped else script_model.command_in(line)
-            if command and (command[0] == "key") != (key is None):
+            command = None if is_stopped else script_model.command_in(line, takes_rebuilds)
+            if command and (command[0] == "key") != (not store.keys):
                 raise script_model.BadLine
             if command and command[0] == "key":
-                key = bytes.fromhex(script_model.KEY.search(line)[0].decode())
-                found = [key]
+                store.keys = found = command[2]
             elif command:
                 store.carry_out(*command)
-                found = brought(documents, *command)
+                found = brought(store, *command)
         except script_model.BadLine:
             is_stopped = True
         except script_model.Refused:
@@ -294,13 +309,18 @@ def accepted(script):
         yield line, found
 
 
-def brought(documents, name, numbers, words):
-    """What a line brings that isn't refused, after these documents, which it may join. A query brings a search of each of its words."""
+def documents_in(store):
+    return tuple((id, tuple(words)) for id, words in store.live.items())
+
+
+def brought(store, name, numbers, words):
+    """What a line brings that wasn't refused and left this store. A query brings a search of each of its words."""
     if name == "doc":
-        documents.append((numbers[0], tuple(words)))
-        return [documents[-1]]
+        return [(numbers[0], tuple(words))]
     if name == "setup":
-        return [Setup(tuple(documents), *numbers)]
+        return [Setup(documents_in(store), *numbers)]
+    if name == "rebuild":
+        return [Renewal(words[0], Setup(documents_in(store), *store.sizes))]
     if name == "add":
         return [Add(numbers[0], tuple(words))]
     if name == "del":
@@ -308,12 +328,30 @@ def brought(documents, name, numbers, words):
     return [Search(word) for word in (script_model.Query(words).words() if name == "query" else words)]
 
 
-def history_in(script):
-    """The key of a script, its setup, which is None where there is none, and the commands behind it."""
-    parts = [what for _, found in accepted(script) for what in found]
-    key = next((what for what in parts if isinstance(what, bytes)), None)
-    setup = next((what for what in parts if isinstance(what, Setup)), None)
-    return key, setup, [what for what in parts if isinstance(what, (Add, Delete, Search))]
+def longer(epochs, key, what):
+    """Epochs with one command more, which a line brought; this is the first epoch's key."""
+    if isinstance(what, Setup):
+        return [Epoch(key, what)]
+    if isinstance(what, Renewal):
+        return [*epochs, Epoch(what.key, what.setup)]
+    if isinstance(what, (Add, Delete, Search)):
+        *before, last = epochs
+        return [*before, replace(last, later=(*last.later, what))]
+    return epochs
+
+
+def key_in(script):
+    """The key of a script's key line, None where there is none."""
+    return next((what for _, found in accepted(script) for what in found if isinstance(what, bytes)), None)
+
+
+def history_in(script, takes_rebuilds=True):
+    """The epochs of a script; none where it has no setup."""
+    epochs, key = [], key_in(script)
+    for _, found in accepted(script, takes_rebuilds):
+        for what in found:
+            epochs = longer(epochs, key, what)
+    return epochs
 
 
 def over(f, later):
@@ -457,9 +495,36 @@ def leak_by(s, past, command):
     return SearchLeak(first_search(past, word), home(s, word), listed, tuple(pair.id for pair in listed if not pair.revoked))
 
 
-def leak(s, later):
-    """What each command of a history leaks, the setup first; nothing where there is no setup."""
-    return [leak_of_setup(s), *over(functools.partial(leak_by, s), later)] if s else []
+def leak_of_epoch(s, later):
+    """What each command of an epoch leaks, the setup first, which has the number 0."""
+    return [leak_of_setup(s), *over(functools.partial(leak_by, s), later)]
+
+
+def numbered_from(first, leak):
+    """An item, or a part of one, where each command's number is higher by this."""
+    if isinstance(leak, Origin):
+        return replace(leak, command=leak.command + first)
+    if isinstance(leak, Seen):
+        return replace(leak, search=leak.search + first)
+    if isinstance(leak, WordLeak):
+        return WordLeak(numbered_from(first, leak.sent), numbered_from(first, leak.seen))
+    if isinstance(leak, ListedLeak):
+        return replace(leak, origin=numbered_from(first, leak.origin), number=numbered_from(first, leak.number))
+    if isinstance(leak, (AddLeak, DeleteLeak)):
+        return replace(leak, words=tuple(numbered_from(first, word) for word in leak.words))
+    if isinstance(leak, SearchLeak):
+        earlier = None if leak.earlier is None else leak.earlier + first
+        return replace(leak, earlier=earlier, listed=tuple(numbered_from(first, pair) for pair in leak.listed))
+    return leak
+
+
+def leak(history):
+    """What each command of a history leaks, the setups among them: nothing that is said of a command speaks of another epoch."""
+    leaks = []
+    for epoch in history:
+        first = len(leaks)
+        leaks += [numbered_from(first, item) for item in leak_of_epoch(epoch.setup, epoch.later)]
+    return leaks
 
 
 # Draws.
@@ -572,9 +637,12 @@ def draws_by(key, s, past, command):
     return draws
 
 
-def draws(key, s, later):
-    """The values that are drawn for each command of a history, the setup first."""
-    return [draws_of_setup(key, s), *over(functools.partial(draws_by, key, s), later)] if s else []
+def draws(history):
+    """The values that are drawn for each command of a history, each epoch's under its own key."""
+    drawn = []
+    for key, s, later in ((epoch.key, epoch.setup, epoch.later) for epoch in history):
+        drawn += [draws_of_setup(key, s), *over(functools.partial(draws_by, key, s), later)]
+    return drawn
 
 
 # An item as a line of text: the kind of the command, then its fields. An Origin is COMMAND.PLACE, a - is None.
@@ -618,12 +686,11 @@ def home_text(home):
 
 def told(script):
     """The lines of a script, with a line behind each that leaks something: what it leaks."""
-    _, setup, later = history_in(script)
-    items = iter(leak(setup, later))
+    items = iter(leak(history_in(script)))
     for line, found in accepted(script):
         yield line.decode()
         for what in found:
-            if isinstance(what, (Setup, Add, Delete, Search)):
+            if isinstance(what, (Setup, Renewal, Add, Delete, Search)):
                 yield "leaks " + item_text(next(items))
 
 
@@ -681,15 +748,15 @@ def leak_lines(leaks):
 
 def leaks_answer(script):
     """What the program sse_leaks prints of a script, and its status: the refusals, as a run prints them, then the lines of what is
-    leaked, or the line of a stop; a script without a setup lacks a line behind its last."""
-    printed, status = script_model.answer(script)
+    leaked, or the line of a stop; a script without a setup lacks a line behind its last, and a line `rebuild` is a bad one."""
+    printed, status = script_model.answer(script, takes_rebuilds=False)
     lines = printed.decode().splitlines()
     told = [line for line in lines if line.startswith("refused: ")]
-    _, setup, later = history_in(script)
+    history = history_in(script, takes_rebuilds=False)
     if status == 2:
         told.append(lines[-1])
-    elif setup is None:
+    elif not history:
         told, status = [*told, f"stopped: line {len(script_model.lines_of(script)) + 1}"], 2
     else:
-        told += leak_lines(leak(setup, later))
+        told += leak_lines(leak(history))
     return "".join(line + "\n" for line in told).encode(), status

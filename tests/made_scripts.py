@@ -13,11 +13,16 @@ IDENTIFIERS = [2**64 - 1, 2**63, 2**32, 256, 255]
 MARKS = [b"and", b"or", b"not", b"(", b")", b"=", b"AND", b"a", b"and=", b"\xff"]
 BAD_LINES = [b"add", b"add 01 a", b"add +1", b"add a", b"add 18446744073709551616 a", b"add\t1 a", b"ADD 1 a",
              b"del", b"del 1 2", b"del a", b"delete 1", b"find", b"find a b", b"\tfind a", b"setup 1",
-             b"setup 1 1 01", b"setup 1 1 1 1", b"setup 1 1 18446744073709551616", b"doc", b"key", b"key " + b"0" * 64, b"twin", b"QUERY =a", b"query=a"]
+             b"setup 1 1 01", b"setup 1 1 1 1", b"setup 1 1 18446744073709551616", b"doc", b"key", b"key " + b"0" * 64, b"twin", b"QUERY =a", b"query=a",
+             b"rebuild", b"rebuild " + b"0" * 63, b"rebuild " + b"0" * 65, b"rebuild " + b"g" * 64, b"rebuild " + b"0" * 64 + b" 1"]
+
+
+def key_digits(draw):
+    return bytes(draw.choice(b"0123456789abcdefABCDEF") for _ in range(64))
 
 
 def key_line(draw):
-    return b"key " + bytes(draw.choice(b"0123456789abcdefABCDEF") for _ in range(64))
+    return b"key " + key_digits(draw)
 
 
 class RandomScript:
@@ -132,7 +137,11 @@ class RandomScript:
                 self.delete()
             if self.chance(0.4):
                 self.find()
+            self.renew()
             self.misplaced([self.setup, lambda: self.document(b"doc")])
+
+    def renew(self):
+        """At times a line `rebuild`, in scripts that have such lines."""
 
     def bytes(self):
         self.lines += [b""] * self.draw.choice([0, 0, 0, 2])
@@ -150,8 +159,26 @@ class RandomScript:
         return b"\n".join(self.lines) + b"\n" * self.chance(0.9)
 
 
-class QueriedScript(RandomScript):
-    """A short script that has queries of every kind beside its searches."""
+class RenewedScript(RandomScript):
+    """A short script that has lines `rebuild`, some of them with a key that was used before."""
+
+    def __init__(self, seed):
+        super().__init__(seed)
+        self.renewals = self.draw.choice([0, 0.03, 0.15])
+
+    def renew(self):
+        if self.chance(self.renewals):
+            used = [line.split()[1] for line in self.lines if line.split()[:1] in ([b"key"], [b"rebuild"])]
+            self.put(b"rebuild", self.draw.choice(used).swapcase() if self.chance(0.3) else key_digits(self.draw))
+
+    def before(self):
+        super().before()
+        if self.chance(self.renewals):
+            self.put(b"rebuild", key_digits(self.draw))
+
+
+class QueriedScript(RenewedScript):
+    """A short script that has queries of every kind beside its searches, and lines `rebuild`."""
 
     def find(self):
         super().find()

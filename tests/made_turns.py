@@ -4,7 +4,7 @@ import random
 
 import leak_model
 import script_model
-from made_scripts import RandomScript
+from made_scripts import RenewedScript
 
 # up to how many bytes a script may have, and the index of its setup
 SCRIPT, INDEX = 2500, 4000
@@ -21,11 +21,20 @@ def index_bytes(setup):
 def small_script(draw, is_padded):
     """The lines of a script with a setup that has a Q above 1, or none."""
     while True:
-        script = RandomScript(draw.random()).bytes()
+        script = RenewedScript(draw.random()).bytes()
         if len(script) <= SCRIPT:
-            _, setup, _ = leak_model.history_in(script)
-            if setup and (setup.Q > 1) == is_padded and index_bytes(setup) <= INDEX:
+            history = leak_model.history_in(script)
+            if history and (history[0].setup.Q > 1) == is_padded and max(index_bytes(epoch.setup) for epoch in history) <= INDEX:
                 return script_model.lines_of(script)
+
+
+def key_lines(lines):
+    """For each number of lines, the key line of a run that goes on behind so many."""
+    found = [b"key"]
+    for line, brought in leak_model.accepted(b"".join(line + b"\n" for line in lines)):
+        keys = [what if isinstance(what, bytes) else what.key for what in brought if isinstance(what, (bytes, leak_model.Renewal))]
+        found.append(b"key " + keys[0].hex().encode() if keys else found[-1])
+    return found
 
 
 class MadeTurns:
@@ -37,6 +46,7 @@ class MadeTurns:
         names = [line.split()[:1] for line in self.lines]
         # in some of the scripts it isn't this line of a setup that is accepted, but a later one
         self.key, self.setup = names.index([b"key"]), names.index([b"setup"])
+        self.key_lines = key_lines(self.lines)
         self.turns = []
 
     def chance(self, part):
@@ -58,8 +68,9 @@ class MadeTurns:
         return " ".join(["", disk, str(call), *cuts])
 
     def turn(self, begin, end):
-        """A turn over these lines, behind the key line."""
-        lines = [OTHER_KEY if self.chance(0.02) else self.lines[self.key], *self.lines[begin:end]]
+        """A turn over these lines, behind the key line; at times one with a key of another epoch."""
+        behind = begin if self.chance(0.9) else self.draw.randint(self.key + 1, len(self.lines))
+        lines = [OTHER_KEY if self.chance(0.02) else self.key_lines[behind], *self.lines[begin:end]]
         word, disk, call, server = "run", "x", 0, " x 0"
         if self.turns:
             word = "more" if (begin > self.setup) != self.chance(0.05) else "run"
@@ -81,7 +92,7 @@ class MadeTurns:
             begin = self.draw.choice([end, end, self.draw.randint(begin, end)])
         self.turn(begin, len(self.lines))
         finds = [line for line in self.lines if line.split()[:1] == [b"find"]]
-        self.turns.append(b"\n".join([b"turn more same 0 kept 0", self.lines[self.key], *finds[-4:], b""]))
+        self.turns.append(b"\n".join([b"turn more same 0 kept 0", self.key_lines[-1], *finds[-4:], b""]))
         return b"----\n".join(self.turns)
 
 

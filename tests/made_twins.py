@@ -33,6 +33,11 @@ def lines_of(setup, later):
     return lines
 
 
+def leak_of(setup, later):
+    """What a history leaks, whatever its key is."""
+    return model.leak([model.Epoch(b"", setup, tuple(later))])
+
+
 def is_history(setup, later):
     """Whether no line of it is refused."""
     script = b"\n".join([b"key " + b"0" * 64, *lines_of(setup, later)])
@@ -110,10 +115,10 @@ def changed(draw, setup, later):
 
 def same_looking(draw, setup, later):
     """A history that leaks what this one does."""
-    wanted, now = model.leak(setup, later), (setup, later)
+    wanted, now = leak_of(setup, later), (setup, later)
     for _ in range(STEPS):
         new = changed(draw, *now)
-        if is_history(*new) and model.leak(*new) == wanted:
+        if is_history(*new) and leak_of(*new) == wanted:
             now = new
     return now
 
@@ -131,7 +136,7 @@ def other_looking(draw, setup, later):
             now[at] = command
         elif way == 3:
             start, now = changed(draw, setup, later)
-        if is_history(start, now) and model.leak(start, now) != model.leak(setup, later):
+        if is_history(start, now) and leak_of(start, now) != leak_of(setup, later):
             return start, now
 
 

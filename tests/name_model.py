@@ -83,11 +83,11 @@ def uses_lines(s, later, ranks):
             yield " ".join([str(command), what, *texts])
 
 
-def own_values(key, history):
-    """The values of the names of a history under a key, in the order of their first places."""
+def own_values(epoch):
+    """The values of the names of an epoch under its key, in the order of their first places."""
     values = {}
-    for name, text in twin.uses(*history, model.ranks_of(model.block_tags(key, history[0]))):
-        values.setdefault(name, twin.value_of(key, name, text))
+    for name, text in twin.uses(epoch.setup, epoch.later, model.ranks_of(model.block_tags(epoch.key, epoch.setup))):
+        values.setdefault(name, twin.value_of(epoch.key, name, text))
     return values
 
 
@@ -106,9 +106,9 @@ def draw_text(draw):
     return draw.number.hex() if isinstance(draw, model.NumberDraw) else draw.token.hex()
 
 
-def leaked_lines(key, history):
+def leaked_lines(history):
     """What each command leaks and draws, and all that the simulator makes of these."""
-    leaks, drawn = model.leak(*history), model.draws(key, *history)
+    leaks, drawn = model.leak(history), model.draws(history)
     for line, own in zip(model.leak_lines(leaks), drawn):
         yield line
         yield " ".join(["draws", *map(draw_text, own)])
@@ -116,40 +116,36 @@ def leaked_lines(key, history):
         yield f"{way} {text.hex()}"
 
 
-def named_lines(key, history):
+def named_lines(history):
     """What a history has, which names its values have, and these values."""
-    return [documents_line(history[0]), commands_line(history[1]),
-            *uses_lines(*history, model.ranks_of(model.block_tags(key, history[0]))),
-            *value_lines(own_values(key, history), word_numbers(*history))]
+    (epoch,) = history
+    ranks = model.ranks_of(model.block_tags(epoch.key, epoch.setup))
+    return [documents_line(epoch.setup), commands_line(epoch.later), *uses_lines(epoch.setup, epoch.later, ranks),
+            *value_lines(own_values(epoch), word_numbers(epoch.setup, epoch.later))]
 
 
-def history_lines(key, history):
-    has, named_so = named_lines(key, history)[:2], named_lines(key, history)[2:]
-    return [*has, *leaked_lines(key, history), *named_so]
+def history_lines(history):
+    has, named_so = named_lines(history)[:2], named_lines(history)[2:]
+    return [*has, *leaked_lines(history), *named_so]
 
 
 # Two histories.
 
 
-def sent(key, history):
-    """The frames that are sent for a history under a key."""
-    passed = model.simulated(model.leak(*history), model.draws(key, *history))
-    return [text for way, text in passed if way == model.SENT]
+def counted(what, history, values):
+    """How many frames are sent for a history, how many bytes these have, and the sum of these values."""
+    frames = twin.sent(history)
+    return f"{what} {len(frames)} {sum(map(len, frames))} {twin.sum_of(values)}"
 
 
-def counted(what, key, history, values):
-    """How many frames are sent for a history under a key, how many bytes these have, and the sum of these values."""
-    frames = sent(key, history)
-    return f"{what} {len(frames)} {sum(map(len, frames))} {sum(map(sum, values.values())) % 2**64}"
-
-
-def pair_lines(key, history, other):
+def pair_lines(history, other):
     """What is counted of the first, and the values that are moved to the second, which sends as many frames and bytes then."""
-    lines = [counted("own", key, history, own_values(key, history))]
-    values = twin.moved(key, history, other)
+    lines = [counted("own", history, list(map(own_values, history)))]
+    values = twin.moved(history, other)
     if isinstance(values, int):
         return [*lines, f"differ {values}"]
-    return [*lines, counted("moved", key, history, values), *value_lines(values, word_numbers(*other))]
+    (moved,), (epoch,) = values, other
+    return [*lines, counted("moved", history, values), *value_lines(moved, word_numbers(epoch.setup, epoch.later))]
 
 
 # Scripts.
@@ -159,8 +155,8 @@ def answer(script):
     """What the program prints of a script, or of two with a line `twin` between them."""
     lines = model.script_model.lines_of(script)
     at = next((k for k, line in enumerate(lines) if twin.is_twin(line)), None)
-    _, bad, (key, *history) = twin.part_answer(lines[:at], 1)
+    _, bad, history = twin.part_answer(lines[:at], 1)
     if at is None:
-        return [] if bad is not None else history_lines(key, history)
-    _, bad_behind, (_, *other) = twin.part_answer(lines[at + 1:], at + 2)
-    return [] if bad is not None or bad_behind is not None else pair_lines(key, history, other)
+        return [] if bad is not None else history_lines(history)
+    _, bad_behind, other = twin.part_answer(lines[at + 1:], at + 2)
+    return [] if bad is not None or bad_behind is not None else pair_lines(history, other)

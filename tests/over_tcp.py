@@ -82,10 +82,9 @@ def receive(peer, size):
 
 def exchanges(script):
     """Each frame that passes for a script, with its replies as one text; nothing for one without a key."""
-    key, setup, later = leak_model.history_in(script)
-    frames = []
-    if key is not None:
-        for way, text in leak_model.simulated(leak_model.leak(setup, later), leak_model.draws(key, setup, later)):
+    history, frames = leak_model.history_in(script), []
+    if leak_model.key_in(script) is not None:
+        for way, text in leak_model.simulated(leak_model.leak(history), leak_model.draws(history)):
             if way == leak_model.SENT:
                 frames.append([text, b""])
             else:

@@ -1,11 +1,13 @@
-"""The records of a client's journal as a plain model, by docs/FORMATS.md: one of the setup, then one of each addition and deletion; and
-what a run that resumes makes of records."""
+"""The records of a client's journal as a plain model, by docs/FORMATS.md: one of the setup, then one of each addition, deletion and renewal of
+the key; and what a run that resumes makes of records."""
+from dataclasses import dataclass, replace
+
 import leak_model
 import script_model
 from leak_model import be
 
 MARK = 7
-SETUP, ADD, DELETE = b"\x14", b"\x12", b"\x13"
+SETUP, ADD, DELETE, RENEWAL = b"\x14", b"\x12", b"\x13", b"\x15"
 # the setup of an earlier format, whose Q is 1
 OLD_SETUP = b"\x11"
 
@@ -33,12 +35,24 @@ def update_record(command):
     return DELETE + be(8, command.id)
 
 
+def renewal_record(key):
+    return RENEWAL + mark_of(key)
+
+
+def record_of(key, what):
+    """The record of what a line brings that is no search; the first epoch's key stands in that of a setup."""
+    if isinstance(what, leak_model.Setup):
+        return setup_record(key, what)
+    return renewal_record(what.key) if isinstance(what, leak_model.Renewal) else update_record(what)
+
+
 def records(script):
     """The payloads of a client's journal behind a run of the script; searches leave none."""
-    key, setup, later = leak_model.history_in(script)
-    if setup is None:
-        return []
-    return [setup_record(key, setup)] + [update_record(command) for command in later if not isinstance(command, leak_model.Search)]
+    payloads = []
+    for epoch in leak_model.history_in(script):
+        payloads.append(renewal_record(epoch.key) if payloads else setup_record(epoch.key, epoch.setup))
+        payloads += [update_record(command) for command in epoch.later if not isinstance(command, leak_model.Search)]
+    return payloads
 
 
 class Reader:
@@ -66,7 +80,8 @@ class Reader:
 
 
 def commands_in(payload):
-    """The mark in a record, which is None but of a setup, and the lines of a script that say the same, in their parts."""
+    """The mark in a record, which only setups and renewals have, and the lines of a script that say the same, in their parts; a renewal's
+    has the mark in place of the key."""
     fields, mark = Reader(payload), None
     kind = fields.take(1)
     if kind in (SETUP, OLD_SETUP):
@@ -79,6 +94,9 @@ def commands_in(payload):
         commands = [("add", [identifier], words)]
     elif kind == DELETE:
         commands = [("del", [fields.number(8)], [])]
+    elif kind == RENEWAL:
+        mark = fields.take(16)
+        commands = [("rebuild", [], [mark])]
     else:
         raise BadRecord
     if fields.at != len(payload):
@@ -86,41 +104,42 @@ def commands_in(payload):
     return mark, commands
 
 
-def setup_of(commands):
-    """The setup of these lines."""
-    *documents, (_, sizes, _) = commands
-    return leak_model.Setup(tuple((numbers[0], tuple(words)) for _, numbers, words in documents), *sizes)
-
-
-def command_in(payload):
-    """The setup or the update that a record says."""
-    _, commands = commands_in(payload)
-    kind, numbers, words = commands[-1]
-    if kind == "add":
-        return leak_model.Add(numbers[0], tuple(words))
-    return leak_model.Delete(numbers[0]) if kind == "del" else setup_of(commands)
-
-
-def frames_of_setup(commands):
+def frames_of_setup(s):
     """How many frames a setup has that was accepted: its begin and its end, and the parts between."""
-    words, blocks = leak_model.padded_counts(setup_of(commands))
+    words, blocks = leak_model.padded_counts(s)
     return 2 + -(-words // leak_model.DICT_ENTRIES) + -(-blocks // leak_model.ARRAY_BLOCKS)
 
 
+@dataclass
+class Found:
+    """What the records of a journal come to: the numbers between which the update is that the server expects, the documents with the marks
+    of all epochs in place of keys, the last epoch, and how many update frames there were before it."""
+    low: int
+    high: int
+    store: script_model.Store
+    epoch: leak_model.Epoch
+    before: int
+
+
 def gone_on(key, payloads):
-    """What a run under a key makes of the records of a journal, of which there are some: why it stops, or the numbers between which
-    the update is that the server expects, and the documents."""
-    store, low, high = script_model.Store(), 0, 0
+    """What a run under a key makes of the records of a journal, of which there are some; or, as a text, why it stops."""
+    store, epochs, mark = script_model.Store(), [], None
+    low = high = before = 0
     for number, payload in enumerate(payloads):
         try:
-            mark, commands = commands_in(payload)
-            if (mark is None) == (number == 0):
+            own, commands = commands_in(payload)
+            if (commands[-1][0] == "setup") != (number == 0):
                 raise BadRecord
             for command in commands:
                 store.carry_out(*command)
         except (BadRecord, script_model.Refused):
-            return f"record {number}", None
-        if number == 0 and mark != mark_of(key):
-            return "key", None
-        low, high = high, high + (frames_of_setup(commands) if number == 0 else 1)
-    return (low, high), store
+            return f"record {number}"
+        (what,) = leak_model.brought(store, *commands[-1])
+        epochs, low, frames = leak_model.longer(epochs, key, what), high, 1
+        if own is not None:
+            mark, before, frames = own, high, frames_of_setup(epochs[-1].setup)
+            store.keys = [*store.keys, mark] if number == 0 else store.keys
+        high += frames
+    if mark != mark_of(key):
+        return "key"
+    return Found(low, high, store, replace(epochs[-1], key=key), before)

@@ -1,7 +1,7 @@
 """A plain model of a script: the lines that the program must print for it, and the status, by docs/FORMATS.md.
 
-It knows no keys and no frames: a document is an identifier with words, and a search names the live documents that hold its word. So it says
-nothing about collisions, links and memory: its statuses are 0, 1 and 2."""
+It knows no frames, and of keys only whether one was used before: a document is an identifier with words, and a search names the live documents
+that hold its word. So it says nothing about collisions, links and memory: its statuses are 0, 1 and 2."""
 import re
 
 LINE_BYTES = 2**19
@@ -33,15 +33,15 @@ def number_in(field):
     return int(field)
 
 
-def command_in(line):
-    """A line without its end as its name, its numbers and its words; None where it is empty."""
+def command_in(line, takes_rebuilds=True):
+    """A line without its end as its name, its numbers and its words, or its key in place of words; None where it is empty."""
     if len(line) > LINE_BYTES:
         raise BadLine
     name, *fields = [field for field in line.split(b" ") if field] or [None]
     if name is None:
         return None
-    if name == b"key" and len(fields) == 1 and KEY.fullmatch(fields[0]):
-        return "key", [], []
+    if (name == b"key" or name == b"rebuild" and takes_rebuilds) and len(fields) == 1 and KEY.fullmatch(fields[0]):
+        return name.decode(), [], [bytes.fromhex(fields[0].decode())]
     if name in (b"doc", b"add") and fields:
         return name.decode(), [number_in(fields[0])], fields[1:]
     if name == b"setup" and len(fields) in (2, 3) or name == b"del" and len(fields) == 1:
@@ -169,20 +169,24 @@ def padded(Q, count):
 
 
 class Store:
-    """The documents: before a setup those that were collected, behind it those that are live."""
+    """The documents: before a setup those that were collected, behind it those that are live. `keys` are those that were used, the first
+    epoch's first, and `sizes` are b, B and Q."""
 
-    def __init__(self):
+    def __init__(self, keys=()):
         self.is_set_up = False
+        self.keys, self.sizes = list(keys), None
         self.live = {}  # the words of each document, by identifier
         self.holders = {}  # the identifiers with each word, words in the order in which they came first
         self.pairs = 0
 
     def carry_out(self, name, numbers, words):
         """The printed line, or None where there is none."""
-        if self.is_set_up != (name in ("add", "del", "find", "query")):
+        if self.is_set_up != (name in ("add", "del", "find", "query", "rebuild")):
             raise Refused("set up already" if self.is_set_up else "not set up")
         if name == "setup":
             return self.set_up(*numbers)
+        if name == "rebuild":
+            return self.rebuild(words[0])
         if numbers == [0]:
             raise Refused("identifier zero")
         if name == "find":
@@ -226,6 +230,12 @@ class Store:
         for name, value, fitting in (("b", b, range(1, CELL_NUMBERS + 1)), ("B", B, range(1, BLOCK_NUMBERS + 1)), ("Q", Q, PADS)):
             if value not in fitting:
                 raise Refused(f"{name} is {value}")
+        counts = self.counted(b, B, Q)
+        self.is_set_up, self.sizes = True, (b, B, Q)
+        return f"set up {counts}"
+
+    def counted(self, b, B, Q):
+        """How many words and blocks there are in an index of all documents, if it isn't too large."""
         blocks = 0
         for number, holders in enumerate(self.holders.values()):
             taken = blocks_of(len(holders), b, B)
@@ -235,25 +245,41 @@ class Store:
         size = padded(Q, len(self.holders)) * (17 + 8 * b) + padded(Q, blocks) * 8 * B
         if size > INDEX_BYTES:
             raise Refused(f"too many bytes: {size}")
-        self.is_set_up = True
-        return f"set up {len(self.holders)} words {blocks} blocks"
+        return f"{len(self.holders)} words {blocks} blocks"
+
+    def rebuild(self, key):
+        """The live documents by rising identifier, set up again under another key."""
+        if key in self.keys:
+            raise Refused(f"key of epoch {self.keys.index(key)}")
+        pairs = sum(map(len, self.live.values()))
+        if len(self.live) > SETUP_DOCUMENTS:
+            raise Refused(f"too many documents: {len(self.live)}")
+        if pairs > SETUP_PAIRS:
+            raise Refused(f"too many pairs: {pairs}")
+        renewed = Store([*self.keys, key])
+        for identifier in rising(self.live):
+            renewed.add(identifier, self.live[identifier])
+        counts = renewed.counted(*self.sizes)
+        self.keys, self.live, self.holders, self.pairs = renewed.keys, renewed.live, renewed.holders, renewed.pairs
+        return f"rebuilt {counts}"
 
 
-def printed(lines):
-    """The printed lines of a script's lines, given without their ends; what is returned is the status."""
-    store, number, has_key, was_refused = Store(), 0, False, False
+def printed(lines, takes_rebuilds=True):
+    """The printed lines of a script's lines, given without their ends; what is returned is the status. Where rebuilds aren't taken, such a line
+    is a bad one."""
+    store, number, was_refused = Store(), 0, False
     for number, line in enumerate(lines, 1):
         try:
-            command = command_in(line)
+            command = command_in(line, takes_rebuilds)
             if command is None:
                 continue
-            if (command[0] == "key") == has_key:
+            if (command[0] == "key") == bool(store.keys):
                 raise BadLine
         except BadLine:
             yield f"stopped: line {number}"
             return 2
-        if not has_key:
-            has_key = True
+        if command[0] == "key":
+            store.keys = command[2]
             continue
         try:
             shown = store.carry_out(*command)
@@ -262,7 +288,7 @@ def printed(lines):
             shown = f"refused: {why}"
         if shown is not None:
             yield shown
-    if not has_key:
+    if not store.keys:
         yield f"stopped: line {number + 1}"
         return 2
     return 1 if was_refused else 0
@@ -274,9 +300,9 @@ def lines_of(script):
     return lines[:-1] if lines[-1] == b"" else lines
 
 
-def answer(script):
+def answer(script, takes_rebuilds=True):
     """The printed bytes and the status."""
-    text, run = [], printed(lines_of(script))
+    text, run = [], printed(lines_of(script), takes_rebuilds)
     while True:
         try:
             text.append(next(run) + "\n")

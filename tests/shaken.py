@@ -58,8 +58,11 @@ class History:
         self.payloads = [part.payload for part in recorded]
         self.updates = [exchange for part in recorded for exchange in part.frames]
         self.bodies = [frame[4:] for frame, _ in self.updates]
-        # how many update frames there are of so many records
+        # how many update frames there are of so many records, and the key line of a run that continues from them
         self.ends = [sum(len(part.frames) for part in recorded[:count]) for count in range(len(recorded) + 1)]
+        self.keys = [self.key]
+        for part in recorded:
+            self.keys.append(b"key " + part.text.split()[-1] + b"\n" if part.name == "rebuild" else self.keys[-1])
 
     def greeting(self, taken):
         """What passes first, with a server that has taken so many frames."""

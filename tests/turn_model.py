@@ -239,10 +239,10 @@ def answer_to(command, answers):
 # The client.
 
 
-def exchanges(key, setup, later):
-    """Of each command its frames, each with the pages of a search."""
+def exchanges(epochs, number):
+    """Of each command its frames, the first of which has this number, each with the pages of a search."""
     commands = []
-    for way, text in leak_model.simulated(leak_model.leak(setup, later), leak_model.draws(key, setup, later)):
+    for way, text in leak_model.simulated(leak_model.leak(epochs), leak_model.draws(epochs), number):
         if way == leak_model.SENT and text[4] in range(3, 6):
             commands[-1].append((text, None))
         elif way == leak_model.SENT:
@@ -267,8 +267,9 @@ class Run:
     def __init__(self, disk, link, fails):
         self.disk, self.link, self.fails = disk, link, fails
         self.lines, self.status, self.printed = [], 0, 0
-        self.store, self.documents, self.later = script_model.Store(), [], []
-        self.key = self.setup = self.end = None
+        # the marks of keys stand in the store in place of the keys
+        self.store, self.epochs, self.before = script_model.Store(), [], 0
+        self.key = self.end = None
 
     def on_disk(self, call, *given):
         return fails_with(6, "disk", call, *given)
@@ -306,6 +307,7 @@ class Run:
         self.key = next(commands)
         if isinstance(self.key, Stopped):
             raise self.key
+        self.store.keys = [record_model.mark_of(self.key)]
         if word == "more":
             self.go_on(records)
         elif (number := self.greet()) != 0:
@@ -328,7 +330,7 @@ class Run:
                 yield Stopped(2, f"line {number}")
                 return
             if command:
-                yield bytes.fromhex(script_model.KEY.search(line)[0].decode()) if self.key is None else command
+                yield command[2][0] if self.key is None else command
         # the call behind the one that gave all finds the end
         if failed == 1:
             yield Stopped(3, "source")
@@ -344,47 +346,39 @@ class Run:
         payloads = []
         for record in records:
             payloads.append(self.on_disk(payload_at, self.disk, *record))
-            why, store = record_model.gone_on(self.key, payloads)
-            if store is None:
-                raise Stopped(11 if why == "key" else 10, why)
-        self.setup, *self.later = map(record_model.command_in, payloads)
-        for document in self.setup.documents:
-            self.store.add(*document)
-        self.store.set_up(self.setup.b, self.setup.B, self.setup.Q)
-        for command in self.later:
-            if isinstance(command, leak_model.Add):
-                self.store.add(command.id, command.words)
-            else:
-                self.store.delete(command.id)
-        commands = exchanges(self.key, self.setup, self.later)
-        high = sum(map(len, commands))
-        low, number = high - len(commands[-1]), self.greet()
-        if not low <= number <= high:
-            raise Stopped(9, f"server is at {number}, wanted {low} to {high}")
-        left = commands[-1][number - low:]
+            found = record_model.gone_on(self.key, payloads)
+            if isinstance(found, str) and found != "key":
+                raise Stopped(10, found)
+        if found == "key":
+            raise Stopped(11, found)
+        self.store, self.epochs, self.before = found.store, [found.epoch], found.before
+        number = self.greet()
+        if not found.low <= number <= found.high:
+            raise Stopped(9, f"server is at {number}, wanted {found.low} to {found.high}")
+        left = exchanges(self.epochs, self.before)[-1][number - found.low:]
         for frame, _ in left:
             self.over_link(frame)
         self.tell(f"resumed {len(left)} frames")
 
     def carry_out_all(self, commands):
         """What each command brings and prints, then these over disk and link, one after the other."""
-        told, known = [], len(self.later)
+        told, known = [], sum(1 + len(epoch.later) for epoch in self.epochs)
         for command in commands:
             if isinstance(command, Stopped):
                 told.append((command, [], command))
                 continue
+            name, numbers, words = command
             try:
-                shown, found = self.store.carry_out(*command), leak_model.brought(self.documents, *command)
+                shown = self.store.carry_out(name, numbers, list(map(record_model.mark_of, words)) if name == "rebuild" else words)
+                found = leak_model.brought(self.store, *command)
             except script_model.Refused as why:
                 told.append((command, [], f"refused: {why}"))
                 continue
-            if isinstance(found[0], leak_model.Setup):
-                self.setup, known = found[0], -1
-            elif shown is not None:
-                self.later += found
+            for what in found:
+                self.epochs = leak_model.longer(self.epochs, self.key, what)
             if shown is not None:
                 told.append((command, found, shown))
-        frames = iter(exchanges(self.key, self.setup, self.later)[known + 1:] if self.setup else [])
+        frames = iter(exchanges(self.epochs, self.before)[known:])
         for command, found, shown in told:
             if isinstance(shown, Stopped):
                 raise shown
@@ -398,9 +392,7 @@ class Run:
     def send(self, what, frames):
         """Keeps the record of an update, then sends the frames; the replies to the last one."""
         if not isinstance(what, leak_model.Search):
-            is_setup = isinstance(what, leak_model.Setup)
-            payload = record_model.setup_record(self.key, what) if is_setup else record_model.update_record(what)
-            self.end = self.on_disk(append, self.disk, self.end, payload)
+            self.end = self.on_disk(append, self.disk, self.end, record_model.record_of(self.key, what))
         replies = []
         for frame, pages in frames:
             replies = self.over_link(frame, pages)

@@ -1,15 +1,19 @@
 """Inputs of turns by name, for the real keyed function and for the toy one: runs that end for each cause and are gone on with, each call
-of a disk, of a link, of a source and of a sink failing in turn, replies that no server sends, an append that is cut at each byte, and
-journals that a client wrote, or nobody."""
+of a disk, of a link, of a source and of a sink failing in turn, also within a rebuild under a new key, replies that no server sends, an append
+that is cut at each byte, and journals that a client wrote, or nobody."""
 import journal_model
 import record_model
 from leak_model import Add, Setup, be, framed
 
 KEY = "key " + "0" * 64
 OTHER_KEY = "key 1" + "0" * 63
+# the keys of two rebuilds, and what continues under them
+NEW, NEWER = "01" * 32, "02" * 32
+FIND_NEW, FIND_NEWER = (f"key {NEW}", "find a"), (f"key {NEWER}", "find a")
 SETUP = (KEY, "doc 1 a", "setup 1 1")
 ADDED = (*SETUP, "add 2 a")
 FIND = (KEY, "find a")
+REBUILT = (KEY, "doc 1 a", "setup 1 2", "add 2 a", f"rebuild {NEW}", "find a")
 WORKED = (KEY, "doc 3 a b", "doc 9 a", "setup 4 4")
 # the key's mark, and the one under the toy function
 MARK = record_model.mark_of(bytes(32))
@@ -70,7 +74,16 @@ QUERIES = (
     "query", "query =", "query a", "query =a =b", "query and =a", "query ( =a", "query =a )", "query ( )", "query =a and or =b", "query =a AND =b",
     "query =a and not =b", "query " + "=a or " * 32, "query " + "=a or " * 31 + "( =a )", "query " + "=a or " * 31 + "=a", "query " + "( " * 65, "query =a\x7f =b",
     "query =a or =b\x7f", "query =a or =" + 65 * "x" + " or =\x7f", "query == or =and or =(", "add 5 = and", "query == and =and", "del 9", "query =a or =b")
+# lines `rebuild`, taken and refused
+REBUILDS = (
+    KEY, f"rebuild {NEW}", "doc 1 a", "doc 2 a b", "setup 1 2 4", f"rebuild {'0' * 64}", "add 3 b", "del 1", f"rebuild {NEW}", "find a", "add 1 a c",
+    f"rebuild {NEW}", f"rebuild {'0' * 64}", "del 2", f"rebuild {NEWER}", "find a", "find b", "add 2 b a", "query =a or =b", "del 1", "del 2", "del 3",
+    f"rebuild {'03' * 32}", "find a", "add 1 a", "find a")
 RUNS = {
+    "a new key": (KEY, "doc 1 a", "doc 2 a", "setup 1 2", "del 1", "add 3 a", f"rebuild {NEW}", "find a"),
+    "the key of the setup again": (KEY, "doc 1 a", "doc 2 a", "setup 1 2", "del 1", "add 3 a", f"rebuild {'0' * 64}", "find a"),
+    "keys, taken or refused": REBUILDS,
+    "a list that a setup takes and a rebuild doesn't": (*SETUP, "add 2 a", "add 3 a", f"rebuild {NEW}", "find a"),
     "a worked example": (*WORKED, "find a"),
     "queries, taken or refused": QUERIES,
     "a worked example of updates": (*WORKED, "add 5 a c", "del 9", "add 9 a", "find a"),
@@ -82,6 +95,8 @@ RUNS = {
 for size, setup in (2, "2 2"), (3, "2 2"), (4, "2 2"), (5, "2 2"), (8, "2 2"), (9, "2 2"), (1100, "16 64"):
     RUNS[f"a list of {size} identifiers"] = (KEY, *(f"doc {number} a" for number in range(1, size + 1)), f"setup {setup}", "find a")
 TOY_RUNS = {
+    "frames under a new key": (KEY, "doc 1 a", "doc 2 a", "setup 1 2", "del 1", "add 3 a", f"rebuild {NEW}", "find a"),
+    "equal labels of a rebuild": (*SETUP, "add 2 da", "add 3 ac", f"rebuild {NEW}", "find da"),
     "one block": (KEY, "doc 1 a", "doc 2 a", "setup 1 2"),
     "one dummy": (KEY, "doc 1 a", "setup 1 1 2"),
     "additions and deletions": (*SETUP, "add 5 a", "del 5", "add 5 c a", "add 6", "del 6"),
@@ -191,6 +206,9 @@ def journal(*payloads):
 
 RECORD = setup_record(mark=MARK, words=(b"a", b"b"))
 ADDITION, DELETION = record_model.ADD + record_model.document(2, [b"a"]), record_model.DELETE + be(8, 1)
+RENEWAL = record_model.renewal_record(bytes.fromhex(NEW))
+# the same under the toy function
+TOY_RENEWAL = record_model.RENEWAL + bytes(range(8, 24))
 UPDATED = journal_model.file_of([RECORD, ADDITION])
 OLD_RECORD = journal_model.record(b"old")[1:]
 FILES = {
@@ -208,6 +226,9 @@ FILES = {
     "the same, and an addition that wasn't committed": journal_model.file_of([RECORD, ADDITION, DELETION]) + journal_model.record(ADDITION)[1:] + b"\0",
     "a setup under another key": journal_model.file_of([setup_record(mark=bytes(16))]),
     "a setup under another key, and a deletion": journal_model.file_of([setup_record(mark=bytes(16)), DELETION]),
+    "a setup and a rebuild": journal_model.file_of([RECORD, RENEWAL]),
+    "a setup under another key, and a rebuild under this one": journal_model.file_of([setup_record(mark=bytes(16)), record_model.RENEWAL + MARK]),
+    "a rebuild of nothing, and another one": journal_model.file_of([RECORD, DELETION, RENEWAL, record_model.RENEWAL + bytes(16)]),
 }
 # records that can't stand behind those that can
 BAD_RECORDS = {
@@ -226,7 +247,15 @@ BAD_RECORDS = {
     "an addition of a word twice": [RECORD, record_model.ADD + record_model.document(3, [b"a", b"a"])],
     "an addition of a word without bytes": [RECORD, record_model.ADD + record_model.document(3, [b""])],
     "an addition of a blank": [RECORD, record_model.ADD + record_model.document(3, [b" "])],
-    "a record of another kind": [RECORD, b"\x15" + MARK],
+    "a record of another kind": [RECORD, b"\x16" + MARK],
+    "a rebuild first": [RENEWAL],
+    "a rebuild under the key of the setup": [RECORD, record_model.RENEWAL + MARK],
+    "a rebuild under one key twice": [RECORD, RENEWAL, ADDITION, RENEWAL],
+    "a rebuild with half a mark": [RECORD, RENEWAL[:9]],
+    "a rebuild with a byte more": [RECORD, RENEWAL + b"\0"],
+    "a rebuild of a list that is too long": [setup_record(mark=MARK), ADDITION, record_model.ADD + record_model.document(3, [b"a"]), RENEWAL],
+    "a rebuild, and a deletion of what was no longer live": [RECORD, DELETION, RENEWAL, DELETION],
+    "a bad record behind a rebuild under another key": [RECORD, RENEWAL, DELETION, DELETION],
 }
 # files that a start changes, and one that it leaves, with the calls that it makes
 STARTED = {
@@ -275,6 +304,31 @@ def behind_an_old_record():
                 served, turn(f"more x{file.hex()} {call}", KEY, "add 3 a"), turn(f"more {image} 0", *FIND))
 
 
+def rebuilds():
+    """Each call fails within a rebuild, and within the frames that are sent again; what is there says which key it wants. What comes before the
+    rebuild takes 14 calls of the client's disk, 16 of the server's and ten of the link."""
+    for call in range(10, 19):
+        for way in "-+":
+            yield f"call {call}{way} of the link fails, within a rebuild", input_of(
+                turn(f"run x 0 x 0 {call}{way}", *REBUILT), turn("more same 0", *FIND), turn("more same 0", *FIND_NEW))
+    for call in range(3, 10):
+        yield f"the link fails within a rebuild, and in call {call} of what resumes it", input_of(
+            turn("run x 0 x 0 12-", *REBUILT), turn(f"more same 0 kept 0 {call}+", *FIND_NEW), turn("more same 0", *FIND_NEW, f"rebuild {NEWER}"),
+            turn("more same 0", *FIND_NEW), turn("more same 0", *FIND_NEWER))
+    for call in range(15, 19):
+        for image in range(8):
+            yield f"call {call} of the client's disk fails, within a rebuild, image {image}", input_of(
+                turn(f"run x {call} x 0", *REBUILT), turn(f"more {image} 0", *FIND), turn("more same 0", *FIND_NEW))
+    for call in range(17, 34):
+        for image in range(0, 4, 2):
+            yield f"call {call} of the server's disk fails, within a rebuild, image {image}", input_of(
+                turn(f"run x 0 x {call}", *REBUILT), turn("more same 0", *FIND_NEW), turn(f"more same 0 {image} 0", *FIND_NEW))
+    yield "a rebuild at a server that lacks the update before", input_of(
+        turn("run x 0 x 0", *ADDED), turn(f"more same 0 x{journal_model.EMPTY.hex()} 0", *REBUILT[:1], f"rebuild {NEW}"))
+    yield "a server that lacks frames of the epoch before", input_of(
+        turn("run x 0 x 0 8+", *ADDED), turn("more same 0", KEY, f"rebuild {NEW}"), turn(f"more same 0 x{journal_model.EMPTY.hex()} 0", *FIND_NEW))
+
+
 def real_rows():
     for name, lines in RUNS.items():
         yield name, run_and_more(lines)
@@ -283,6 +337,7 @@ def real_rows():
     yield from opened_files()
     yield from failing_starts()
     yield from behind_an_old_record()
+    yield from rebuilds()
     for call in range(17, 26):
         for image in range(4):
             yield f"call {call} of the server's disk fails behind an addition, image {image}", each_call_of_the_server(
@@ -312,11 +367,14 @@ def real_rows():
 
 # Clients that go on, under the toy function, by their records and the numbers that a server expects: of the last four two values of the
 # last command are equal.
-TOY_RECORD = setup_record(words=(b"a", b"b"))
+TOY_RECORD, ADDITION_OF_B = setup_record(words=(b"a", b"b")), record_model.ADD + record_model.document(2, [b"b"])
 GONE_ON = {
     "a setup": ([TOY_RECORD], range(5)),
     "an addition": ([TOY_RECORD, ADDITION], range(2, 6)),
     "a deletion": ([TOY_RECORD, ADDITION, DELETION], range(3, 7)),
+    "a rebuild": ([TOY_RECORD, DELETION, ADDITION, TOY_RENEWAL], range(4, 10)),
+    "a rebuild behind a deletion": ([TOY_RECORD, ADDITION_OF_B, DELETION, TOY_RENEWAL], range(4, 10)),
+    "an addition behind a rebuild": ([TOY_RECORD, TOY_RENEWAL, ADDITION], range(5, 8)),
     "a setup with equal labels": ([setup_record(words=(b"da", b"ac"))], range(2, 4)),
     "a setup with equal places": (
         [setup_record(sizes=(2, 2), documents=[record_model.document(number, [b"a", b"e"]) for number in (1, 2, 3)])], range(3, 5)),
@@ -336,8 +394,9 @@ def toy_rows():
     for name, lines in TOY_RUNS.items():
         yield name, run_and_more(lines)
     for name, (payloads, numbers) in GONE_ON.items():
+        key = f"key {NEW}" if TOY_RENEWAL in payloads else KEY
         yield f"gone on from {name}", input_of(
-            *(turn(f"more x{journal(*payloads)} 0 replies x{expects(number).hex()}", KEY) for number in numbers))
+            *(turn(f"more x{journal(*payloads)} 0 replies x{expects(number).hex()}", key) for number in numbers))
     bad = {
         "a setup under another key": [setup_record(mark=bytes(16))],
         "a setup under another key, and a bad record": [setup_record(mark=bytes(16)), deletion + b"\0"],
@@ -346,7 +405,8 @@ def toy_rows():
         "a deletion of an unknown document": [setup_record(), deletion, deletion],
         "an addition of a live document": [setup_record(), addition, addition],
         "a record with a byte more": [setup_record(), addition + b"\0"],
-        "a record of another kind": [setup_record(), b"\x15" + TOY_MARK],
+        "a record of another kind": [setup_record(), b"\x16" + TOY_MARK],
+        "a rebuild under the key of the setup": [setup_record(), record_model.RENEWAL + TOY_MARK],
         "a record of a server": [bytes.fromhex("0200000000000100010000000100000000")],
         "a Q that is no power of two": [setup_record(pad=be(2, 3))],
     }

@@ -1,5 +1,5 @@
-"""Whether two histories look the same to a server, as a plain model: the table of the first one's values, moved so that it gives the
-second the same bytes, and what is printed of two scripts with a line `twin` between them. docs/FORMATS.md has the lines, and
+"""Whether two histories look the same to a server, as a plain model: the table of the first one's values, moved epoch by epoch so that it
+gives the second the same bytes, and what is printed of two scripts with a line `twin` between them. docs/FORMATS.md has the lines, and
 docs/LEAKAGE.md says in words what a moved table is.
 """
 from dataclasses import dataclass
@@ -7,7 +7,7 @@ from dataclasses import dataclass
 import leak_model as model
 import script_model
 
-# The names of a history, each by its part of a word's keys, its word and its number.
+# The names of an epoch, each by its part of a word's keys, its word and its number.
 
 TOKEN = 0
 
@@ -70,7 +70,7 @@ def looked_up_by(s, past, command):
 
 
 def uses(s, later, ranks):
-    """All that is drawn for a history, then all that is looked up for it, each with the text that it covers where it is a pad."""
+    """All that is drawn for an epoch, then all that is looked up for it, each with the text that it covers where it is a pad."""
     found = uses_of_setup(s, ranks)
     for way in (uses_by, looked_up_by):
         found += [use for part in model.over(lambda past, command, way=way: way(s, past, command), later) for use in part]
@@ -101,30 +101,41 @@ def ranks_by_place(tags, blocks):
     return dict(zip(blocks, (ranks[block] for block in tags)))
 
 
-def moved(key, history, other):
-    """The values of the names of the other history, in the order of their first places, moved from those of the first under a key;
-    or, as a number, the first command at which the two leak something else."""
-    leaks, others = model.leak(*history), model.leak(*other)
-    if leaks != others:
-        shared = min(len(leaks), len(others))
-        return next((k for k in range(shared) if leaks[k] != others[k]), shared)
-    tags = model.block_tags(key, history[0])
-    own = uses(*history, model.ranks_of(tags))
-    beside = uses(*other, ranks_by_place(tags, model.block_tags(key, other[0])))
+def moved_epoch(own, other):
+    """The values of the names of an epoch, in the order of their first places, moved from those of another one that leaks the same."""
+    tags = model.block_tags(own.key, own.setup)
+    first = uses(own.setup, own.later, model.ranks_of(tags))
+    second = uses(other.setup, other.later, ranks_by_place(tags, model.block_tags(own.key, other.setup)))
     values = {}
-    for (name, text), (second, covered) in zip(own, beside, strict=True):
-        values.setdefault(second, shifted(value_of(key, name, text), text, covered))
+    for (name, text), (moved_to, covered) in zip(first, second, strict=True):
+        values.setdefault(moved_to, shifted(value_of(own.key, name, text), text, covered))
     return values
 
 
-def sums(key, history, other):
+def moved(history, other):
+    """The values of the names of the other history's epochs, moved from those of the first; or, as a number, the first command at which the
+    two leak something else."""
+    leaks, others = model.leak(history), model.leak(other)
+    if leaks != others:
+        shared = min(len(leaks), len(others))
+        return next((k for k in range(shared) if leaks[k] != others[k]), shared)
+    return [moved_epoch(own, beside) for own, beside in zip(history, other, strict=True)]
+
+
+def sum_of(values):
+    """The sum of the bytes of values, epoch by epoch."""
+    return sum(sum(value) for of_epoch in values for value in of_epoch.values()) % 2**64
+
+
+def sent(history):
+    """The frames that are sent for a history."""
+    return [text for way, text in model.simulated(model.leak(history), model.draws(history)) if way == model.SENT]
+
+
+def sums(history, other):
     """How many frames are sent for the first history, how many bytes these have, and the sum of the bytes of the moved values."""
-    values = moved(key, history, other)
-    if isinstance(values, int):
-        return values
-    passed = model.simulated(model.leak(*history), model.draws(key, *history))
-    frames = [text for way, text in passed if way == model.SENT]
-    return len(frames), sum(map(len, frames)), sum(map(sum, values.values())) % 2**64
+    values, frames = moved(history, other), sent(history)
+    return values if isinstance(values, int) else (len(frames), sum(map(len, frames)), sum_of(values))
 
 
 # Two scripts.
@@ -136,16 +147,16 @@ def is_twin(line):
 
 def part_answer(lines, first):
     """The refusals of the lines of a script, of which the first has this number; the number of its bad line, which is that behind the
-    last where there is no setup, or None; and its key, its setup and the commands behind it."""
+    last where there is no setup, or None; and its history. A line `rebuild` is a bad one."""
     script = b"".join(line + b"\n" for line in lines)
-    printed, status = script_model.answer(script)
+    printed, status = script_model.answer(script, takes_rebuilds=False)
     told = printed.decode().splitlines()
     refusals = [line for line in told if line.startswith("refused: ")]
-    history = model.history_in(script)
+    history = model.history_in(script, takes_rebuilds=False)
     bad = None
     if status == 2:
         bad = first - 1 + int(told[-1].rpartition(" ")[2])
-    elif history[1] is None:
+    elif not history:
         bad = first + len(lines)
     return refusals, bad, history
 
@@ -154,17 +165,17 @@ def answer(script):
     """What the program prints of two scripts, and its status."""
     lines = script_model.lines_of(script)
     at = next((k for k, line in enumerate(lines) if is_twin(line)), None)
-    told, bad, (key, *history) = part_answer(lines[:at], 1)
+    told, bad, history = part_answer(lines[:at], 1)
     if bad is None and at is None:
         bad = len(lines) + 1
     if bad is None:
-        more, bad, (_, *other) = part_answer(lines[at + 1:], at + 2)
+        more, bad, other = part_answer(lines[at + 1:], at + 2)
         told += more
     status = 2
     if bad is not None:
         told.append(f"stopped: line {bad}")
     else:
-        counted = sums(key, history, other)
+        counted = sums(history, other)
         differ = isinstance(counted, int)
         status = 1 if told or differ else 0
         told.append(f"refused: leaks differ at command {counted}" if differ else
