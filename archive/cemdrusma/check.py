@@ -70,9 +70,9 @@ def journal(archive: Opened) -> Finding:
 
 def key(archive: Opened, has_journal: bool) -> Finding:
     digits, folder = archive.key(), archive.folder
-    if archive_opens(archive) and mark_of(digits) != archive.journal().mark():
-        raise Trouble(OTHER_KEY, f"{folder.key_place()} isn't the key of {on_a_line(archive.journal().path)}: put back the one that this archive was begun "
-                      "with; if there is none, `archive renew --server ADDRESS` makes a new key and sets all up again")
+    if archive_opens(archive) and mark_of(digits) != archive.journal().key_mark():
+        raise Trouble(OTHER_KEY, f"{folder.key_place()} isn't the key of {on_a_line(archive.journal().path)}: put back the one that this archive has had "
+                      "last; if there is none, `archive renew --server ADDRESS` makes a new key and sets all up again")
     return 0, f"{folder.key_place()} is the journal's" if has_journal or archive_opens(archive) else f"{folder.key_place()} is one"
 
 

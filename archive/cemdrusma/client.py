@@ -255,7 +255,7 @@ def trouble_of(session: Session, line: str, status: int) -> Trouble:
                    f"stops once more, {renew} with a server over a new file",
         OTHER_SERVER: f"what answers at {address} isn't {session.served}, or isn't this archive's: name another address {session.naming}",
         NO_JOURNAL: f"{journal} isn't what this archive left there: put the folder back from a copy and run {renew}",
-        OTHER_KEY: f"{session.key_place()} isn't the key of {journal}: put back the one that this archive was begun with; if there is none, "
+        OTHER_KEY: f"{session.key_place()} isn't the key of {journal}: put back the one that this archive has had last; if there is none, "
                    f"{renew} makes a new key and sets all up again",
     }
     return Trouble(status or 1, told.get(status, "the client has stopped") + said)

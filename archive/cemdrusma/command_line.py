@@ -21,7 +21,8 @@ DESCRIPTION = """An archive of mails, notes and files, which a server keeps sear
   archive show NUMBER                    prints a text
   archive status                         prints what is indexed, and whether the server has all of it
   archive check                          looks whether anything is broken, and says what to do
-  archive renew --server ADDRESS         sets all up again under a new key at a new server: after every restore
+  archive renew                          takes a new key at the same server, where what was deleted is gone then
+                --server ADDRESS         sets all up again under a new key at a new server: after every restore
   archive restore FOLDER --key FILE --vault ADDRESS    writes the texts at a vault into FOLDER, from its key alone
   archive set vault ADDRESS              names the vault of an archive that is there already
   archive backup FILE                    makes a copy of what `renew` needs
@@ -50,10 +51,11 @@ has several texts they are listed."""
 STATUS = """Prints what is indexed, what is still to do, and whether the server and the vault have all of it."""
 CHECK = """Looks at the key, the journal, the texts, the server and the vault, searches a word of each of ten texts, and fetches ten pieces of texts. Prints
 a line for each, with what to do if something is wrong. The server learns the ten searches, the vault the ten pieces."""
-RENEW = """Makes a new key and a new journal, and sets up all documents of the journal at the server at ADDRESS, which has taken nothing yet. The
-archive stays as it is until that server has answered. This mends a server that lost updates, a key that others know, a
-folder that was put back from a copy, and a journal that has grown too large. If the archive has a vault its key is made anew too, and all
-texts are put at the vault at the address of --vault, which has taken nothing yet."""
+RENEW = """Makes a new key, and sets up everything live again under it at the same server: what others learn of the old key opens nothing that is
+there from then on, and what was deleted is gone from the lists. With --server it also makes a new journal, and sets up all documents of the
+journal at the server at ADDRESS, which has taken nothing yet; the archive stays as it is until that server has answered. This mends a server
+that lost updates, a folder that was put back from a copy, and a journal that has grown too large. If the archive has a vault its key is made
+anew too, and all texts are put at the vault at the address of --vault, which has taken nothing yet."""
 RESTORE = """Writes the files at the vault at ADDRESS into FOLDER, which isn't there yet or is empty, from the vault's key alone. A file of which a piece is
 missing or forged is named, and the others are written. With --server and --new-vault an archive of them is made too, in the folder that
 --archive names, under new keys and at servers that have taken nothing yet; nothing goes on at the old vault."""
@@ -125,8 +127,8 @@ def parser() -> argparse.ArgumentParser:
     one.add_argument("--offline", action="store_true", help="don't ask the server")
     command("check", CHECK)
     one = command("renew", RENEW)
-    one.add_argument("--server", metavar="ADDRESS", required=True, type=settings.address_in, help="host:port of the new server")
-    one.add_argument("--owner", metavar="N", default=None, type=settings.owner_in, help="the number of this archive's owner there (as before)")
+    one.add_argument("--server", metavar="ADDRESS", type=settings.address_in, help="host:port of a new server (the same one)")
+    one.add_argument("--owner", metavar="N", default=None, type=settings.owner_in, help="the number of this archive's owner at a new server (as before)")
     one.add_argument("--key-command", metavar="CMD", default=None, type=settings.command_in, help=KEY_COMMAND)
     one.add_argument("--vault", metavar="ADDRESS", type=settings.address_in, help="host:port of the new vault")
     one = command("restore", RESTORE)
@@ -265,6 +267,12 @@ def in_folder(asked: argparse.Namespace, archive: Opened) -> int:
             from .check import check
 
             return check(archive, progress)
+        if asked.command == "renew" and not asked.server:
+            from .new_key import take_new_key
+
+            if asked.owner is not None:
+                raise Trouble(WORDS, "--owner is for a new server: name its address by --server")
+            return take_new_key(archive, asked.key_command or "", asked.vault or "", progress)
         if asked.command == "renew":
             from .renew import renew
 

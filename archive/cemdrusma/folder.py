@@ -11,6 +11,7 @@
 | vault | the records of sse_vault, which decide what is at the vault: vault_journal.py |
 | lock | where the kept process listens, if there is one; whoever works in the folder has it locked |
 | attempts | how often something was to be sent: state.py |
+| key.next | while `archive renew` takes a new key at the same server: that key, or the command that prints it, and its mark |
 | renewed | while `archive renew` runs: the files that are to take the places of those above |
 
 Whatever is written here is written whole (files.py).
@@ -20,7 +21,7 @@ from __future__ import annotations
 import contextlib
 import fcntl
 import os
-from typing import Callable, List, Optional, Tuple
+from typing import Callable, Dict, List, Optional, Tuple
 
 from . import key, state
 from .files import sync_folder, write_whole
@@ -32,10 +33,12 @@ from .state import ATTEMPTS, State
 from .statuses import DISK, KEY_COMMAND, LOCKED, WORDS, Trouble
 from .vault_journal import VAULT, VAULT_KEY, VaultJournal
 
-TEXTS, SEARCHES, LOCK, RENEWED = "texts", "searches", "lock", "renewed"
+TEXTS, SEARCHES, LOCK, RENEWED, NEXT = "texts", "searches", "lock", "renewed", "key.next"
 # what takes the places of the archive's files once a new server has answered; and the file that says that it has
 TAKES_PLACE = (KEY, JOURNAL, VAULT_KEY, VAULT, ATTEMPTS, TEXTS, SEARCHES, SETTINGS)
 READY = "ready"
+# a line of that file: what it doesn't name stays
+ONLY = "only"
 # what stays if the renewed archive has none: without a vault now, its texts are still there
 IS_KEPT = (VAULT_KEY, VAULT)
 VARIABLE = "SSE_ARCHIVE"
@@ -70,6 +73,7 @@ class Folder:
         self.settings = self.read_settings()
         self.lock = self.take_lock()
         self.finish_renewal()
+        self.finish_new_key()
 
     def of(self, name: str) -> str:
         return os.path.join(self.path, name)
@@ -123,7 +127,7 @@ class Folder:
                 made = os.path.join(renewed, name)
                 if os.path.exists(made):
                     os.replace(made, self.of(name))
-                elif name not in names and name not in IS_KEPT and os.path.exists(self.of(name)):
+                elif name not in names and name not in IS_KEPT and ONLY not in names and os.path.exists(self.of(name)):
                     os.remove(self.of(name))
             sync_folder(self.path)
             for name in os.listdir(renewed):
@@ -136,6 +140,46 @@ class Folder:
             raise Trouble(DISK, f"the renewed files in {on_a_line(renewed)} can't take their places: {error.strerror}. Mend that and run the command "
                           "again: nothing is lost") from error
         self.settings = self.read_settings()
+
+    def keep_new_key(self, digits: str, key_command: str) -> None:
+        """Keeps a key before it is taken at the server; one that a command prints isn't written here."""
+        lines = [f"mark {key.mark_of(digits).hex()}", f"key-command {key_command}" if key_command else f"key {digits}"]
+        write_whole(self.of(NEXT), "".join(line + "\n" for line in lines).encode())
+
+    def new_key_kept(self) -> Dict[str, str]:
+        """The lines of the file of a new key; none without one."""
+        try:
+            with open(self.of(NEXT), encoding="utf-8") as file:
+                return dict(line.split(" ", 1) for line in file.read().splitlines())
+        except (FileNotFoundError, ValueError):
+            return {}
+
+    def finish_new_key(self) -> None:
+        """If the journal has the rebuild under the key that was kept for it, that is the archive's key from now on."""
+        lines = self.new_key_kept()
+        if not lines:
+            return
+        journal = Journal(self.path)
+        if not journal.records or journal.key_mark().hex() != lines.get("mark"):
+            return
+        state.remember(journal, journal.key_mark())  # no other archive takes this key
+        if "key" in lines:
+            write_whole(self.of(KEY), (lines["key"] + "\n").encode())
+        else:
+            self.settings.key_command = lines["key-command"]
+            self.keep_settings()
+        self.drop_new_key()
+
+    def drop_new_key(self) -> None:
+        """The key that was kept to be taken isn't any more."""
+        try:
+            if self.settings.key_command:
+                with contextlib.suppress(FileNotFoundError):
+                    os.remove(self.of(KEY))
+            os.remove(self.of(NEXT))
+            sync_folder(self.path)
+        except OSError as error:
+            raise Trouble(DISK, f"{self.shown(NEXT)} can't be removed: {error.strerror}. Mend that and run the command again: nothing is lost") from error
 
     # Key and state.
 

@@ -15,7 +15,7 @@ JOURNAL = "journal"
 MAGIC = b"SSEJRNL1"
 PAYLOAD_BYTES = 2**27
 SETUPS = {0x14: 23, 0x11: 21}  # a setup's kind: where the count of its documents stands
-ADDITION, DELETION = 0x12, 0x13
+ADDITION, DELETION, REBUILD = 0x12, 0x13, 0x15
 MARK_BYTES = 16
 WORD_BYTES = 64
 # a word of so many bytes has a digit's byte as its length, which may stand within another word
@@ -141,12 +141,18 @@ class Journal(Records):
         self.starts: List[int] = []
         self.stops: List[int] = []
         self.identifiers: List[int] = []
+        self.marks: List[bytes] = []  # of the key of the setup, and of each that a rebuild took
         super().__init__(folder, JOURNAL)
 
     def take(self, begin: int, end: int) -> None:
-        if not self.ends and self.content[begin] not in SETUPS:
+        kind = self.content[begin]
+        if (not self.ends) != (kind in SETUPS):
             raise NoJournal(begin)
-        if self.content[begin] == DELETION:
+        if kind in SETUPS or kind == REBUILD:
+            self.marks.append(bytes(self.content[begin + 1 : begin + 1 + MARK_BYTES]))
+        if kind == REBUILD:
+            pass  # what is live stays as it is
+        elif kind == DELETION:
             self.live.pop(int.from_bytes(self.content[begin + 1 : end], "big"), None)
         else:
             for identifier, count, start, stop in documents(self.content, begin, end):
@@ -156,6 +162,10 @@ class Journal(Records):
                 self.stops.append(stop)
                 self.identifiers.append(identifier)
         self.ends.append(end)
+
+    def key_mark(self) -> bytes:
+        """The mark of the key that opens the journal; there has to be a record."""
+        return self.marks[-1]
 
     # The words of documents.
 
@@ -216,23 +226,28 @@ class Journal(Records):
 
     # As a script.
 
-    def script(self, searches: Sequence[Tuple[int, str]]) -> Iterator[str]:
-        """The lines of the script that the records give, with the searches among them; without a key line."""
-        left = list(reversed(searches))
-        for number, (begin, end) in enumerate(payloads(self.content)):
-            yield from self.lines(begin, end)
+    def scripts(self, searches: Sequence[Tuple[int, str]]) -> Iterator[List[str]]:
+        """The lines of a script for each epoch that the records give, with the searches among them; without key lines. A rebuild is the setup of what is
+        live then."""
+        live: Dict[int, str] = {}  # the words of each document, as they stand on a line
+        script, setup, left, content = [], "", list(reversed(searches)), self.content
+        for number, (begin, end) in enumerate(payloads(content)):
+            kind = content[begin]
+            if kind == REBUILD:
+                yield script
+                script = [*(f"doc {identifier}{words}" for identifier, words in sorted(live.items())), setup]
+            elif kind == DELETION:
+                identifier = int.from_bytes(content[begin + 1 : end], "big")
+                live.pop(identifier, None)
+                script.append(f"del {identifier}")
+            else:
+                for identifier, count, place, _ in documents(content, begin, end):
+                    live[identifier] = "".join(f" {word}" for word in words_at(content, place, count))
+                    script.append(f"{'add' if kind == ADDITION else 'doc'} {identifier}{live[identifier]}")
+            if kind in SETUPS:
+                sizes = [int.from_bytes(content[place : place + 2], "big") for place in range(begin + 17, begin + SETUPS[kind], 2)]
+                setup = " ".join(["setup", *map(str, sizes)])
+                script.append(setup)
             while left and left[-1][0] <= number + 1:
-                yield f"find {left.pop()[1]}"
-
-    def lines(self, begin: int, end: int) -> Iterator[str]:
-        content = self.content
-        kind = content[begin]
-        if kind == DELETION:
-            yield f"del {int.from_bytes(content[begin + 1 : end], 'big')}"
-            return
-        line = "add" if kind == ADDITION else "doc"
-        for identifier, count, place, _ in documents(content, begin, end):
-            yield " ".join([line, str(identifier), *words_at(content, place, count)])
-        if kind in SETUPS:
-            sizes = [int.from_bytes(content[place : place + 2], "big") for place in range(begin + 17, begin + SETUPS[kind], 2)]
-            yield " ".join(["setup", *map(str, sizes)])
+                script.append(f"find {left.pop()[1]}")
+        yield script

@@ -157,6 +157,11 @@ class Opened:
         self.ahead = Session(self.folder, MORE)
         self.ahead.tell(f"key {digits}")
 
+    def started(self) -> Session:
+        """A client of its own that goes on from the journal."""
+        self.end_session()
+        return Session(self.folder, MORE)
+
     def has_client(self) -> bool:
         return self.session is not None and not self.session.has_ended
 

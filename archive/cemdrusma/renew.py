@@ -1,4 +1,4 @@
-"""`archive renew`: all documents of the journal are set up again, under a new key and with a new journal, at a server that has taken
+"""`archive renew --server`: all documents of the journal are set up again, under a new key and with a new journal, at a server that has taken
 nothing yet. The new files are made in the folder `renewed` within the archive's, and take their places once the server has answered,
 so a stop at any moment leaves either archive, whole; the same command then goes on."""
 from __future__ import annotations
@@ -23,6 +23,7 @@ from .report import counted, nearer, on_a_line
 from .settings import Settings
 from .statuses import DISK, LOCKED, NO_JOURNAL, NO_STATE, OLDER_JOURNAL, OLDER_SERVER, OTHER_KEY, OTHER_SERVER, REFUSED, WORDS, Trouble
 from .storing import Counts, Storing, Wanted, part_again
+from .texts_file import Texts
 from .vault import plan
 from .vault_journal import VAULT, VAULT_KEY, VaultJournal
 
@@ -32,17 +33,8 @@ PLAN = "plan"
 
 def renew(archive: Opened, server: str, owner: Optional[int], key_command: str, new_vault: str, progress: Progress) -> int:
     """Sets all up again, as the same owner if no other is given, and prints what was done. Returns the status."""
-    folder, journal = archive.folder, archive.journal()
-    if not journal.records:
-        if archive.texts().records:
-            raise no_journal(folder, archive.texts().records)
-        raise nothing_indexed()
-    if folder.settings.key_command and not key_command:
-        raise Trouble(WORDS, f"this archive's key is printed by `{on_a_line(folder.settings.key_command)}`: have another key printed, and name that command by "
-                      "--key-command")
-    if folder.settings.vault and not new_vault:
-        raise Trouble(WORDS, f"this archive's texts are at the vault {folder.settings.vault}, whose key is renewed too: start a vault over a new file, and name its address "
-                      "by --vault")
+    may_renew(archive, key_command, new_vault)
+    folder = archive.folder
     archive.texts()
     archive.end_session()
     known = folder.settings
@@ -56,13 +48,31 @@ def renew(archive: Opened, server: str, owner: Optional[int], key_command: str, 
     progress.end()
     place = f"what `{on_a_line(key_command)}` prints" if key_command else on_a_line(nearer(folder.of(KEY)))
     print(f"renewed: {counted(count, 'document')} at {server}. The new key is {place}: keep a copy of it elsewhere")
-    if renewed.stored:
-        print(f"stored: {counted(renewed.stored.put + renewed.stored.stayed, 'text')} at {new_vault}")
-        tell_vault_key(nearer(folder.of(VAULT_KEY)))
-    print("The old keys, servers and their files aren't needed any more; `archive index` sends what has changed since" if renewed.stored else
+    stored = renewed.new_vault.stored
+    tell_stored(folder, stored)
+    print("The old keys, servers and their files aren't needed any more; `archive index` sends what has changed since" if stored else
           "The old key, the old server and its file aren't needed any more; `archive index` sends what has changed since")
     renewed.reading.tell()
     return REFUSED if renewed.reading.places else 0
+
+
+def may_renew(archive: Opened, key_command: str, new_vault: str) -> None:
+    """Raises what is missing for a new key: a journal, a command for one that is printed, an empty vault for texts that are at one."""
+    settings = archive.folder.settings
+    if not archive.journal().records:
+        if archive.texts().records:
+            raise no_journal(archive.folder, archive.texts().records)
+        raise nothing_indexed()
+    if settings.key_command and not key_command:
+        raise Trouble(WORDS, f"this archive's key is printed by `{on_a_line(settings.key_command)}`: have another key printed, and name that command by --key-command")
+    if settings.vault and not new_vault:
+        raise Trouble(WORDS, f"this archive's texts are at the vault {settings.vault}, whose key is renewed too: start a vault over a new file, and name its address by --vault")
+
+
+def tell_stored(folder: Folder, stored: Optional[Counts]) -> None:
+    if stored:
+        print(f"stored: {counted(stored.put + stored.stayed, 'text')} at {folder.settings.vault}")
+        tell_vault_key(nearer(folder.of(VAULT_KEY)))
 
 
 class Renewed:
@@ -72,8 +82,8 @@ class Renewed:
         self.folder: Folder = archive.folder
         self.old, self.texts = archive.journal(), archive.texts()
         self.settings, self.key_command, self.vault, self.progress = settings, settings.key_command, settings.vault, progress
-        self.stored: Optional[Counts] = None
         self.reading = sources.Reading()
+        self.new_vault = NewVault(archive.folder, self.texts, settings, self.reading, progress)
         self.place = self.folder.of(RENEWED)
         self.identifiers: Dict[int, int] = {}
         self.digits = ""
@@ -100,7 +110,7 @@ class Renewed:
         with Session(self.folder, MORE, self.place, self.settings) as session:
             session.greet(self.digits)
         if self.vault:
-            self.store()
+            self.new_vault.store()
         self.keep_texts()
         write_whole(self.of(SEARCHES), b"")
         names = [name for name in TAKES_PLACE if os.path.exists(self.of(name))]
@@ -159,8 +169,8 @@ class Renewed:
         if self.begun and not self.journal.records:
             self.unsent = self.begun, state.attempts_of(self.place)
         self.digits = new_key(self.key_command, self.is_taken)
-        if key.mark_of(self.digits) == self.old.mark():
-            raise Trouble(WORDS, f"`{on_a_line(self.key_command)}` prints the key that this archive has: have it print another one")
+        if key.mark_of(self.digits) in self.old.marks:
+            raise Trouble(WORDS, f"`{on_a_line(self.key_command)}` prints a key that this archive has or had: have it print another one")
         self.let_go_of_unsent()
         shutil.rmtree(self.place, ignore_errors=True)
         try:
@@ -222,7 +232,40 @@ class Renewed:
                 "vault": self.vault, "identifiers": self.identifiers}
         write_whole(self.of(PLAN), json.dumps(plan).encode())
 
-    # The texts.
+    # What both do.
+
+    def take(self, lines: Iterable[str]) -> None:
+        for line in lines:
+            if line.startswith("refused: "):
+                raise Trouble(1, f"the new server's client refuses a document of the journal ({line}): the archive stays as it was")
+            self.journal.go_on()
+            state.remember(self.journal, self.journal.mark(), False)
+            self.progress.show("{:,} of {:,} documents are there", len(self.journal.live), len(self.wanted))
+        if self.journal.records:
+            state.remember(self.journal, self.journal.mark())
+
+    def keep_texts(self) -> None:
+        """The names of the texts, with their new identifiers; without names if those were lost."""
+        if not self.texts.is_there:
+            return
+        for _, text in self.texts.every():
+            text.identifiers = [self.identifiers[identifier] for identifier in text.identifiers or ()]
+        self.texts.leaving = {}
+        self.texts.records = self.journal.records
+        self.texts.path = self.of(TEXTS)
+        self.texts.keep()
+
+
+class NewVault:
+    """The vault that is to take the place of the one that is there: its key and its journal are made in the folder of the renewed files."""
+
+    def __init__(self, folder: Folder, texts: Texts, settings: Settings, reading: sources.Reading, progress: Progress) -> None:
+        self.folder, self.texts, self.settings, self.reading, self.progress = folder, texts, settings, reading, progress
+        self.place = folder.of(RENEWED)
+        self.stored: Optional[Counts] = None
+
+    def of(self, name: str) -> str:
+        return os.path.join(self.place, name)
 
     def store(self) -> None:
         """Puts all texts at the new vault. If one that was begun before can't be gone on with, it begins under another key."""
@@ -270,29 +313,6 @@ class Renewed:
             return VaultJournal(self.folder.path)
         except Trouble:
             return None
-
-    # What both do.
-
-    def take(self, lines: Iterable[str]) -> None:
-        for line in lines:
-            if line.startswith("refused: "):
-                raise Trouble(1, f"the new server's client refuses a document of the journal ({line}): the archive stays as it was")
-            self.journal.go_on()
-            state.remember(self.journal, self.journal.mark(), False)
-            self.progress.show("{:,} of {:,} documents are there", len(self.journal.live), len(self.wanted))
-        if self.journal.records:
-            state.remember(self.journal, self.journal.mark())
-
-    def keep_texts(self) -> None:
-        """The names of the texts, with their new identifiers; without names if those were lost."""
-        if not self.texts.is_there:
-            return
-        for _, text in self.texts.every():
-            text.identifiers = [self.identifiers[identifier] for identifier in text.identifiers or ()]
-        self.texts.leaving = {}
-        self.texts.records = self.journal.records
-        self.texts.path = self.of(TEXTS)
-        self.texts.keep()
 
 
 def shuffled(some: Iterable[int]) -> Sequence[int]:

@@ -29,6 +29,10 @@ def deletion(identifier: int) -> bytes:
     return b"\x13" + identifier.to_bytes(8, "big")
 
 
+def rebuild(digits: str) -> bytes:
+    return b"\x15" + mark_of(digits)
+
+
 def content_of(records: Sequence[bytes]) -> bytes:
     return MAGIC + b"".join(b"\1" + len(record).to_bytes(4, "big") + record for record in records) + b"\0"
 

@@ -12,7 +12,7 @@ from cemdrusma.folder import Folder
 from cemdrusma.settings import Settings
 from cemdrusma.statuses import DISK, KEY_COMMAND, LOCKED, NO_KEY, WORDS, Trouble
 from cemdrusma.texts_file import Texts
-from tests.journals import DIGITS, addition, journal_in, setup
+from tests.journals import DIGITS, addition, journal_in, rebuild, setup
 
 SIZES = {"b": 64, "B": 256, "Q": 4096}
 
@@ -151,6 +151,18 @@ class FolderTest(unittest.TestCase):
         digits = made.key()
         made.finish_renewal()
         self.assertEqual(made.key(), digits)
+
+    def test_a_new_key_takes_its_place_once_the_journal_has_it(self) -> None:
+        made = self.make()
+        first = made.key()
+        records = [setup({1: ["x"]}, first)]
+        journal_in(self.path, records)
+        made.keep_new_key("11" * 32, "")
+        made.finish_new_key()
+        self.assertEqual((made.key(), made.new_key_kept()["key"]), (first, "11" * 32))
+        journal_in(self.path, [*records, rebuild("11" * 32)])
+        made.finish_new_key()
+        self.assertEqual((made.key(), made.new_key_kept()), ("11" * 32, {}))
 
     def test_a_file_that_cannot_be_written(self) -> None:
         with self.assertRaises(Trouble) as raised:

@@ -4,8 +4,9 @@ import unittest
 from unittest import mock
 
 from cemdrusma.journal import Journal
+from cemdrusma.key import mark_of
 from cemdrusma.statuses import NO_JOURNAL, Trouble
-from tests.journals import addition, content_of, deletion, journal_in, setup
+from tests.journals import DIGITS, addition, content_of, deletion, journal_in, rebuild, setup
 
 
 class JournalTest(unittest.TestCase):
@@ -45,6 +46,19 @@ class JournalTest(unittest.TestCase):
     def test_an_identifier_that_is_added_again_holds_the_new_words(self) -> None:
         journal = journal_in(self.folder, [setup({3: ["old"]}), deletion(3), addition(3, ["new"])])
         self.assertEqual((journal.holders("old"), journal.holders("new"), journal.words(3)), (set(), {3}, ["new"]))
+
+    def test_a_rebuild_leaves_what_is_live_and_takes_another_key(self) -> None:
+        journal = journal_in(self.folder, [*self.records, rebuild("11" * 32), addition(7, ["wall"]), deletion(3)])
+        self.assertEqual((sorted(journal.live), journal.holders("wall"), journal.words(5)), ([4, 5, 7], {5, 7}, ["wall", "e"]))
+        self.assertEqual((journal.mark(), journal.key_mark(), journal.marks), (mark_of(DIGITS), mark_of("11" * 32), [mark_of(DIGITS), mark_of("11" * 32)]))
+        self.assertEqual(list(journal.scripts([(4, "wall"), (5, "wall"), (7, "e")])), [
+            ["doc 3 garden wall", "doc 9 wall", "setup 64 256 4096", "add 4 walls wallpaper", "del 9", "add 5 wall e", "find wall"],
+            ["doc 3 garden wall", "doc 4 walls wallpaper", "doc 5 wall e", "setup 64 256 4096", "find wall", "add 7 wall", "del 3", "find e"]])
+
+    def test_a_rebuild_first_is_none(self) -> None:
+        with self.assertRaises(Trouble) as raised:
+            journal_in(self.folder, [rebuild("11" * 32)])
+        self.assertEqual(raised.exception.status, NO_JOURNAL)
 
     def test_records_that_come_later_are_taken(self) -> None:
         journal = journal_in(self.folder, self.records[:2])
@@ -95,7 +109,7 @@ class JournalTest(unittest.TestCase):
 
     def test_the_script_with_searches_among_the_records(self) -> None:
         journal = journal_in(self.folder, self.records)
-        self.assertEqual(list(journal.script([(1, "wall"), (4, "e")])),
+        self.assertEqual(next(journal.scripts([(1, "wall"), (4, "e")])),
                          ["doc 3 garden wall", "doc 9 wall", "setup 64 256 4096", "find wall", "add 4 walls wallpaper", "del 9", "add 5 wall e", "find e"])
 
 
