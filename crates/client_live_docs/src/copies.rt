@@ -8,6 +8,7 @@ ghost use Rattle.client_registry.specs.WordBytes.{word_bytes};
 use client_registry::{Doc, DocFault, DocId, Docs, DocsFault, HashKeys, Word};
 use std::alloc::{AllocError, Global};
 
+// Promise P76, also here; clauses: ensures
 /// The same document again.
 pub fn copy_doc(alloc: Global, doc: &Doc) -> Result<Doc, AllocError>
     ensures { IfOk result (λ copy. copy ≡ doc.now) }
@@ -17,6 +18,7 @@ pub fn copy_doc(alloc: Global, doc: &Doc) -> Result<Doc, AllocError>
     document_of(alloc, doc.id(), words)
 }
 
+// Promise P76, also here; clauses: documents
 /// The same documents again, hashed under these keys.
 pub fn copy_docs(alloc: Global, docs: &Docs, keys: HashKeys) -> Result<Docs, AllocError>
     ensures documents { IfOk result (λ copy. copy.documents ≡ docs.now.documents) }

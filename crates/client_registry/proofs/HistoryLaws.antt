@@ -13,7 +13,7 @@ use Rattle.client_registry.specs.Acceptance.{frames_needed, size_refusal}
 use Rattle.client_registry.specs.Command.{Command, Add, Delete, Search, is_update}
 use Rattle.client_registry.specs.Document.{Document}
 use Rattle.client_registry.specs.Documents.{IsCollected}
-use Rattle.client_registry.specs.Histories.{is_set_up, begun_by, longer, renewed, commands_in, is_live_in, is_listed_in, counter_in, frames_in, accepts, IsWhole, IsOneEpoch, IsKept, IsFirstOf, found_by, found_in_turn}
+use Rattle.client_registry.specs.Histories.{is_set_up, begun_by, longer, renewed, commands_in, is_live_in, is_listed_in, counter_in, frames_in, accepts, IsWhole, IsKept, IsFirstOf, found_by, found_in_turn}
 use Rattle.client_registry.specs.Live.{matching_in}
 use Rattle.client_registry.specs.Over.{over}
 use Rattle.client_registry.specs.Epochs.{begins, next_begins, key_now, joined, AreEpochs, setup_renewed, with_commands, with_renewal, Step, Does, Renews, step_after}
@@ -70,18 +70,6 @@ module _ {A : Type 0} (g : List ℕ → Offsets → Run → List A) (more : List
       let later = joined-first (with_renewal own es) steps in
       let here = g own (next_begins es) (record { setup = setup_renewed (last_run es); later = [] }) in
       (here ++ later.0, later.1 ∙ append_assoc (joined g key es) here later.0)
-
--- A history of one epoch is whole, and stays of one epoch with more commands.
-
-pub IsWhole-one_epoch : (h : History) → IsOneEpoch h → IsWhole h
-IsWhole-one_epoch None one = tt
-IsWhole-one_epoch (Some (From o run)) one = one
-IsWhole-one_epoch (Some (Renewed before key run)) one = absurd one
-
-pub IsOneEpoch-longer : (h : History) (commands : List Command) → IsOneEpoch h → IsOneEpoch (longer commands h)
-IsOneEpoch-longer None commands one = tt
-IsOneEpoch-longer (Some (From o run)) commands one = one
-IsOneEpoch-longer (Some (Renewed before key run)) commands one = absurd one
 
 -- The first part of a history.
 

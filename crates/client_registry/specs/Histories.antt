@@ -42,12 +42,6 @@ abbrev pub IsWhole : History → Type 0
 IsWhole None = Unit {0}
 IsWhole (Some es) = first_begins es ≡ at_first
 
--- and no renewal is in it
-abbrev pub IsOneEpoch : History → Type 0
-IsOneEpoch None = Unit {0}
-IsOneEpoch (Some (From o run)) = o ≡ at_first
-IsOneEpoch (Some (Renewed before key run)) = ⊥
-
 -- whether the document of this identifier is live
 abbrev pub is_live_in : History → ℕ → Bool
 is_live_in h id = is_live (live_of h) id

@@ -1,5 +1,5 @@
-pub mod Fronts
 pub mod Refusals
 pub mod FirstSeen
 pub mod EpochLaws
 pub mod LiveFaults
+pub mod EpochLists

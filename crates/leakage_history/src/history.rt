@@ -11,9 +11,9 @@ ghost use Rattle.leakage_history.specs.HashedRun.{run_of};
 ghost use Rattle.leakage_history.specs.Refusal.{is_accepted_by, push_refusal};
 
 use crate::command::Command;
-use crate::copies::copy_docs;
 use crate::fault::HistoryFault;
 use crate::registration::register;
+use client_live_docs::copy_docs;
 use client_registry::{Doc, DocId, Docs, HashKeys, Registry};
 use std::alloc::{AllocError, Global};
 use std::marker::Model;

@@ -12,7 +12,6 @@
 #![tactic(auto)]
 
 mod command;
-mod copies;
 mod epochs;
 mod fault;
 mod history;
@@ -22,7 +21,6 @@ mod renewed;
 mod run_words;
 
 pub use command::Command;
-pub use copies::{copy_doc, copy_docs};
 pub use epochs::Epochs;
 pub use fault::HistoryFault;
 pub use history::History;

@@ -117,6 +117,15 @@ impl<T: Tables> Store<T> {
         }
     }
 
+    // Promise P127, also here; clauses: ensures
+    /// Why the first append was refused that was, and nothing where none was. A store whose journal is broken has to be started
+    /// again before it takes an update frame.
+    pub fn broken(&self) -> Option<DeviceFault>
+        ensures { result ≡ broken_by self.now.journal }
+    {
+        self.journal.broken()
+    }
+
     // Promise P23 (user): A store acknowledges an update frame only after every crash would leave it; without an acknowledgement the store stays as it was.
     //   clauses: added, counted, stays; assumes: observable devices, disk model, earlier calls; not: The store after its disk failed: `stays` speaks of a journal that isn't broken.
     // Promise P26 (user): A crash while a store handles a frame leaves the earlier frames, with the frame in hand or without it.

@@ -3,7 +3,7 @@ use Rattle.std.proofs.lemmas.List.{append-nil, take_all}
 use Rattle.client_registry.specs.Documents.{all_words, first_seen, words_of}
 use Rattle.client_registry.specs.WordBytes.{word_bytes}
 use Rattle.leakage_history.proofs.FirstSeen.{first_seen-again, inserted_after}
-use Rattle.leakage_history.proofs.Fronts.{take-one_more}
+use Rattle.client_live_docs.proofs.Pushing.{take-one_more}
 use Rattle.leakage_history.proofs.run_words.insert_setup.Goals as goal
 
 pub loop-number-preserved : goal.loop-number-preserved
