@@ -8,6 +8,7 @@
 
 mod additions;
 mod collisions;
+mod lanes;
 mod row;
 mod searches;
 mod tables;

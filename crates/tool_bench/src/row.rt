@@ -1,6 +1,6 @@
 use crate::searches::{LONG, SHORT};
 use crate::tables::{Labels, fill, fill_plain};
-use crate::{additions, searches};
+use crate::{additions, lanes, searches};
 use keyed_fn::{Keyed, PreparedKey, Real, xor_pad};
 use server_core::Server;
 use server_tables::{BucketTables, SortedTables, TableFault, Tables};
@@ -8,13 +8,15 @@ use sha2::{Digest, Sha256};
 use std::alloc::{AllocError, Global};
 
 /// Each row, with the word that names it.
-pub(crate) const ROWS: [(&str, Row); 20] = [
+pub(crate) const ROWS: [(&str, Row); 22] = [
     ("prepared", Row::Prepared),
+    ("lanes", Row::Lanes),
     ("raw", Row::Raw),
     ("digests", Row::Digests),
     ("short_pads", Row::ShortPads),
     ("cell_pads", Row::CellPads),
     ("block_pads", Row::BlockPads),
+    ("pads", Row::Pads),
     ("sorted", Row::Sorted),
     ("buckets", Row::Buckets),
     ("alike", Row::Alike),
@@ -39,7 +41,9 @@ const KEY: [u8; 32] = [7; 32];
 pub(crate) enum Row {
     /// A value of the function under a key that was prepared once, at an input of 8 bytes: two blocks of SHA-256.
     Prepared,
-    /// The same under the key's bytes: four blocks.
+    /// Eight such values side by side: two blocks of SHA-256 in each of eight lanes.
+    Lanes,
+    /// A value under the key's bytes: four blocks.
     Raw,
     /// A digest of SHA-256 of 8 bytes: one block.
     Digests,
@@ -49,6 +53,8 @@ pub(crate) enum Row {
     CellPads,
     /// A pad of 512 bytes, as a block needs it with B = 64: eight blocks.
     BlockPads,
+    /// Eight pads of 64 bytes side by side: a block of ChaCha20 in each of eight lanes.
+    Pads,
     /// An addition into sorted tables, and its look-up once all are there.
     Sorted,
     /// The same into tables in buckets.
@@ -94,6 +100,8 @@ impl Row {
     pub(crate) fn run(self, alloc: Global, turns: u64) -> Result<u64, TableFault> {
         match self {
             Row::Prepared | Row::Raw | Row::Digests => Ok(self.hash(turns)),
+            Row::Lanes => Ok(lanes::hash(KEY, turns)),
+            Row::Pads => Ok(lanes::pads(KEY, turns)),
             Row::ShortPads | Row::CellPads | Row::BlockPads => Ok(self.encrypt(turns)),
             Row::Sorted => fill(&mut SortedTables::new(alloc), Labels::Spread, turns),
             Row::Buckets => fill_buckets(alloc, Labels::Spread, turns),

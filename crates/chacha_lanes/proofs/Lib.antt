@@ -1,0 +1,3 @@
+mod BlockWords
+mod Pads
+mod Rotations
