@@ -6,4 +6,3 @@ pub mod BesideLaws
 pub mod LeakLaws
 pub mod SetupLaws
 pub mod ListLaws
-pub mod EpochLeaks

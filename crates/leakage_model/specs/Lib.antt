@@ -1,4 +1,3 @@
-pub mod EpochRuns
 pub mod WordFacts
 pub mod Pairs
 pub mod PairsView

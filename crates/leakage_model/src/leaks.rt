@@ -1,18 +1,18 @@
-ghost use Rattle.std.specs.Prelude.{◌≡◌, ◌+◌, ◌<◌, ◌^◌, ◌++◌, ◌∷◌, [], ℕ, All, IfOk, List, None, OnOk, Some, length, map, sum_by, true};
+ghost use Rattle.std.specs.Prelude.{◌≡◌, ◌+◌, ◌<◌, ◌^◌, ◌++◌, ◌∷◌, [], ℕ, All, IfOk, List, None, OnOk, Some, length, map, true};
 ghost use Rattle.client_registry.specs.Acceptance.{size_refusal};
 ghost use Rattle.client_registry.specs.Command.{Command as Meant, Delete as deletes, Search as searches};
-ghost use Rattle.client_registry.specs.Histories.{IsWhole};
+ghost use Rattle.client_registry.specs.Epochs.{next_begins};
 ghost use Rattle.client_registry.specs.IdNumber.{id_number};
 ghost use Rattle.client_registry.specs.Numbered.{words_by_number};
 ghost use Rattle.client_registry.specs.Over.{over};
 ghost use Rattle.client_registry.specs.Registered.{facts, known_words};
-ghost use Rattle.client_registry.specs.Run.{Epochs, Offsets, at_first};
+ghost use Rattle.client_registry.specs.Run.{Offsets};
 ghost use Rattle.client_registry.specs.Setup.{Setup};
 ghost use Rattle.client_registry.specs.WordBytes.{word_bytes};
 ghost use Rattle.leakage_history.specs.Commands.{command_of};
-ghost use Rattle.leakage_history.specs.HashedRun.{HashedRun, run_of};
+ghost use Rattle.leakage_history.specs.HashedEpochs.{epochs_in};
+ghost use Rattle.leakage_history.specs.HashedRun.{run_of};
 ghost use Rattle.leakage_history.specs.Refusal.{is_accepted_by};
-ghost use Rattle.leakage_model.specs.EpochRuns.{runs_of};
 ghost use Rattle.leakage_model.specs.TrailFacts.{Follows};
 ghost use Rattle.leakage_frames.specs.Views.{leak_view, word_view};
 ghost use Rattle.def_leakage.specs.CommandLeaks as leakage;
@@ -23,7 +23,7 @@ use crate::setup_size::size_of_setup;
 use crate::trail::Trail;
 use client_registry::{DocId, Word};
 use leakage_frames::{Leak, WordLeak};
-use leakage_history::{Command, History};
+use leakage_history::{Command, Epochs, History};
 use sse_frames::Items;
 use std::alloc::{AllocError, Global};
 
@@ -177,23 +177,6 @@ fn leak_into(
     leaked
 }
 
-// Promise P42 (caller): A program gets the leakage of each command of a history, by the definitions of docs/LEAKAGE.md; or memory runs out.
-//   clauses: ensures; assumes: accepted setup, countable history; checks: .ci/leakage; not: How long it takes.
-/// What each command of a history leaks, the setup first: the shape of the index and its counts; of each word of an update
-/// what is sent for it and whether it was searched before; of a search the first search of its word, where the setup holds it, and
-/// what is listed with it and found. The history's setup has an index, and its commands can be numbered in 32 bits. It takes time in
-/// proportion to the commands and to the pairs that they name or find, but for a pair that was named before: it is found among those of
-/// its word by halving, where their identifiers rise in the order in which they were listed, and else by a hash.
-///
-/// Error: where there is no memory.
-pub fn leak(alloc: Global, history: &History) -> Result<Items<Leak>, AllocError>
-    requires sized { size_refusal history.now.setup ≡ None }
-    requires numbered { length history.now.later + 1 < 2 ^ 32 }
-    ensures { IfOk result (λ leaks. map leak_view leaks ≡ leakage.leak at_first (run_of history.now)) }
-{
-    leak_from(alloc, history, 0)
-}
-
 // Promise P42, also here; clauses: ensures
 /// What each command of an epoch leaks, if the epoch's setup is command number `first` of its history.
 ///
@@ -214,27 +197,31 @@ pub fn leak_from(alloc: Global, history: &History, first: u32) -> Result<Items<L
 }
 
 /// Appends what each command of these epochs leaks.
-fn leak_each(alloc: Global, epochs: &[History], leaks: &mut Items<Leak>) -> Result<(), AllocError>
-    requires sized { All (λ (h : HashedRun). size_refusal h.setup ≡ None) epochs.now }
-    requires numbered { sum_by (λ (h : HashedRun). length h.later + 1) epochs.now < 2 ^ 32 }
-    ensures { OnOk result ((es : Epochs) → IsWhole (Some es) → runs_of es ≡ map run_of epochs.now → map leak_view leaks.new ≡ map leak_view leaks.old ++ leak_in (Some es)) }
+fn leak_each(alloc: Global, epochs: &Epochs, leaks: &mut Items<Leak>) -> Result<(), AllocError>
+    requires { (next_begins (epochs_in epochs.now)).command < 2 ^ 32 }
+    ensures { OnOk result (map leak_view leaks.new ≡ map leak_view leaks.old ++ leak_in (Some (epochs_in epochs.now))) }
 {
     let mut first: u32 = 0;
-    for history in epochs {
+    for number in 0..epochs.len() {
+        let history = epochs.epoch(number);
         leak_into(alloc, history, leaks, first)?;
         first += history.len() as u32;
     }
     Ok(())
 }
 
-// Promise P42, also here; clauses: ensures
-/// What each command of a history leaks, given its epochs in turn. A renewal of the key leaks what a setup does.
+// Promise P42 (caller): A program gets the leakage of each command of a history, by the definitions of docs/LEAKAGE.md; or memory runs out.
+//   clauses: ensures; assumes: countable history; checks: .ci/leakage; not: How long it takes.
+/// What each command of a history leaks, the setup first: the shape of the index and its counts; of each word of an update
+/// what is sent for it and whether it was searched before; of a search the first search of its word, where the setup holds it, and
+/// what is listed with it and found. A renewal of the key leaks what a setup does. The commands can be numbered in 32 bits. It takes time
+/// in proportion to the commands and to the pairs that they name or find, but for a pair that was named before: it is found among those of
+/// its word by halving, where their identifiers rise in the order in which they were listed, and else by a hash.
 ///
 /// Error: where there is no memory.
-pub fn leak_epochs(alloc: Global, epochs: &[History]) -> Result<Items<Leak>, AllocError>
-    requires sized { All (λ (h : HashedRun). size_refusal h.setup ≡ None) epochs.now }
-    requires numbered { sum_by (λ (h : HashedRun). length h.later + 1) epochs.now < 2 ^ 32 }
-    ensures { IfOk result (λ leaks. (es : Epochs) → IsWhole (Some es) → runs_of es ≡ map run_of epochs.now → map leak_view leaks ≡ leak_in (Some es)) }
+pub fn leak_epochs(alloc: Global, epochs: &Epochs) -> Result<Items<Leak>, AllocError>
+    requires numbered { (next_begins (epochs_in epochs.now)).command < 2 ^ 32 }
+    ensures { IfOk result (λ leaks. map leak_view leaks ≡ leak_in (Some (epochs_in epochs.now))) }
 {
     let mut leaks = Items::new(alloc);
     match leak_each(alloc, epochs, &mut leaks) {

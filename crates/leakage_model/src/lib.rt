@@ -3,8 +3,8 @@
 //! the items. One pass goes over the commands with a `Trail`, a table by word of what a search of it would show. As
 //! long as identifiers rise, an addition only writes at the end of its words' lists, so a history costs in proportion
 //! to its commands and pairs.
-//! Proved: `leak` is the leakage of the definitions, command by command, or it is out of memory; `leak_epochs` is the same
-//! for a history of several epochs.
+//! Proved: `leak_epochs` is the leakage of the definitions, command by command through all epochs, or it is out of memory;
+//! `leak_from` is the same for one epoch.
 //! Not here: sending and keeping anything.
 //! Side: client.
 #![tactic(auto)]
@@ -18,5 +18,5 @@ mod trail_setup;
 mod trail_table;
 mod word_trail;
 
-pub use leaks::{leak, leak_epochs, leak_from};
+pub use leaks::{leak_epochs, leak_from};
 pub use trail::Trail;

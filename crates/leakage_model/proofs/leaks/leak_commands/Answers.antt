@@ -7,7 +7,7 @@ use Rattle.client_registry.proofs.OverLaws.{over-append}
 use Rattle.client_registry.specs.Over.{over}
 use Rattle.client_registry.specs.Run.{Offsets}
 use Rattle.client_registry.specs.Sized.{is_accepted}
-use Rattle.leakage_history.proofs.Fronts.{take-one_more}
+use Rattle.client_live_docs.proofs.Pushing.{take-one_more}
 use Rattle.leakage_history.proofs.Refusals.{accepted_after, accepted_by}
 use Rattle.leakage_history.specs.Commands.{command_of}
 use Rattle.leakage_frames.specs.Views.{leak_view}

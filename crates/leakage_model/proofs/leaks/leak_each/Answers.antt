@@ -1,55 +1,77 @@
-use Rattle.std.proofs.Common.{◌≡◌, ◌++◌, ◌∷◌, ◌+◌, ℕ, [], length, map, take, refl, sym, ap, subst, ◌∙◌, Some, arith}
-use Rattle.std.specs.Prelude.{slice_get, sum_by}
-use Rattle.std.proofs.lemmas.List.{length-map, length-take-le, map-append}
-use Rattle.std.proofs.lemmas.List.Sums.{sum_by_more, sum_by_more_le}
-use Rattle.std.proofs.lemmas.Option.{slice_get_read}
+use Rattle.std.proofs.Common.{◌++◌, List, map, take, sym, ap, ◌∙◌, arith}
+use Rattle.std.specs.Prelude.{flat_map}
+use Rattle.std.proofs.lemmas.List.{append-nil, flat_map_more, take_all}
+use Rattle.client_registry.specs.Run.{Run, Offsets}
 use Rattle.leakage_frames.specs.Views.{leak_view}
-use Rattle.leakage_history.proofs.Fronts.{take-one_more}
-use Rattle.leakage_history.specs.HashedRun.{HashedRun, run_of}
-use Rattle.leakage_model.proofs.EpochLeaks.{AreLeaks, leaks-more, leaks-none}
+use Rattle.def_leakage.specs.CommandLeaks.{leak}
+use Rattle.leakage_history.specs.HashedEpochs.{epochs_in}
+use Rattle.leakage_history.specs.HashedRun.{run_of}
+use Rattle.sse_simulator.specs.Leaks.{Leak}
+use Rattle.leakage_history.proofs.EpochLists.{IsHistory-epoch, begins_at, begins_at-more, commands_within, joined-listed, length-listed, listed, listed-more}
 use Rattle.leakage_model.proofs.leaks.leak_each.Goals as goal
 
--- how many commands an epoch has
-abbrev commands_of : HashedRun → ℕ
-commands_of h = length h.later + 1
+-- what an epoch leaks
+abbrev leaks_of : Offsets × Run → List Leak
+leaks_of e = leak e.0 e.1
 
-pub loop-history-init : goal.loop-history-init
-loop-history-init c = record {
-  leaks = leaks-none (map leak_view c.args.leaks.now) (map leak_view c.args.leaks.now) 0;
-  none = λ e. refl;
-  first = refl;
+pub loop-number-init : goal.loop-number-init
+loop-number-init c = record {
+  leaks = sym (append-nil (map leak_view c.args.leaks.now));
+  first = sym (ap (λ (o : Offsets). o.command) c.len-number-end.ensures.whole);
 }
+
+pub epoch-history-requires : goal.epoch-history-requires
+epoch-history-requires c = omega (arith, c.loop-number-test.true, c.len-number-end.ensures.len)
+
+pub leak_into-requires-clause-sized : goal.leak_into-requires-clause-sized
+leak_into-requires-clause-sized c =
+    (IsHistory-epoch (epochs_in c.args.epochs.now) c.loop-number.number (run_of c.epoch-history.result.now) c.len-number-end.ensures.valid c.epoch-history.ensures).setup
 
 pub leak_into-requires-clause-numbered : goal.leak_into-requires-clause-numbered
 leak_into-requires-clause-numbered c =
-    let h = c.history-item.result in
-    omega (arith, c.loop-history.invariant.first, sum_by_more_le commands_of c.args.epochs.now c.loop-history.history-index h c.loop-history-test.true, ap commands_of c.history-item.is, c.requires.numbered)
+    omega (arith, c.loop-number.invariant.first, commands_within (epochs_in c.args.epochs.now) c.loop-number.number (run_of c.epoch-history.result.now) c.epoch-history.ensures, c.requires)
+
+pub overflow_cast-first : goal.overflow_cast-first
+overflow_cast-first c =
+    omega (
+      arith,
+      commands_within (epochs_in c.args.epochs.now) c.loop-number.number (run_of c.epoch-history.result.now) c.epoch-history.ensures,
+      c.requires,
+      c.len.ensures.len,
+    )
 
 pub overflow_add-first : goal.overflow_add-first
 overflow_add-first c =
-    let h = c.history-item.result in
-    omega (arith, c.loop-history.invariant.first, sum_by_more_le commands_of c.args.epochs.now c.loop-history.history-index h c.loop-history-test.true, ap commands_of c.history-item.is, c.requires.numbered, c.len.ensures.len)
+    omega (
+      arith,
+      c.loop-number.invariant.first,
+      commands_within (epochs_in c.args.epochs.now) c.loop-number.number (run_of c.epoch-history.result.now) c.epoch-history.ensures,
+      c.requires,
+      c.len.ensures.len,
+    )
 
-pub loop-history-preserved : goal.loop-history-preserved
-loop-history-preserved c =
-    let epochs = c.args.epochs.now in
-    let i = c.loop-history.history-index in
-    let h = c.history-item.result in
-    let had = c.loop-history.invariant in
+pub loop-number-preserved : goal.loop-number-preserved
+loop-number-preserved c =
+    let es = epochs_in c.args.epochs.now in
+    let i = c.loop-number.number in
+    let run : Run = run_of c.epoch-history.result.now in
+    let o = begins_at es i in
+    let had = c.loop-number.invariant in
     let before = map leak_view c.args.leaks.now in
-    let leaks = map leak_view c.loop-history.leaks in
-    let front = map run_of (take i epochs) in
-    let at : slice_get epochs i ≡ Some h = slice_get_read epochs (length epochs) i h refl c.loop-history-test.true c.history-item.is in
-    let more : map run_of (take (i + 1) epochs) ≡ front ++ run_of h ∷ [] = ap (map run_of) (take-one_more epochs i h at) ∙ map-append run_of (take i epochs) (h ∷ []) in
     record {
       leaks =
-          subst (λ runs. AreLeaks runs before (map leak_view c.leak_into.new.leaks) (c.loop-history.first + c.len.result)) (sym more)
-          (subst (λ n. AreLeaks (front ++ run_of h ∷ []) before (map leak_view c.leak_into.new.leaks) (c.loop-history.first + n)) (sym c.len.ensures.len)
-          (leaks-more front (run_of h) before leaks (map leak_view c.leak_into.new.leaks) c.loop-history.first had.leaks
-          (λ e.
-          let zero : i ≡ 0 = omega (arith, ap length e, length-map (take i epochs) run_of, length-take-le i epochs (omega (arith, c.loop-history-test.true))) in
-          (had.first ∙ ap (λ n. sum_by commands_of (take n epochs)) zero, had.none zero))
-          c.in_ok-leak_into.ensures));
-      none = λ e. absurd (omega (arith, e));
-      first = omega (arith, had.first, sum_by_more commands_of epochs i h c.loop-history-test.true, ap commands_of c.history-item.is, c.len.ensures.len);
+          c.in_ok-leak_into.ensures o (sym had.first)
+          ∙ ap (λ leaks. leaks ++ leak o run) had.leaks
+          ∙ flat_map_more leaks_of before (take i (listed es)) (o, run)
+          ∙ ap (λ front. before ++ flat_map leaks_of front) (sym (listed-more es i run c.epoch-history.ensures));
+      first = omega (arith, had.first, c.len.ensures.len, ap (λ (o : Offsets). o.command) (begins_at-more es i run c.epoch-history.ensures));
     }
+
+pub returns : goal.returns
+returns c =
+    let es = epochs_in c.args.epochs.now in
+    let n = c.loop-number.number in
+    let before = map leak_view c.args.leaks.now in
+    c.loop-number.invariant.leaks
+    ∙ ap (λ front. before ++ flat_map leaks_of front) (take_all n (listed es) (omega (arith, c.loop-number-test.false, c.len-number-end.ensures.len, length-listed es)))
+    ∙ ap (λ leaks. before ++ leaks) (sym (joined-listed leak es))

@@ -5,7 +5,7 @@ use Rattle.std.proofs.lemmas.Option.{get_or_from_slice_get, slice_get-get_or}
 use Rattle.client_registry.specs.Document.{Document}
 use Rattle.client_registry.specs.Documents.{has_word}
 use Rattle.client_registry.specs.Setup.{setup_of}
-use Rattle.leakage_history.proofs.Fronts.{take-one_more}
+use Rattle.client_live_docs.proofs.Pushing.{take-one_more}
 use Rattle.leakage_model.proofs.SetupLaws.{few_pairs, new_id, told_of, told_of-all, told_of-push}
 use Rattle.leakage_model.specs.WordFacts.{set_up_with}
 use Rattle.leakage_model.proofs.trail_setup.set_up_documents.Goals as goal

@@ -1,7 +1,7 @@
 use Rattle.std.proofs.Common.{◌++◌, ◌∷◌, [], map, sym, ap, ◌∙◌}
 use Rattle.std.proofs.lemmas.List.{map-append}
 use Rattle.leakage_frames.specs.Views.{listed_view}
-use Rattle.leakage_history.proofs.Fronts.{take-one_more}
+use Rattle.client_live_docs.proofs.Pushing.{take-one_more}
 use Rattle.leakage_model.proofs.pairs.Pairs.listed.Goals as goal
 
 pub loop-place-preserved : goal.loop-place-preserved
