@@ -31,6 +31,7 @@ pub mod SizedValues
 pub mod OneToOne
 pub mod RelabelledEpochs
 pub mod RelabelledBack
+pub mod KeptEpochs
 pub mod FromDraws
 pub mod Twins
 pub mod AlikeBefore

@@ -1,7 +1,11 @@
 pub mod BesideLaws
 pub mod GivenLaws
 pub mod SheetDraws
+pub mod SheetsAt
+pub mod EpochNames
 pub mod SentLaws
 pub mod PlacedLaws
 pub mod SumLaws
 pub mod DifferenceLaws
+pub mod EpochLaws
+pub mod MovedLaws

@@ -1,11 +1,13 @@
 -- Values by place: what a loop over the places of names gives, and the tables of another history that are made so.
-use Rattle.std.proofs.Common.{◌≡◌, ℕ, zero, suc, ◌<◌, Bool, true, false, List, [], ◌∷◌, ◌++◌, length, map, get_or, refl, sym, ap, ◌∙◌, subst, arith, ⊎_elim, Option, None, Some, is_some}
+use Rattle.std.proofs.Common.{◌≡◌, ℕ, zero, suc, ◌<◌, Bool, true, false, ◌||◌, List, [], ◌∷◌, ◌++◌, length, map, get_or, refl, sym, ap, ◌∙◌, subst, arith, ⊎_elim, Option, None, Some, is_some}
 use Rattle.std.specs.Prelude.{All, Contains, drop, flat_map, unwrap_or, if◌then◌else◌}
+use Rattle.std.specs.List.{list_any}
 use Rattle.std.proofs.lemmas.List.{get_or-map, length-map, map-append}
 use Rattle.std.proofs.lemmas.List.Concat.{flat_map-append}
 use Rattle.std.proofs.lemmas.List.Elements.{All-contains, All-head, All-tail, Contains-append_left}
+use Rattle.std.proofs.lemmas.List.Folds.{list_any_at}
 use Rattle.std.proofs.lemmas.Bool.{true≢false}
-use Rattle.client_registry.specs.Run.{Run, at_first}
+use Rattle.client_registry.specs.Run.{Run, Offsets}
 use Rattle.client_registry.specs.Sized.{IsHistory, run_words}
 use Rattle.leakage_values.proofs.HeldLaws.{held, marks}
 use Rattle.leakage_values.proofs.OnceLaws.{flat-numbered}
@@ -30,7 +32,7 @@ use Rattle.def_relabelling.proofs.OneToOne.{relabelled-agree}
 use Rattle.def_relabelling.specs.ByTexts.{drawn_names, masked_by, texts_of, unshifted}
 use Rattle.leakage_draws.proofs.SheetDraws.{same_draws}
 use Rattle.leakage_draws.specs.Given.{given, sheet_table}
-use Rattle.leakage_draws.specs.SheetOf.{IsSheetOf}
+use Rattle.leakage_values.specs.SheetOf.{IsSheetOf}
 
 -- Places.
 
@@ -90,6 +92,25 @@ map_twice : {A B C : Type 0} (f : A → B) (g : B → C) (xs : List A) → map g
 map_twice f g [] = refl
 map_twice f g (x ∷ xs) = ap (λ ys. g (f x) ∷ ys) (map_twice f g xs)
 
+-- lists of the same members
+
+any_from : (p : codes.Name → Bool) (f : Name → codes.Name) (ns ms : List Name) → ((n : Name) → Contains ns n → Contains ms n) → list_any p (map f ns) ≡ true → list_any p (map f ms) ≡ true
+any_from p f [] ms among e = absurd (true≢false (sym e))
+any_from p f (n ∷ ns) ms among e = by (any_from p f ns ms (λ m within. among m (Contains-cons n ns m within))) (p (f n)) refl
+  where
+    by : (list_any p (map f ns) ≡ true → list_any p (map f ms) ≡ true) → (b : Bool) → p (f n) ≡ b → list_any p (map f ms) ≡ true
+    by later true is = let here = Contains-map f ms n (among n (Contains-head n ns)) in list_any_at p (map f ms) here.0 (f n) here.1 (ap p here.2 ∙ is)
+    by later false is = later (sym (ap (λ b. b || list_any p (map f ns)) is) ∙ e)
+
+both_same : (a b : Bool) → (a ≡ true → b ≡ true) → (b ≡ true → a ≡ true) → a ≡ b
+both_same true b there back = sym (there refl)
+both_same false true there back = back refl
+both_same false false there back = refl
+
+same_any : (p : codes.Name → Bool) (f : Name → codes.Name) (ns ms : List Name) → ((n : Name) → Contains ns n → Contains ms n) → ((n : Name) → Contains ms n → Contains ns n)
+    → list_any p (map f ns) ≡ list_any p (map f ms)
+same_any p f ns ms there back = both_same (list_any p (map f ns)) (list_any p (map f ms)) (any_from p f ns ms there) (any_from p f ms ns back)
+
 -- the names of one history and those of another, where the values of the one are placed at the other's
 
 -- a table holds these values by these names, where there is a function that gives the one for the other
@@ -97,100 +118,104 @@ abbrev pub IsPlaced : Values → Values → (from to : List codes.Name) → (one
 IsPlaced values sheet from to ones others = (value : codes.Name → List ℕ) → map value to ≡ masked_by (map (given values) from) ones others → Holds sheet to value
 
 -- the numbered names of all that a history draws, and of all that it uses
-pub drawn_flat : (words : List (List ℕ)) (run : Run) (lists : List (List codes.Name)) → lists ≡ map (map (numbered words)) (drawn at_first run)
-    → flat_map (λ ns. ns) lists ≡ map (numbered words) (drawn_names at_first run)
-drawn_flat words run lists are = ap (flat_map (λ ns. ns)) are ∙ flat-numbered (numbered words) (drawn at_first run)
+pub drawn_flat : (words : List (List ℕ)) (o : Offsets) (run : Run) (lists : List (List codes.Name)) → lists ≡ map (map (numbered words)) (drawn o run)
+    → flat_map (λ ns. ns) lists ≡ map (numbered words) (drawn_names o run)
+drawn_flat words o run lists are = ap (flat_map (λ ns. ns)) are ∙ flat-numbered (numbered words) (drawn o run)
 
-pub used_flat : (words : List (List ℕ)) (run : Run) (front all : List codes.Name) (looked : List (List codes.Name)) → front ≡ map (numbered words) (drawn_names at_first run)
-    → looked ≡ map (map (numbered words)) (probed at_first run) → all ≡ front ++ flat_map (λ ns. ns) looked → all ≡ map (numbered words) (all_names at_first run)
-used_flat words run front all looked front_is are is =
+pub used_flat : (words : List (List ℕ)) (o : Offsets) (run : Run) (front all : List codes.Name) (looked : List (List codes.Name)) → front ≡ map (numbered words) (drawn_names o run)
+    → looked ≡ map (map (numbered words)) (probed o run) → all ≡ front ++ flat_map (λ ns. ns) looked → all ≡ map (numbered words) (all_names o run)
+used_flat words o run front all looked front_is are is =
     is
-    ∙ (λ i. front_is i ++ (ap (flat_map (λ ns. ns)) are ∙ flat-numbered (numbered words) (probed at_first run)) i)
-    ∙ sym (map-append (numbered words) (drawn_names at_first run) (flat_map (λ ns. ns) (probed at_first run)))
-    ∙ ap (map (numbered words)) (sym (flat_map-append (λ ns. ns) (drawn at_first run) (probed at_first run)))
+    ∙ (λ i. front_is i ++ (ap (flat_map (λ ns. ns)) are ∙ flat-numbered (numbered words) (probed o run)) i)
+    ∙ sym (map-append (numbered words) (drawn_names o run) (flat_map (λ ns. ns) (probed o run)))
+    ∙ ap (map (numbered words)) (sym (flat_map-append (λ ns. ns) (drawn o run) (probed o run)))
 
 -- lists of numbered names are as long as the names
 pub even_numbered : (words words2 : List (List ℕ)) (ns ns2 : List Name) (xs ys : List codes.Name) → length ns ≡ length ns2 → xs ≡ map (numbered words) ns → ys ≡ map (numbered words2) ns2 → length xs ≡ length ys
 even_numbered words words2 ns ns2 xs ys even are are2 = ap length are ∙ length-map ns (numbered words) ∙ even ∙ sym (length-map ns2 (numbered words2)) ∙ sym (ap length are2)
 
 -- each name of a history has a value in a sheet that has all of these
-pub has_values : (values : Values) (words : List (List ℕ)) (run : Run) (from : List codes.Name) → from ≡ map (numbered words) (all_names at_first run)
-    → All (λ n. is_some (value_at values n) ≡ true) from → IsSheetOf values words (names at_first run) (sheet_table values words)
-has_values values words run from are all n within =
-    let used = Contains-of_first_names (all_names at_first run) n within in
-    let here : Contains from (numbered words n) = subst (λ ns. Contains ns (numbered words n)) (sym are) (Contains-map (numbered words) (all_names at_first run) n used) in
+pub has_values : (values : Values) (words : List (List ℕ)) (o : Offsets) (run : Run) (from : List codes.Name) → from ≡ map (numbered words) (all_names o run)
+    → All (λ n. is_some (value_at values n) ≡ true) from → IsSheetOf values words (names o run) (sheet_table values words)
+has_values values words o run from are all n within =
+    let used = Contains-of_first_names (all_names o run) n within in
+    let here : Contains from (numbered words n) = subst (λ ns. Contains ns (numbered words n)) (sym are) (Contains-map (numbered words) (all_names o run) n used) in
     by (value_at values (numbered words n)) (All-contains (λ k. is_some (value_at values k) ≡ true) from (numbered words n) all here)
   where
     by : (o : Option (List ℕ)) → is_some o ≡ true → o ≡ Some (unwrap_or o [])
     by (Some value) some = refl
     by None some = absurd (true≢false (sym some))
 
-module _ (values : Values) (run other : Run) (history : IsHistory run) (history2 : IsHistory other) (leaks : leak at_first run ≡ leak at_first other) where
+module _ (values : Values) (o : Offsets) (run other : Run) (history : IsHistory run) (history2 : IsHistory other) (leaks : leak o run ≡ leak o other) where
   abbrev first_table : Table
   first_table = sheet_table values (run_words run)
 
   abbrev words2 : List (List ℕ)
   words2 = run_words other
 
-  pub even_drawn : length (drawn_names at_first run) ≡ length (drawn_names at_first other)
+  pub even_drawn : length (drawn_names o run) ≡ length (drawn_names o other)
   even_drawn =
-      sym (length-masked_by (map first_table (drawn_names at_first run)) [] [] ∙ length-map (drawn_names at_first run) first_table)
-      ∙ ap length (unshifted_told at_first run other first_table history history2 leaks)
-      ∙ length-map (drawn_names at_first other) (unshifted at_first run other first_table)
+      sym (length-masked_by (map first_table (drawn_names o run)) [] [] ∙ length-map (drawn_names o run) first_table)
+      ∙ ap length (unshifted_told o run other first_table history history2 leaks)
+      ∙ length-map (drawn_names o other) (unshifted o run other first_table)
 
-  pub even_used : length (all_names at_first run) ≡ length (all_names at_first other)
+  pub even_used : length (all_names o run) ≡ length (all_names o other)
   even_used =
-      let ones = texts_of (draws first_table at_first run) in
-      let others = texts_of (draws (unshifted at_first run other first_table) at_first other) in
-      sym (length-masked_by (map first_table (all_names at_first run)) ones others ∙ length-map (all_names at_first run) first_table)
-      ∙ ap length (relabelled_by_texts at_first run other first_table history history2 leaks)
-      ∙ length-map (all_names at_first other) (relabelled at_first run other first_table)
+      let ones = texts_of (draws first_table o run) in
+      let others = texts_of (draws (unshifted o run other first_table) o other) in
+      sym (length-masked_by (map first_table (all_names o run)) ones others ∙ length-map (all_names o run) first_table)
+      ∙ ap length (relabelled_by_texts o run other first_table history history2 leaks)
+      ∙ length-map (all_names o other) (relabelled o run other first_table)
 
   -- what is drawn of the sheet by places is what is drawn under the table by places
-  pub unshifted_draws : (sheet : Values) (from to : List codes.Name) → from ≡ map (numbered (run_words run)) (drawn_names at_first run) → to ≡ map (numbered words2) (drawn_names at_first other)
-      → IsPlaced values sheet from to [] [] → draws (sheet_table sheet words2) at_first other ≡ draws (unshifted at_first run other first_table) at_first other
+  pub unshifted_draws : (sheet : Values) (from to : List codes.Name) → from ≡ map (numbered (run_words run)) (drawn_names o run) → to ≡ map (numbered words2) (drawn_names o other)
+      → IsPlaced values sheet from to [] [] → draws (sheet_table sheet words2) o other ≡ draws (unshifted o run other first_table) o other
   unshifted_draws sheet from to from_is to_is placed =
-      let u = unshifted at_first run other first_table in
-      let ns = all_names at_first other in
-      let ms = drawn_names at_first other in
+      let u = unshifted o run other first_table in
+      let ns = all_names o other in
+      let ms = drawn_names o other in
       let value = value_among words2 u ns in
       let among : (n : Name) → Contains ms n → Contains ns n =
-      λ n within. subst (λ ks. Contains ks n) (sym (flat_map-append (λ ns. ns) (drawn at_first other) (probed at_first other)))
-      (Contains-append_left ms (flat_map (λ ns. ns) (probed at_first other)) n within) in
+      λ n within. subst (λ ks. Contains ks n) (sym (flat_map-append (λ ns. ns) (drawn o other) (probed o other)))
+      (Contains-append_left ms (flat_map (λ ns. ns) (probed o other)) n within) in
       let holds : Holds sheet to value =
       placed value
-      (ap (map value) to_is ∙ found_all words2 u ns (own_names other) ms among ∙ sym (unshifted_told at_first run other first_table history history2 leaks)
-      ∙ ap (λ vs. masked_by vs [] []) (sym (ap (map (given values)) from_is ∙ map_twice (numbered (run_words run)) (given values) (drawn_names at_first run)))) in
-      same_draws (sheet_table sheet words2) u at_first other
+      (ap (map value) to_is ∙ found_all words2 u ns (own_names o other) ms among ∙ sym (unshifted_told o run other first_table history history2 leaks)
+      ∙ ap (λ vs. masked_by vs [] []) (sym (ap (map (given values)) from_is ∙ map_twice (numbered (run_words run)) (given values) (drawn_names o run)))) in
+      same_draws (sheet_table sheet words2) u o other
       (λ n within.
       ap (λ o. unwrap_or o []) (held sheet to value (numbered words2) ms holds to_is n within)
-      ∙ found words2 u n (All-contains (own words2 u) ns n (own_names other) (among n within)) ns (own_names other) (among n within))
+      ∙ found words2 u n (All-contains (own words2 u) ns n (own_names o other) (among n within)) ns (own_names o other) (among n within))
 
-  module _ (sheet : Values) (from to : List codes.Name) (ones others : List (List ℕ)) (from_is : from ≡ map (numbered (run_words run)) (all_names at_first run)) (to_is : to ≡ map (numbered words2) (all_names at_first other))
-      (ones_are : ones ≡ texts_of (draws first_table at_first run)) (others_are : others ≡ texts_of (draws (unshifted at_first run other first_table) at_first other)) (placed : IsPlaced values sheet from to ones others) where
+  module _ (sheet : Values) (from to : List codes.Name) (ones others : List (List ℕ)) (from_is : from ≡ map (numbered (run_words run)) (all_names o run)) (to_is : to ≡ map (numbered words2) (all_names o other))
+      (ones_are : ones ≡ texts_of (draws first_table o run)) (others_are : others ≡ texts_of (draws (unshifted o run other first_table) o other)) (placed : IsPlaced values sheet from to ones others) where
     abbrev moved : codes.Name → List ℕ
-    moved = value_among words2 (relabelled at_first run other first_table) (all_names at_first other)
+    moved = value_among words2 (relabelled o run other first_table) (all_names o other)
 
     holds_moved : Holds sheet to moved
     holds_moved =
-        let m = relabelled at_first run other first_table in
-        let ns = all_names at_first other in
+        let m = relabelled o run other first_table in
+        let ns = all_names o other in
         placed moved
-        (ap (map moved) to_is ∙ found_all words2 m ns (own_names other) ns (λ n within. within) ∙ sym (relabelled_by_texts at_first run other first_table history history2 leaks)
-        ∙ (λ i. masked_by (sym (ap (map (given values)) from_is ∙ map_twice (numbered (run_words run)) (given values) (all_names at_first run)) i) (sym ones_are i) (sym others_are i)))
+        (ap (map moved) to_is ∙ found_all words2 m ns (own_names o other) ns (λ n within. within) ∙ sym (relabelled_by_texts o run other first_table history history2 leaks)
+        ∙ (λ i. masked_by (sym (ap (map (given values)) from_is ∙ map_twice (numbered (run_words run)) (given values) (all_names o run)) i) (sym ones_are i) (sym others_are i)))
 
     -- the sheet has the values of the table that is relabelled from any table whose values the first sheet has
-    pub moved_values : (t : Table) → IsSheetOf values (run_words run) (names at_first run) t → IsSheetOf sheet words2 (names at_first other) (relabelled at_first run other t)
+    pub moved_values : (t : Table) → IsSheetOf values (run_words run) (names o run) t → IsSheetOf sheet words2 (names o other) (relabelled o run other t)
     moved_values t is n within =
-        let m = relabelled at_first run other first_table in
-        let ns = all_names at_first other in
+        let m = relabelled o run other first_table in
+        let ns = all_names o other in
         let here : Contains ns n = Contains-of_first_names ns n within in
         held sheet to moved (numbered words2) ns holds_moved to_is n here
         ∙ ap (λ v. Some v)
-        (found words2 m n (All-contains (own words2 m) ns n (own_names other) here) ns (own_names other) here
-        ∙ relabelled-agree at_first run other first_table t
-        (λ k inside. ap (λ o. unwrap_or o []) (is k (Contains-first_names (all_names at_first run) k inside))) n)
+        (found words2 m n (All-contains (own words2 m) ns n (own_names o other) here) ns (own_names o other) here
+        ∙ relabelled-agree o run other first_table t
+        (λ k inside. ap (λ o. unwrap_or o []) (is k (Contains-first_names (all_names o run) k inside))) n)
 
     -- and no other name has one
-    pub moved_names : Marks sheet (map (numbered words2) (all_names at_first other))
-    moved_names = subst (Marks sheet) to_is (marks sheet to moved holds_moved)
+    pub moved_names : Marks sheet (map (numbered words2) (names o other))
+    moved_names k =
+        let ns = all_names o other in
+        marks sheet to moved holds_moved k
+        ∙ ap (list_any (same_numbers k)) to_is
+        ∙ same_any (same_numbers k) (numbered words2) ns (names o other) (Contains-first_names ns) (Contains-of_first_names ns)

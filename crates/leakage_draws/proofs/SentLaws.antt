@@ -1,19 +1,19 @@
 -- Of all that passes for a history the texts of a client are its frames.
 use Rattle.std.proofs.Common.{◌≡◌, ℕ, true, false, cond, List, [], ◌∷◌, ◌++◌, length, drop, filter, map, Some, refl, sym, ap, ◌∙◌}
 use Rattle.std.specs.Prelude.{flat_map, option_map}
+use Rattle.std.proofs.lemmas.List.Concat.{flat_map-append}
 use Rattle.std.proofs.lemmas.List.{drop_at}
 use Rattle.std.proofs.lemmas.Option.{none-some}
-use Rattle.client_registry.specs.Run.{Run, at_first}
-use Rattle.client_registry.specs.Sized.{IsHistory, run_words}
-use Rattle.leakage_names.specs.Sheets.{Values}
-use Rattle.def_comparison.specs.Sums.{session_frames}
-use Rattle.def_comparison.specs.UsedNames.{names}
+use Rattle.client_registry.specs.Epochs.{AreEpochs, joined, next_begins}
+use Rattle.client_registry.specs.Histories.{IsWhole}
+use Rattle.client_registry.specs.Run.{Offsets, Epochs, From, Renewed}
 use Rattle.sse_frames.specs.Exchange.{Passed, Sent, Received, answers_behind, asked, exchange, expected, first_answer, greeting, sent_among}
 use Rattle.sse_frames.specs.Frames.{FrameText, Hello, SetupBegin, SetupDict, SetupArray, SetupEnd, AddFrame, DeleteFrame, SearchFrame, body_of, be32, frame_bytes}
 use Rattle.sse_frames.specs.Replies.{ReplyText, Next, Took, Number, Clash, Page, BadList, NoMemory, StoreFault, BadFrame, OutOfPlace, reply_body, reply_bytes}
-use Rattle.def_leakage.proofs.Law.{simulate_is_wire}
+use Rattle.def_leakage.proofs.Epochs.{simulated_from-epochs}
 use Rattle.def_leakage.specs.DrawnValues.{draws}
-use Rattle.def_leakage.specs.CommandLeaks.{leak}
+use Rattle.def_leakage.specs.Histories.{leak_in}
+use Rattle.def_relabelling.specs.Comparison.{frames_under}
 use Rattle.sse_model.proofs.HistoryLaws.{sent_among-append}
 use Rattle.sse_model.specs.Names.{Table}
 use Rattle.sse_model.specs.Wire.{wire}
@@ -21,9 +21,6 @@ use Rattle.sse_simulator.specs.Leaks.{Draw, Leak}
 use Rattle.sse_simulator.specs.Simulator.{answer_of, sim_at_first, simulated_from}
 use Rattle.leakage_frames.proofs.BadLaws.{bad_none}
 use Rattle.leakage_frames.specs.Steps.{IsFirstBad, bytes_simulated, passed_bytes}
-use Rattle.leakage_draws.proofs.SheetDraws.{draws-sheet}
-use Rattle.leakage_draws.specs.Given.{sheet_table}
-use Rattle.leakage_draws.specs.SheetOf.{IsSheetOf}
 use Rattle.leakage_draws.specs.Sides.{is_frame_body, is_sent}
 
 -- A client's texts are its frames.
@@ -85,49 +82,58 @@ sent_exchange answers (frame ∷ frames) =
 
 -- All is simulated.
 
+-- the frames of the epochs, command by command
+abbrev frames_of : Table → Epochs → List (List FrameText)
+frames_of t es = joined (λ key o run. wire t o run) [] es
+
+-- one after another they are those of the session
+in_turn : (t : Table) (es : Epochs) → Hello ∷ flat_map (λ fs. fs) (frames_of t es) ≡ frames_under t es
+in_turn t es = ap (λ frames. Hello ∷ frames) (by es)
+  where
+    by : (es : Epochs) → flat_map (λ fs. fs) (frames_of t es) ≡ joined (λ key o run. flat_map (λ fs. fs) (wire t o run)) [] es
+    by (From o run) = refl
+    by (Renewed before key run) =
+        flat_map-append (λ fs. fs) (frames_of t before) (wire t (next_begins before) run) ∙ ap (λ front. front ++ flat_map (λ fs. fs) (wire t (next_begins before) run)) (by before)
+
 abbrev all_passed : List Leak → List (List FrameText) → List Passed
 all_passed leaks frames = greeting sim_at_first.next ++ exchange (flat_map answer_of leaks) (flat_map (λ fs. fs) frames)
 
-module _ (t : Table) (run : Run) (history : IsHistory run) where
-  made : simulated_from sim_at_first (leak at_first run) (draws t at_first run) ≡ Some (wire t at_first run)
-  made = simulate_is_wire t at_first run [] refl history
+module _ (t : Table) (es : Epochs) (whole : IsWhole (Some es)) (are : AreEpochs es) where
+  -- what the epochs leak, and what they draw
+  abbrev leaked : List Leak
+  leaked = leak_in (Some es)
+
+  abbrev pub drawn_under : List (List Draw)
+  drawn_under = joined (λ key o run. draws t o run) [] es
+
+  made : simulated_from sim_at_first leaked drawn_under ≡ Some (frames_of t es)
+  made =
+      ap (λ (n : ℕ). simulated_from (record { kept = []; next = n }) leaked drawn_under) (sym (ap (λ (o : Offsets). o.frame) whole))
+      ∙ simulated_from-epochs (λ key run. t) [] es [] (sym (ap (λ (o : Offsets). o.command) whole)) are
 
   some_same : {X : Type 0} (x y : X) → Some x ≡ Some y → y ≡ x
   some_same x y is = cc
 
-  -- what is simulated of its leakage and draws has the frames of the session for a client's texts
-  pub sent_session : (leaks : List Leak) (drawn : List (List Draw)) (texts : List (List ℕ)) → leaks ≡ leak at_first run → drawn ≡ draws t at_first run
-      → bytes_simulated leaks drawn ≡ Some texts → filter is_sent texts ≡ map frame_bytes (session_frames t at_first run)
+  -- what is simulated of their leakage and draws has the frames of the session for a client's texts
+  pub sent_session : (leaks : List Leak) (drawn : List (List Draw)) (texts : List (List ℕ)) → leaks ≡ leaked → drawn ≡ drawn_under
+      → bytes_simulated leaks drawn ≡ Some texts → filter is_sent texts ≡ map frame_bytes (frames_under t es)
   sent_session leaks drawn texts leaks_are drawn_are is =
-      let frames = wire t at_first run in
-      let all = all_passed (leak at_first run) frames in
-      let whole : Some (map passed_bytes all) ≡ Some texts =
-      sym (ap (λ fs. option_map (map passed_bytes) (option_map (all_passed (leak at_first run)) fs)) made)
+      let frames = frames_of t es in
+      let all = all_passed leaked frames in
+      let same : Some (map passed_bytes all) ≡ Some texts =
+      sym (ap (λ fs. option_map (map passed_bytes) (option_map (all_passed leaked) fs)) made)
       ∙ (λ i. bytes_simulated (sym leaks_are i) (sym drawn_are i))
       ∙ is in
-      ap (filter is_sent) (some_same (map passed_bytes all) texts whole)
+      ap (filter is_sent) (some_same (map passed_bytes all) texts same)
       ∙ sent_only all
-      ∙ ap (λ fs. map frame_bytes (Hello ∷ fs)) (sent_exchange (flat_map answer_of (leak at_first run)) (flat_map (λ fs. fs) frames))
+      ∙ ap (λ fs. map frame_bytes (Hello ∷ fs)) (sent_exchange (flat_map answer_of leaked) (flat_map (λ fs. fs) frames))
+      ∙ ap (map frame_bytes) (in_turn t es)
 
   -- Promise P38, also here
   -- and none of its items names what isn't there
-  pub none_refused : (leaks : List Leak) (drawn : List (List Draw)) (command : ℕ) → leaks ≡ leak at_first run → drawn ≡ draws t at_first run → IsFirstBad command leaks drawn → ⊥
+  pub none_refused : (leaks : List Leak) (drawn : List (List Draw)) (command : ℕ) → leaks ≡ leaked → drawn ≡ drawn_under → IsFirstBad command leaks drawn → ⊥
   none_refused leaks drawn command leaks_are drawn_are bad =
-      none-some (map passed_bytes (all_passed (leak at_first run) (wire t at_first run)))
+      none-some (map passed_bytes (all_passed leaked (frames_of t es)))
       (sym (bad_none command leaks drawn bad)
       ∙ (λ i. bytes_simulated (leaks_are i) (drawn_are i))
-      ∙ ap (λ fs. option_map (map passed_bytes) (option_map (all_passed (leak at_first run)) fs)) made)
-
--- the frames of a session are one under every table whose values a sheet has
-pub session-sheet : (values : Values) (run : Run) (t : Table) → IsHistory run → IsSheetOf values (run_words run) (names at_first run) t
-    → session_frames (sheet_table values (run_words run)) at_first run ≡ session_frames t at_first run
-session-sheet values run t history is =
-    let own = sheet_table values (run_words run) in
-    let both : Some (wire own at_first run) ≡ Some (wire t at_first run) =
-    sym (made own run history)
-    ∙ ap (simulated_from sim_at_first (leak at_first run)) (draws-sheet values (run_words run) run t is)
-    ∙ made t run history in
-    ap (λ (fs : List (List FrameText)). Hello ∷ flat_map (λ frames. frames) fs) (inside (wire own at_first run) (wire t at_first run) both)
-  where
-    inside : {X : Type 0} (x y : X) → Some x ≡ Some y → x ≡ y
-    inside x y same = cc
+      ∙ ap (λ fs. option_map (map passed_bytes) (option_map (all_passed leaked) fs)) made)

@@ -4,7 +4,7 @@ use Rattle.std.specs.Prelude.{Contains, flat_map, unwrap_or}
 use Rattle.std.proofs.lemmas.List.Concat.{flat_map-append}
 use Rattle.std.proofs.lemmas.List.Elements.{Contains-append_left, Contains-append_right}
 use Rattle.std.proofs.lemmas.List.Folds.{flat_map-map}
-use Rattle.client_registry.specs.Run.{Run, Offsets, at_first}
+use Rattle.client_registry.specs.Run.{Run, Offsets}
 use Rattle.keyed_fn.specs.Xored.{xored}
 use Rattle.leakage_names.specs.Sheets.{Values}
 use Rattle.def_comparison.proofs.UsedNames.{Contains-first_names}
@@ -18,7 +18,7 @@ use Rattle.sse_model.specs.Positions.{Position, block_positions, entry_positions
 use Rattle.sse_model.specs.Wire.{labels_in}
 use Rattle.sse_simulator.specs.Leaks.{EntryDraw, BlockDraw, NumberDraw, TokenDraw}
 use Rattle.leakage_draws.specs.Given.{sheet_table}
-use Rattle.leakage_draws.specs.SheetOf.{IsSheetOf}
+use Rattle.leakage_values.specs.SheetOf.{IsSheetOf}
 
 module _ (t u : Table) where
   -- both give each of these names one value
@@ -83,7 +83,7 @@ drawn_used o run n within =
     (Contains-append_left (flat_map (λ ns. ns) (drawn o run)) (flat_map (λ ns. ns) (probed o run)) n within))
 
 -- under every table whose values a sheet has, a history draws what it draws under the sheet's own
-pub draws-sheet : (values : Values) (words : List (List ℕ)) (run : Run) (t : Table) → IsSheetOf values words (names at_first run) t
-    → draws (sheet_table values words) at_first run ≡ draws t at_first run
-draws-sheet values words run t is =
-    same_draws (sheet_table values words) t at_first run (λ n within. ap (λ value. unwrap_or value []) (is n (drawn_used at_first run n within)))
+pub draws-sheet : (values : Values) (words : List (List ℕ)) (o : Offsets) (run : Run) (t : Table) → IsSheetOf values words (names o run) t
+    → draws (sheet_table values words) o run ≡ draws t o run
+draws-sheet values words o run t is =
+    same_draws (sheet_table values words) t o run (λ n within. ap (λ value. unwrap_or value []) (is n (drawn_used o run n within)))

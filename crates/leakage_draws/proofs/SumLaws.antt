@@ -1,21 +1,20 @@
--- Sums modulo 2^64, and what is counted of a session under a sheet.
+-- Sums modulo 2^64, and what is counted of a session.
 use Rattle.std.proofs.Common.{◌≡◌, ℕ, ◌+◌, ◌<◌, ◌%◌, ◌^◌, List, [], ◌∷◌, ◌++◌, length, map, take, get_or, refl, sym, ap, ◌∙◌, arith}
 use Rattle.std.specs.Prelude.{flat_map, sum, sum_by, unwrap_or}
 use Rattle.std.proofs.lemmas.List.{append-nil, length-map, take_more}
 use Rattle.std.proofs.lemmas.List.Concat.{flat_map-append}
 use Rattle.std.proofs.lemmas.List.Sums.{sum_by-append, sum_by-cons, sum_by_more}
-use Rattle.client_registry.specs.Run.{Run, at_first}
-use Rattle.client_registry.specs.Sized.{run_words}
+use Rattle.client_registry.specs.Run.{Epochs}
 use Rattle.leakage_values.specs.Numbered.{numbered}
 use Rattle.leakage_names.specs.Sheets.{Values}
 use Rattle.leakage_names.specs.declared.name.Name as codes
-use Rattle.def_comparison.specs.Sums.{session_frames, sums}
-use Rattle.def_comparison.specs.UsedNames.{names}
+use Rattle.def_comparison.specs.Sums.{value_sum}
+use Rattle.def_relabelling.specs.Comparison.{frames_under, names_in, sums_in}
 use Rattle.sse_frames.specs.Frames.{FrameText, frame_bytes}
 use Rattle.sse_model.proofs.Members.{Contains-cons, Contains-head}
 use Rattle.sse_model.specs.Names.{Name, Table}
 use Rattle.leakage_draws.specs.Given.{given}
-use Rattle.leakage_draws.specs.SheetOf.{IsSheetOf}
+use Rattle.leakage_values.specs.SheetOf.{IsSheetOf}
 
 wrapped : (a b : ℕ) → (a % 2 ^ 64 + b) % 2 ^ 64 ≡ (a + b) % 2 ^ 64
 wrapped a b = omega arith
@@ -30,17 +29,18 @@ one_byte start bytes i d now then within is more =
     ∙ ap (λ n. n % 2 ^ 64) (let next = sum_by_more (λ x. x) bytes i d within in omega (arith, next))
 
 -- one value more
-pub one_value : (value : codes.Name → List ℕ) (names : List codes.Name) (i : ℕ) (d : codes.Name) (now then : ℕ) → i < length names → now ≡ sum (flat_map value (take i names)) % 2 ^ 64
-    → then ≡ (now + sum (value (get_or names i d))) % 2 ^ 64 → then ≡ sum (flat_map value (take (i + 1) names)) % 2 ^ 64
-one_value value names i d now then within is more =
+pub one_value : (value : codes.Name → List ℕ) (names : List codes.Name) (start i : ℕ) (d : codes.Name) (now then : ℕ) → i < length names
+    → now ≡ (start + sum (flat_map value (take i names))) % 2 ^ 64 → then ≡ (now + sum (value (get_or names i d))) % 2 ^ 64 → then ≡ (start + sum (flat_map value (take (i + 1) names))) % 2 ^ 64
+one_value value names start i d now then within is more =
     let front = flat_map value (take i names) in
     let here = value (get_or names i d) in
+    let all : sum front + sum here ≡ sum (flat_map value (take (i + 1) names)) =
+    sym (sum_by-append (λ x. x) front here)
+    ∙ ap sum (ap (λ xs. front ++ xs) (sym (append-nil here)) ∙ sym (flat_map-append value (take i names) (get_or names i d ∷ [])) ∙ ap (flat_map value) (sym (take_more names i d within))) in
     more
     ∙ ap (λ n. (n + sum here) % 2 ^ 64) is
-    ∙ wrapped (sum front) (sum here)
-    ∙ ap (λ n. n % 2 ^ 64)
-    (sym (sum_by-append (λ x. x) front here)
-    ∙ ap sum (ap (λ xs. front ++ xs) (sym (append-nil here)) ∙ sym (flat_map-append value (take i names) (get_or names i d ∷ [])) ∙ ap (flat_map value) (sym (take_more names i d within))))
+    ∙ wrapped (start + sum front) (sum here)
+    ∙ ap (λ n. n % 2 ^ 64) (let next : start + sum front + sum here ≡ start + sum (flat_map value (take (i + 1) names)) = omega (arith, all) in next)
 
 -- values of names in a sheet that has those of a table
 same_values : (values : Values) (words : List (List ℕ)) (ns : List Name) (t : Table) → IsSheetOf values words ns t → flat_map (given values) (map (numbered words) ns) ≡ flat_map t ns
@@ -53,13 +53,21 @@ lengths [] = refl
 lengths (f ∷ fs) =
     sum_by-cons length (frame_bytes f) (map frame_bytes fs) ∙ ap (λ n. length (frame_bytes f) + n) (lengths fs) ∙ sym (sum_by-cons (λ frame. length (frame_bytes frame)) f fs)
 
--- what is counted of a session under a table whose values a sheet has
-pub counted_are : (values : Values) (run : Run) (t : Table) (texts : List (List ℕ)) (used : List codes.Name) (frames bytes total : ℕ) → IsSheetOf values (run_words run) (names at_first run) t
-    → texts ≡ map frame_bytes (session_frames t at_first run) → used ≡ map (numbered (run_words run)) (names at_first run)
-    → frames ≡ length texts → bytes ≡ sum_by length texts → total ≡ sum (flat_map (given values) used) % 2 ^ 64
-    → record { frames = frames; bytes = bytes; values = total } ≡ sums t at_first run
-counted_are values run t texts used frames bytes total has texts_are used_are frames_are bytes_are total_is = λ i. record {
-  frames = (frames_are ∙ ap length texts_are ∙ length-map (session_frames t at_first run) frame_bytes) i;
-  bytes = (bytes_are ∙ ap (sum_by length) texts_are ∙ lengths (session_frames t at_first run)) i;
-  values = (total_is ∙ ap (λ ns. sum (flat_map (given values) ns) % 2 ^ 64) used_are ∙ ap (λ vs. sum vs % 2 ^ 64) (same_values values (run_words run) (names at_first run) t has)) i;
+-- the values of an epoch's names behind those of others, where the sheet of the epoch has the values of a table
+pub values-more : (sheet : Values) (words : List (List ℕ)) (before ns : List Name) (used : List codes.Name) (t : Table) (now then : ℕ) → IsSheetOf sheet words ns t → used ≡ map (numbered words) ns
+    → now ≡ value_sum t before → then ≡ (now + sum (flat_map (given sheet) used)) % 2 ^ 64 → then ≡ value_sum t (before ++ ns)
+values-more sheet words before ns used t now then has used_are is more =
+    more
+    ∙ (λ i. (is i + sum ((ap (flat_map (given sheet)) used_are ∙ same_values sheet words ns t has) i)) % 2 ^ 64)
+    ∙ wrapped (sum (flat_map t before)) (sum (flat_map t ns))
+    ∙ ap (λ n. n % 2 ^ 64) (sym (sum_by-append (λ x. x) (flat_map t before) (flat_map t ns)) ∙ ap sum (sym (flat_map-append t before ns)))
+
+-- what is counted of the frames of a session
+pub counted_are : (es : Epochs) (t : Table) (texts : List (List ℕ)) (frames bytes values : ℕ) → texts ≡ map frame_bytes (frames_under t es)
+    → frames ≡ length texts → bytes ≡ sum_by length texts → values ≡ value_sum t (names_in es)
+    → record { frames = frames; bytes = bytes; values = values } ≡ sums_in t es
+counted_are es t texts frames bytes values texts_are frames_are bytes_are values_are = λ i. record {
+  frames = (frames_are ∙ ap length texts_are ∙ length-map (frames_under t es) frame_bytes) i;
+  bytes = (bytes_are ∙ ap (sum_by length) texts_are ∙ lengths (frames_under t es)) i;
+  values = values_are i;
 }

@@ -1,5 +1,7 @@
 pub mod Beside
 pub mod Clears
+pub mod EpochAt
 pub mod Given
-pub mod SheetOf
+pub mod Moved
 pub mod Sides
+pub mod SheetsTable

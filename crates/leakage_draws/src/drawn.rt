@@ -1,6 +1,6 @@
-ghost use Rattle.std.specs.Prelude.{◌≡◌, ◌++◌, IfOk, None, OnOk, length, map};
+ghost use Rattle.std.specs.Prelude.{◌≡◌, ℕ, ◌++◌, IfOk, None, OnOk, length, map};
 ghost use Rattle.client_registry.specs.Acceptance.{size_refusal};
-ghost use Rattle.client_registry.specs.Run.{at_first};
+ghost use Rattle.client_registry.specs.Run.{Offsets};
 ghost use Rattle.client_registry.specs.Sized.{run_words};
 ghost use Rattle.leakage_history.specs.Commands.{command_of};
 ghost use Rattle.leakage_history.specs.HashedRun.{run_of};
@@ -8,7 +8,7 @@ ghost use Rattle.leakage_values.specs.Numbered.{numbered_drawing};
 ghost use Rattle.leakage_draws.specs.Clears.{clear_by};
 ghost use Rattle.leakage_draws.specs.Given.{draw_given, sheet_table};
 ghost use Rattle.leakage_draws.specs.Beside.{beside};
-ghost use Rattle.leakage_draws.specs.SheetOf.{IsSheetOf};
+ghost use Rattle.leakage_values.specs.SheetOf.{IsSheetOf};
 ghost use Rattle.leakage_frames.specs.Views.{draw_view};
 ghost use Rattle.def_comparison.specs.UsedNames as used;
 ghost use Rattle.def_leakage.specs.DrawnValues as model;
@@ -93,7 +93,7 @@ fn push_later(
     Ok(())
 }
 
-/// What the setup draws for these values.
+/// What the setup draws for these values, which are those of an epoch.
 fn setup_draws(
     alloc: Global,
     history: &History,
@@ -101,17 +101,34 @@ fn setup_draws(
     drawings: &[Drawing],
 ) -> Result<Items<Draw>, AllocError>
     requires accepted { size_refusal history.now.setup ≡ None }
-    requires drawings { drawings.now ≡ map (numbered_drawing (run_words (run_of history.now))) (drawings_of_setup 0 history.now.setup) }
-    ensures { IfOk result (λ draws. map draw_view draws ≡ map (draw (sheet_table sheet.now (run_words (run_of history.now))) (ranks_of (labels_in (sheet_table sheet.now (run_words (run_of history.now))) (block_positions 0 history.now.setup)))) (drawings_of_setup 0 history.now.setup)) }
+    requires drawings { (epoch : ℕ) × (drawings.now ≡ map (numbered_drawing (run_words (run_of history.now))) (drawings_of_setup epoch history.now.setup)) }
+    ensures { IfOk result (λ draws. (epoch : ℕ) → drawings.now ≡ map (numbered_drawing (run_words (run_of history.now))) (drawings_of_setup epoch history.now.setup) → map draw_view draws ≡ map (draw (sheet_table sheet.now (run_words (run_of history.now))) (ranks_of (labels_in (sheet_table sheet.now (run_words (run_of history.now))) (block_positions epoch history.now.setup)))) (drawings_of_setup epoch history.now.setup)) }
 {
     let ranks = block_ranks(alloc, sheet, drawings)?;
     let clears = plaintexts(alloc, history, &ranks)?;
     draws_beside(alloc, sheet, drawings, clears.as_slice())
 }
 
+/// Appends what each command of a history draws in the epoch of this number under the values of a sheet. Error: as for [`draws`].
+pub(crate) fn push_draws(
+    alloc: Global,
+    all: &mut Items<Items<Draw>>,
+    history: &History,
+    sheet: &Sheet,
+    epoch: u32,
+) -> Result<(), AllocError>
+    requires { size_refusal history.now.setup ≡ None }
+    ensures { OnOk result ((o : Offsets) → o.epoch ≡ epoch → map (map draw_view) all.new ≡ map (map draw_view) all.old ++ model.draws (sheet_table sheet.now (run_words (run_of history.now))) o (run_of history.now)) }
+{
+    let drawings = drawings(alloc, history, epoch)?;
+    let (first, later) = drawings.as_slice().split_at(1);
+    all.push(setup_draws(alloc, history, sheet, first[0].as_slice())?)?;
+    push_later(alloc, all, sheet, later, history.commands())
+}
+
 // Promise P38 (caller): A program gets a history's draws under a table of values, and the bytes of all frames that its client sends.
 //   clauses: own, agreed; assumes: accepted setup, countable history, sized table; not: Without an answer: whether memory or a value was missing.
-/// For each command of a history, the setup first, what it draws under the values of a sheet: of the setup each entry and then each
+/// For each command of a history, the setup first, what it draws in the epoch of this number under the values of a sheet: of the setup each entry and then each
 /// block, by word number, with its text XORed with its pad, dummies behind the others; of an addition each new entry, with the
 /// identifier XORed with its pad, in the order of its words; of a deletion each revocation number that wasn't sent before; of a search
 /// the token of a word that wasn't searched before. What is drawn under a table is so under every sheet that has its values.
@@ -122,15 +139,13 @@ pub fn draws(
     alloc: Global,
     history: &History,
     sheet: &Sheet,
+    epoch: u32,
 ) -> Result<Items<Items<Draw>>, AllocError>
     requires { size_refusal history.now.setup ≡ None }
-    ensures own { IfOk result (λ all. map (map draw_view) all ≡ model.draws (sheet_table sheet.now (run_words (run_of history.now))) at_first (run_of history.now)) }
-    ensures agreed { IfOk result (λ all. (t : Table) → IsSheetOf sheet.now (run_words (run_of history.now)) (used.names at_first (run_of history.now)) t → map (map draw_view) all ≡ model.draws t at_first (run_of history.now)) }
+    ensures own { IfOk result (λ all. (o : Offsets) → o.epoch ≡ epoch → map (map draw_view) all ≡ model.draws (sheet_table sheet.now (run_words (run_of history.now))) o (run_of history.now)) }
+    ensures agreed { IfOk result (λ all. (o : Offsets) → o.epoch ≡ epoch → (t : Table) → IsSheetOf sheet.now (run_words (run_of history.now)) (used.names o (run_of history.now)) t → map (map draw_view) all ≡ model.draws t o (run_of history.now)) }
 {
-    let drawings = drawings(alloc, history)?;
-    let (first, later) = drawings.as_slice().split_at(1);
     let mut all = Items::new(alloc);
-    all.push(setup_draws(alloc, history, sheet, first[0].as_slice())?)?;
-    push_later(alloc, &mut all, sheet, later, history.commands())?;
+    push_draws(alloc, &mut all, history, sheet, epoch)?;
     Ok(all)
 }

@@ -1,6 +1,6 @@
 ghost use Rattle.std.specs.Prelude.{◌≡◌, ◌++◌, IfOk, None, OnOk, flat_map, map};
 ghost use Rattle.client_registry.specs.Acceptance.{size_refusal};
-ghost use Rattle.client_registry.specs.Run.{at_first};
+ghost use Rattle.client_registry.specs.Run.{Offsets};
 ghost use Rattle.client_registry.specs.Sized.{run_words};
 ghost use Rattle.leakage_history.specs.HashedRun.{run_of};
 ghost use Rattle.leakage_values.specs.Numbered.{numbered};
@@ -33,12 +33,16 @@ fn push_lists(names: &mut Items<Name>, lists: &[Items<Name>]) -> Result<(), Allo
     Ok(())
 }
 
-/// All names that a history draws, command by command.
-pub(crate) fn names_drawn(alloc: Global, history: &History) -> Result<Items<Name>, AllocError>
+/// All names that a history draws in the epoch of this number, command by command.
+pub(crate) fn names_drawn(
+    alloc: Global,
+    history: &History,
+    epoch: u32,
+) -> Result<Items<Name>, AllocError>
     requires { size_refusal history.now.setup ≡ None }
-    ensures { IfOk result (λ names. names ≡ map (numbered (run_words (run_of history.now))) (texts.drawn_names at_first (run_of history.now))) }
+    ensures { IfOk result (λ names. (o : Offsets) → o.epoch ≡ epoch → names ≡ map (numbered (run_words (run_of history.now))) (texts.drawn_names o (run_of history.now))) }
 {
-    let lists = drawn_names(alloc, history)?;
+    let lists = drawn_names(alloc, history, epoch)?;
     let mut names = Items::new(alloc);
     push_lists(&mut names, lists.as_slice())?;
     Ok(names)
@@ -48,12 +52,13 @@ pub(crate) fn names_drawn(alloc: Global, history: &History) -> Result<Items<Name
 pub(crate) fn names_used(
     alloc: Global,
     history: &History,
+    epoch: u32,
     drawn: Items<Name>,
 ) -> Result<Items<Name>, AllocError>
-    requires { drawn ≡ map (numbered (run_words (run_of history.now))) (texts.drawn_names at_first (run_of history.now)) }
-    ensures { IfOk result (λ names. names ≡ map (numbered (run_words (run_of history.now))) (used.all_names at_first (run_of history.now))) }
+    requires { (o : Offsets) → o.epoch ≡ epoch → drawn ≡ map (numbered (run_words (run_of history.now))) (texts.drawn_names o (run_of history.now)) }
+    ensures { IfOk result (λ names. (o : Offsets) → o.epoch ≡ epoch → names ≡ map (numbered (run_words (run_of history.now))) (used.all_names o (run_of history.now))) }
 {
-    let lists = probed_names(alloc, history)?;
+    let lists = probed_names(alloc, history, epoch)?;
     let mut names = drawn;
     push_lists(&mut names, lists.as_slice())?;
     Ok(names)

@@ -31,8 +31,8 @@ pub enum NameKind {
 
 /// The name of a value of a history: a label, a pad, a revocation number, a tag or a token, as what it is of and not as bytes.
 ///
-/// The epoch is 0, since each history has one setup. The word is the number of its word, from 0: its place among the different
-/// words of the history by first appearance. The name of a dummy is of no word, and has [`NO_WORD`] there.
+/// The epoch is the number of the setup or renewal that it is drawn under, from 0. The word is the number of its word, from 0: its
+/// place among the different words of that epoch by first appearance. The name of a dummy is of no word, and has [`NO_WORD`] there.
 #[derive(Clone, Copy)]
 pub struct Name {
     pub epoch: u32,

@@ -1,4 +1,4 @@
-ghost use Rattle.std.specs.Prelude.{◌≡◌, ◌<◌, ◌≤◌, ◌^◌, ◌++◌, IfOk, IsSome, None, OnOk, flat_map, length, map, replicate};
+ghost use Rattle.std.specs.Prelude.{◌≡◌, ℕ, ◌<◌, ◌≤◌, ◌^◌, ◌++◌, IfOk, IsSome, None, OnOk, flat_map, length, map, replicate};
 ghost use Rattle.std.specs.List.{range_with_len};
 ghost use Rattle.client_registry.specs.Acceptance.{blocks_of, size_refusal};
 ghost use Rattle.client_registry.specs.Documents.{ids_with, words_of};
@@ -138,7 +138,7 @@ fn push_zeros(
 // Promise P37 (caller): A program gets the plaintexts of a setup's cells and blocks, dummies included, for given ranks of the blocks; or memory runs out.
 //   clauses: ensures; assumes: accepted setup, sizes in bounds
 /// The plaintexts of a history's setup under the ranks of its blocks: the cell of each word by word number, those of the dummies,
-/// then the blocks by word and block number, those of the dummies. Error: where there is no memory.
+/// then the blocks by word and block number, those of the dummies. They are the same in every epoch. Error: where there is no memory.
 pub fn plaintexts(
     alloc: Global,
     history: &History,
@@ -146,7 +146,7 @@ pub fn plaintexts(
 ) -> Result<Items<Text>, AllocError>
     requires accepted { size_refusal history.now.setup ≡ None }
     requires ranks { blocks_of history.now.setup ≤ length ranks.now }
-    ensures { IfOk result (λ texts. texts ≡ clears ranks.now (entry_positions 0 history.now.setup ++ block_positions 0 history.now.setup)) }
+    ensures { IfOk result (λ texts. (epoch : ℕ) → texts ≡ clears ranks.now (entry_positions epoch history.now.setup ++ block_positions epoch history.now.setup)) }
 {
     let size = setup_size(history);
     let docs = history.docs();

@@ -8,14 +8,14 @@ use Rattle.std.proofs.lemmas.List.{length-map}
 use Rattle.std.proofs.lemmas.List.Quantifiers.{position-Some}
 use Rattle.std.proofs.lemmas.Option.{slice_get-get_or, slice_get-map, slice_get_past}
 use Rattle.client_registry.proofs.Positions.{is_some-position}
-use Rattle.client_registry.specs.Run.{Run, at_first}
+use Rattle.client_registry.specs.Run.{Run, Offsets}
 use Rattle.client_registry.specs.Sized.{run_words}
 use Rattle.leakage_values.proofs.OwnNames.{is_own, own_names}
 use Rattle.leakage_values.specs.Numbered.{kind_in_code, no_number, number_of_word, number_for, numbered}
 use Rattle.keyed_fn.specs.KeyedFn.{KeyedFn}
 use Rattle.def_comparison.proofs.UsedNames.{Contains-of_first_names}
 use Rattle.def_comparison.specs.UsedNames.{all_names, names}
-use Rattle.sse_model.specs.Histories.{table_of}
+use Rattle.sse_model.specs.Histories.{table_at}
 use Rattle.sse_model.specs.Names.{Name, Kind, Token, ListLabel, ListPad, PlusLabel, PlusPad, Revocation, PlaceTag, DummyLabel, DummyCell, DummyTag, DummyBlock, name, value_of}
 use Rattle.two_level.specs.Shape.{Shape}
 use Rattle.leakage_sheets.specs.ByKeys.{value_by_own, value_by_number}
@@ -58,9 +58,9 @@ module _ (f : KeyedFn) (s : Shape) (master : List ℕ) (words : List (List ℕ))
 
 -- Promise P40, also here
 -- of the names of a history
-pub value-numbered : (f : KeyedFn) (key : List ℕ) (run : Run) (n : Name) → length (run_words run) < 2 ^ 32 → Contains (names at_first run) n
-    → value_by_number f run.setup.shape key (run_words run) (numbered (run_words run) n) ≡ table_of f (λ epoch. key) run n
-value-numbered f key run n few used =
-    let own = Contains-of_first_names (all_names at_first run) n used in
+pub value-numbered : (f : KeyedFn) (key : List ℕ) (o : Offsets) (run : Run) (n : Name) → length (run_words run) < 2 ^ 32 → Contains (names o run) n
+    → value_by_number f run.setup.shape key (run_words run) (numbered (run_words run) n) ≡ table_at f key run n
+value-numbered f key o run n few used =
+    let own = Contains-of_first_names (all_names o run) n used in
     of_kind f run.setup.shape key (run_words run) few n.epoch n.word n.kind n.number
-    (subst (λ m. is_own (run_words run) m ≡ true) own.2 (own_names run own.0 n own.1))
+    (subst (λ m. is_own (run_words run) m ≡ true) own.2 (own_names o run own.0 n own.1))

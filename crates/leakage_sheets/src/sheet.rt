@@ -1,17 +1,16 @@
-ghost use Rattle.std.specs.Prelude.{◌≡◌, ◌<◌, ◌^◌, ◌++◌, ◌∷◌, [], Contains, IfOk, List, None, OnOk, Some, length, map};
+ghost use Rattle.std.specs.Prelude.{◌≡◌, ◌<◌, ◌^◌, ◌++◌, ◌∷◌, [], IfOk, List, None, OnOk, length, map};
 ghost use Rattle.client_registry.specs.Acceptance.{size_refusal};
-ghost use Rattle.client_registry.specs.Run.{at_first};
+ghost use Rattle.client_registry.specs.Run.{Offsets};
 ghost use Rattle.client_registry.specs.Sized.{run_words};
 ghost use Rattle.leakage_history.specs.HashedRun.{run_of};
 ghost use Rattle.leakage_values.specs.NamesOnce.{Marks};
 ghost use Rattle.leakage_values.specs.Numbered.{numbered};
 ghost use Rattle.keyed_fn.specs.KeyedFn.{keyed_fn};
-ghost use Rattle.leakage_names.specs.Sheets.{value_at};
 ghost use Rattle.def_comparison.specs.UsedNames as used;
-ghost use Rattle.sse_model.specs.Histories.{table_of};
-ghost use Rattle.sse_model.specs.Names.{Name as Meant};
+ghost use Rattle.sse_model.specs.Histories.{table_at};
 ghost use Rattle.leakage_sheets.specs.ByKeys.{value_by_keys, value_by_number};
 ghost use Rattle.leakage_values.specs.Held.{Holds};
+ghost use Rattle.leakage_values.specs.SheetOf.{IsSheetOf};
 
 use crate::held::HeldKeys;
 use crate::words::keys_of;
@@ -79,22 +78,23 @@ fn sheet_for<K: Keyed>(
 
 // Promise P40 (caller): A program gets the values that the key formulas give to exactly the names a history uses; or memory runs out.
 //   clauses: values, names; assumes: accepted setup; not: Without an answer: whether memory or a number of 32 bits was missing. How long it takes.
-/// The table of all values of a history under a key: each name that it draws, or that a server looks up for it, has its value there,
-/// and no other name has one. The keys of a word are derived once. A pad has as many bytes as what it encrypts: a cell's 1 + 8·b and
-/// a block's 8·`big` by the setup's parameters, an identifier's 8. Error: where there is no memory, or no number of 32 bits for a
-/// word, a block or a dummy.
+/// The table of all values of a history under a key, as those of this epoch: each name that it draws, or that a server looks up for
+/// it, has its value there, and no other name has one. The keys of a word are derived once. A pad has as many bytes as what it
+/// encrypts: a cell's 1 + 8·b and a block's 8·`big` by the setup's parameters, an identifier's 8. Error: where there is no memory,
+/// or no number of 32 bits for a word, a block or a dummy.
 pub fn sheet_of<K: Keyed>(
     alloc: Global,
     keyed: &K,
     key: &MasterKey,
     history: &History,
+    epoch: u32,
 ) -> Result<Sheet, AllocError>
     requires { size_refusal history.now.setup ≡ None }
-    ensures values { IfOk result (λ sheet. (n : Meant) → Contains (used.names at_first (run_of history.now)) n → value_at sheet (numbered (run_words (run_of history.now)) n) ≡ Some (table_of (keyed_fn K.prf K.pad) (λ epoch. key.now) (run_of history.now) n)) }
-    ensures names { IfOk result (λ sheet. Marks sheet (map (numbered (run_words (run_of history.now))) (used.names at_first (run_of history.now)))) }
+    ensures values { IfOk result (λ sheet. (o : Offsets) → o.epoch ≡ epoch → IsSheetOf sheet (run_words (run_of history.now)) (used.names o (run_of history.now)) (table_at (keyed_fn K.prf K.pad) key.now (run_of history.now))) }
+    ensures names { IfOk result (λ sheet. (o : Offsets) → o.epoch ≡ epoch → Marks sheet (map (numbered (run_words (run_of history.now))) (used.names o (run_of history.now)))) }
 {
     let keys = held_keys(alloc, keyed, key, history)?;
-    let names = used_names(alloc, history)?;
+    let names = used_names(alloc, history, epoch)?;
     let sheet = sheet_for(alloc, keyed, &keys, names.as_slice())?;
     Ok(sheet)
 }

@@ -27,66 +27,66 @@ use Rattle.sse_model.specs.Wire.{words_live}
 
 -- An addition.
 
-abbrev position_at : Setup → List Command → ℕ → List ℕ → Position
-position_at s past id word = record { label = name 0 word PlusLabel (counter s past word); pad = name 0 word PlusPad (counter s past word); clear = λ ranks. be64 id }
+abbrev position_at : ℕ → Setup → List Command → ℕ → List ℕ → Position
+position_at epoch s past id word = record { label = name epoch word PlusLabel (counter s past word); pad = name epoch word PlusPad (counter s past word); clear = λ ranks. be64 id }
 
-added_words : (words : List (List ℕ)) (s : Setup) (past : List Command) (id : ℕ) (ws : List (List ℕ))
-    → map (numbered_drawing words) (map ForEntry (map (position_at s past id) (filter (λ word. not (is_listed s past word id)) ws)))
-    ≡ flat_map (addition_piece words (facts_of s past) id) ws
-added_words words s past id [] = refl
-added_words words s past id (w ∷ ws) = by (is_listed s past w id) (added_words words s past id ws)
+added_words : (epoch : ℕ) (words : List (List ℕ)) (s : Setup) (past : List Command) (id : ℕ) (ws : List (List ℕ))
+    → map (numbered_drawing words) (map ForEntry (map (position_at epoch s past id) (filter (λ word. not (is_listed s past word id)) ws)))
+    ≡ flat_map (addition_piece epoch words (facts_of s past) id) ws
+added_words epoch words s past id [] = refl
+added_words epoch words s past id (w ∷ ws) = by (is_listed s past w id) (added_words epoch words s past id ws)
   where
     rest : List (List ℕ)
     rest = filter (λ word. not (is_listed s past word id)) ws
 
     all : List Drawing
-    all = flat_map (addition_piece words (facts_of s past) id) ws
+    all = flat_map (addition_piece epoch words (facts_of s past) id) ws
 
     one : Drawing
-    one = addition_by_number (number_of_word words w) (counter s past w)
+    one = addition_by_number epoch (number_of_word words w) (counter s past w)
 
-    by : (b : Bool) → map (numbered_drawing words) (map ForEntry (map (position_at s past id) rest)) ≡ all
-        → map (numbered_drawing words) (map ForEntry (map (position_at s past id) (cond (not b) (w ∷ rest) rest))) ≡ (if b then [] else one ∷ []) ++ all
+    by : (b : Bool) → map (numbered_drawing words) (map ForEntry (map (position_at epoch s past id) rest)) ≡ all
+        → map (numbered_drawing words) (map ForEntry (map (position_at epoch s past id) (cond (not b) (w ∷ rest) rest))) ≡ (if b then [] else one ∷ []) ++ all
     by true had = had
     by false had = ap (λ more. one ∷ more) had
 
-pub drawings-add : (words : List (List ℕ)) (s : Setup) (past : List Command) (d : Document)
-    → flat_map (addition_piece words (facts_of s past) d.id) d.words ≡ map (numbered_drawing words) (drawings_by 0 s past (Add d))
-drawings-add words s past d = sym (added_words words s past d.id d.words)
+pub drawings-add : (epoch : ℕ) (words : List (List ℕ)) (s : Setup) (past : List Command) (d : Document)
+    → flat_map (addition_piece epoch words (facts_of s past) d.id) d.words ≡ map (numbered_drawing words) (drawings_by epoch s past (Add d))
+drawings-add epoch words s past d = sym (added_words epoch words s past d.id d.words)
 
 -- A deletion.
 
-deleted_words : (words : List (List ℕ)) (test : List ℕ → Bool) (id : ℕ) (ws : List (List ℕ))
-    → map (numbered_drawing words) (map (λ word. ForNumber (name 0 word Revocation id)) (filter (λ word. not (test word)) ws))
-    ≡ flat_map (λ word. if test word then [] else number_by_number (number_of_word words word) id ∷ []) ws
-deleted_words words test id [] = refl
-deleted_words words test id (w ∷ ws) = by (test w) (deleted_words words test id ws)
+deleted_words : (epoch : ℕ) (words : List (List ℕ)) (test : List ℕ → Bool) (id : ℕ) (ws : List (List ℕ))
+    → map (numbered_drawing words) (map (λ word. ForNumber (name epoch word Revocation id)) (filter (λ word. not (test word)) ws))
+    ≡ flat_map (λ word. if test word then [] else number_by_number epoch (number_of_word words word) id ∷ []) ws
+deleted_words epoch words test id [] = refl
+deleted_words epoch words test id (w ∷ ws) = by (test w) (deleted_words epoch words test id ws)
   where
     rest : List (List ℕ)
     rest = filter (λ word. not (test word)) ws
 
     all : List Drawing
-    all = flat_map (λ word. if test word then [] else number_by_number (number_of_word words word) id ∷ []) ws
+    all = flat_map (λ word. if test word then [] else number_by_number epoch (number_of_word words word) id ∷ []) ws
 
-    by : (b : Bool) → map (numbered_drawing words) (map (λ word. ForNumber (name 0 word Revocation id)) rest) ≡ all
-        → map (numbered_drawing words) (map (λ word. ForNumber (name 0 word Revocation id)) (cond (not b) (w ∷ rest) rest)) ≡ (if b then [] else number_by_number (number_of_word words w) id ∷ []) ++ all
+    by : (b : Bool) → map (numbered_drawing words) (map (λ word. ForNumber (name epoch word Revocation id)) rest) ≡ all
+        → map (numbered_drawing words) (map (λ word. ForNumber (name epoch word Revocation id)) (cond (not b) (w ∷ rest) rest)) ≡ (if b then [] else number_by_number epoch (number_of_word words w) id ∷ []) ++ all
     by true had = had
-    by false had = ap (λ more. number_by_number (number_of_word words w) id ∷ more) had
+    by false had = ap (λ more. number_by_number epoch (number_of_word words w) id ∷ more) had
 
-pub drawings-delete : (words : List (List ℕ)) (s : Setup) (past : List Command) (id : ℕ) (sent : List (Word × DocId)) → HasApart s past
+pub drawings-delete : (epoch : ℕ) (words : List (List ℕ)) (s : Setup) (past : List Command) (id : ℕ) (sent : List (Word × DocId)) → HasApart s past
     → ((word : List ℕ) (n : ℕ) → has_pair word n sent ≡ was_sent s past word n)
-    → flat_map (deletion_piece words sent id) (unwrap_or ((facts_of s past).live id) []) ≡ map (numbered_drawing words) (drawings_by 0 s past (Delete id))
-drawings-delete words s past id sent apart same =
-    (λ i. flat_map (λ word. if same word id i then [] else number_by_number (number_of_word words word) id ∷ []) (sym (words_live-apart (live s.documents past) id apart) i))
-    ∙ sym (deleted_words words (λ word. was_sent s past word id) id (words_live (live s.documents past) id))
+    → flat_map (deletion_piece epoch words sent id) (unwrap_or ((facts_of s past).live id) []) ≡ map (numbered_drawing words) (drawings_by epoch s past (Delete id))
+drawings-delete epoch words s past id sent apart same =
+    (λ i. flat_map (λ word. if same word id i then [] else number_by_number epoch (number_of_word words word) id ∷ []) (sym (words_live-apart (live s.documents past) id apart) i))
+    ∙ sym (deleted_words epoch words (λ word. was_sent s past word id) id (words_live (live s.documents past) id))
 
 -- A search.
 
-pub drawings-search : (words : List (List ℕ)) (s : Setup) (past : List Command) (word : List ℕ) (searched : List Word) → has_search word searched ≡ list_any (searches_for word) past
-    → search_piece words searched word ≡ map (numbered_drawing words) (drawings_by 0 s past (Search word))
-drawings-search words s past word searched same = ap (λ b. if b then [] else token_by_number (number_of_word words word) ∷ []) same ∙ by (list_any (searches_for word) past)
+pub drawings-search : (epoch : ℕ) (words : List (List ℕ)) (s : Setup) (past : List Command) (word : List ℕ) (searched : List Word) → has_search word searched ≡ list_any (searches_for word) past
+    → search_piece epoch words searched word ≡ map (numbered_drawing words) (drawings_by epoch s past (Search word))
+drawings-search epoch words s past word searched same = ap (λ b. if b then [] else token_by_number epoch (number_of_word words word) ∷ []) same ∙ by (list_any (searches_for word) past)
   where
-    by : (b : Bool) → (if b then [] else token_by_number (number_of_word words word) ∷ []) ≡ map (numbered_drawing words) (if b then [] else ForToken (name 0 word Token 0) ∷ [])
+    by : (b : Bool) → (if b then [] else token_by_number epoch (number_of_word words word) ∷ []) ≡ map (numbered_drawing words) (if b then [] else ForToken (name epoch word Token 0) ∷ [])
     by true = refl
     by false = refl
 

@@ -7,7 +7,7 @@ use Rattle.std.proofs.lemmas.List.Concat.{flat_map-append}
 use Rattle.std.proofs.lemmas.List.Elements.{All-append, All-cons, All-filter, All-head, All-nil, All-tail, filter-append}
 use Rattle.std.proofs.lemmas.List.Sums.{fold-append}
 use Rattle.std.proofs.lemmas.Map.Views.{any-filter_same}
-use Rattle.client_registry.specs.Run.{Run, at_first}
+use Rattle.client_registry.specs.Run.{Run, Offsets}
 use Rattle.client_registry.specs.Sized.{run_words}
 use Rattle.leakage_values.proofs.OwnNames.{is_own, own_names, same_numbers-numbered}
 use Rattle.leakage_values.specs.NamesOnce.{same_numbers, with_name, with_names}
@@ -92,20 +92,20 @@ flat-numbered f [] = refl
 flat-numbered f (list ∷ lists) = ap (λ rest. map f list ++ rest) (flat-numbered f lists) ∙ sym (map-append f list (flat_map (λ ns. ns) lists))
 
 -- all that a history draws, then all that is looked up for it
-pub names-numbered : (run : Run) (d p : List (List values.Name)) (none drawing all : List values.Name) → none ≡ []
-    → d ≡ map (map (numbered (run_words run))) (drawn at_first run) → p ≡ map (map (numbered (run_words run))) (probed at_first run)
+pub names-numbered : (o : Offsets) (run : Run) (d p : List (List values.Name)) (none drawing all : List values.Name) → none ≡ []
+    → d ≡ map (map (numbered (run_words run))) (drawn o run) → p ≡ map (map (numbered (run_words run))) (probed o run)
     → drawing ≡ with_names none (flat_map (λ ns. ns) d) → all ≡ with_names drawing (flat_map (λ ns. ns) p)
-    → all ≡ map (numbered (run_words run)) (names at_first run)
-names-numbered run d p none drawing all empty drew looked one other =
+    → all ≡ map (numbered (run_words run)) (names o run)
+names-numbered o run d p none drawing all empty drew looked one other =
     other
     ∙ (λ i. with_names (one i) (flat_map (λ ns. ns) p))
     ∙ (λ i. with_names (with_names (empty i) (flat_map (λ ns. ns) (drew i))) (flat_map (λ ns. ns) (looked i)))
-    ∙ sym (fold-append with_name [] (flat_map (λ ns. ns) (map (map f) (drawn at_first run))) (flat_map (λ ns. ns) (map (map f) (probed at_first run))))
+    ∙ sym (fold-append with_name [] (flat_map (λ ns. ns) (map (map f) (drawn o run))) (flat_map (λ ns. ns) (map (map f) (probed o run))))
     ∙ ap (with_names [])
-    ((λ i. flat-numbered f (drawn at_first run) i ++ flat-numbered f (probed at_first run) i)
-    ∙ sym (map-append f (flat_map (λ ns. ns) (drawn at_first run)) (flat_map (λ ns. ns) (probed at_first run)))
-    ∙ ap (map f) (sym (flat_map-append (λ ns. ns) (drawn at_first run) (probed at_first run))))
-    ∙ numbered-names (run_words run) [] (flat_map (λ ns. ns) (drawn at_first run ++ probed at_first run)) (All-nil (λ n. is_own (run_words run) n ≡ true)) (own_names run)
+    ((λ i. flat-numbered f (drawn o run) i ++ flat-numbered f (probed o run) i)
+    ∙ sym (map-append f (flat_map (λ ns. ns) (drawn o run)) (flat_map (λ ns. ns) (probed o run)))
+    ∙ ap (map f) (sym (flat_map-append (λ ns. ns) (drawn o run) (probed o run))))
+    ∙ numbered-names (run_words run) [] (flat_map (λ ns. ns) (drawn o run ++ probed o run)) (All-nil (λ n. is_own (run_words run) n ≡ true)) (own_names o run)
   where
     f : Name → values.Name
     f = numbered (run_words run)

@@ -17,7 +17,7 @@ use Rattle.client_registry.specs.Document.{Document}
 use Rattle.client_registry.specs.Documents.{all_words}
 use Rattle.client_registry.specs.Live.{after, live, is_listed, added_list, counter}
 use Rattle.client_registry.specs.Over.{over}
-use Rattle.client_registry.specs.Run.{Run, at_first}
+use Rattle.client_registry.specs.Run.{Run, Offsets}
 use Rattle.client_registry.specs.Setup.{Setup, setup_words, setup_list}
 use Rattle.client_registry.specs.Sized.{run_words, words_named}
 use Rattle.leakage_values.specs.NamesOnce.{same_numbers}
@@ -183,51 +183,51 @@ words_of_one words (d ∷ docs) id has =
     by true = has_left words d.words (all_words docs) has
     by false = λ w none. absurd (true≢false (sym none))
 
-module _ (words : List (List ℕ)) (s : Setup) (has : Has words (all_words s.documents)) where
+module _ (epoch : ℕ) (words : List (List ℕ)) (s : Setup) (has : Has words (all_words s.documents)) where
   abbrev is : Name → Type 0
   is n = is_own words n ≡ true
 
-  own_setup : All is (names_of_setup 0 s)
+  own_setup : All is (names_of_setup epoch s)
   own_setup =
       let its = has_all words (setup_words s) (λ w among. has w (sym (list_any-first_seen w (all_words s.documents)) ∙ among)) in
-      subst (All is) (sym (names_of_setup-by_word 0 s))
-      (All-append is (entry_names_of_setup 0 s) (block_names_of_setup 0 s)
-      (All-append is (flat_map (entry_names 0) (setup_words s)) (flat_map (dummy_entry_names 0) (range_with_len 0 (dummy_entries s)))
-      (All-flat_map is (entry_names 0) (setup_words s) (λ k d lt. All-two is (name 0 _ ListLabel 0) (name 0 _ ListPad 0) (its k d lt) (its k d lt)))
-      (All-flat_map is (dummy_entry_names 0) (range_with_len 0 (dummy_entries s)) (λ k d lt. All-two is (name 0 no_word DummyLabel _) (name 0 no_word DummyCell _) refl refl)))
-      (All-append is (flat_map (block_names 0 s) (setup_words s)) (flat_map (dummy_block_names 0) (range_with_len 0 (dummy_blocks s)))
-      (All-flat_map is (block_names 0 s) (setup_words s)
-      (λ k d lt. All-flat_map is (block_names_at 0 _) (range_with_len 0 (word_blocks s _)) (λ j e le. All-two is (name 0 _ PlaceTag _) (name 0 _ ListPad _) (its k d lt) (its k d lt))))
-      (All-flat_map is (dummy_block_names 0) (range_with_len 0 (dummy_blocks s)) (λ k d lt. All-two is (name 0 no_word DummyTag _) (name 0 no_word DummyBlock _) refl refl))))
+      subst (All is) (sym (names_of_setup-by_word epoch s))
+      (All-append is (entry_names_of_setup epoch s) (block_names_of_setup epoch s)
+      (All-append is (flat_map (entry_names epoch) (setup_words s)) (flat_map (dummy_entry_names epoch) (range_with_len 0 (dummy_entries s)))
+      (All-flat_map is (entry_names epoch) (setup_words s) (λ k d lt. All-two is (name epoch _ ListLabel 0) (name epoch _ ListPad 0) (its k d lt) (its k d lt)))
+      (All-flat_map is (dummy_entry_names epoch) (range_with_len 0 (dummy_entries s)) (λ k d lt. All-two is (name epoch no_word DummyLabel _) (name epoch no_word DummyCell _) refl refl)))
+      (All-append is (flat_map (block_names epoch s) (setup_words s)) (flat_map (dummy_block_names epoch) (range_with_len 0 (dummy_blocks s)))
+      (All-flat_map is (block_names epoch s) (setup_words s)
+      (λ k d lt. All-flat_map is (block_names_at epoch _) (range_with_len 0 (word_blocks s _)) (λ j e le. All-two is (name epoch _ PlaceTag _) (name epoch _ ListPad _) (its k d lt) (its k d lt))))
+      (All-flat_map is (dummy_block_names epoch) (range_with_len 0 (dummy_blocks s)) (λ k d lt. All-two is (name epoch no_word DummyTag _) (name epoch no_word DummyBlock _) refl refl))))
 
-  own_drawn : (past : List Command) (c : Command) → Has words (flat_map words_named past) → Has words (words_named c) → All is (drawn_by 0 s past c)
+  own_drawn : (past : List Command) (c : Command) → Has words (flat_map words_named past) → Has words (words_named c) → All is (drawn_by epoch s past c)
   own_drawn past (Add d) before named =
       let fresh = All-filter (λ word. not (is_listed s past word d.id)) (λ w. list_any (bytes_eq w) words ≡ true) d.words (has_all words d.words named) in
-      subst (All is) (sym (added_names-by_word 0 s past d))
-      (All-flat_map is (plus_names 0 s past) (fresh_words s past d) (λ k w lt. All-two is (name 0 _ PlusLabel _) (name 0 _ PlusPad _) (fresh k w lt) (fresh k w lt)))
+      subst (All is) (sym (added_names-by_word epoch s past d))
+      (All-flat_map is (plus_names epoch s past) (fresh_words s past d) (λ k w lt. All-two is (name epoch _ PlusLabel _) (name epoch _ PlusPad _) (fresh k w lt) (fresh k w lt)))
   own_drawn past (Delete id) before named =
       let docs = live s.documents past in
       let unsent = filter (λ word. not (was_sent s past word id)) (words_live docs id) in
-      All-map is (λ word. name 0 word Revocation id) unsent
+      All-map is (λ word. name epoch word Revocation id) unsent
       (All-filter (λ word. not (was_sent s past word id)) (λ w. list_any (bytes_eq w) words ≡ true) (words_live docs id)
       (has_all words (words_live docs id) (words_of_one words docs id (words_of_live words s.documents past has before))))
   own_drawn past (Search word) before named = by (list_any (searches_for word) past)
     where
-      by : (b : Bool) → All is (if b then [] else name 0 word Token 0 ∷ [])
+      by : (b : Bool) → All is (if b then [] else name epoch word Token 0 ∷ [])
       by true = All-nil is
-      by false = All-cons is (name 0 word Token 0) [] (named word (or_left (bytes_eq word word) false (nat_list_eq_equiv.refl word))) (All-nil is)
+      by false = All-cons is (name epoch word Token 0) [] (named word (or_left (bytes_eq word word) false (nat_list_eq_equiv.refl word))) (All-nil is)
 
-  own_probed : (past : List Command) (c : Command) → Has words (flat_map words_named past) → Has words (words_named c) → All is (probed_by 0 s past c)
+  own_probed : (past : List Command) (c : Command) → Has words (flat_map words_named past) → Has words (words_named c) → All is (probed_by epoch s past c)
   own_probed past (Add d) before named = All-nil is
   own_probed past (Delete id) before named = All-nil is
   own_probed past (Search word) before named =
       let its : list_any (bytes_eq word) words ≡ true = named word (or_left (bytes_eq word word) false (nat_list_eq_equiv.refl word)) in
       let cs = range_with_len 0 (counter s past word + 1) in
       let ids = setup_list s word ++ added_list s past word in
-      let labels = map (λ c. name 0 word PlusLabel c) cs in
-      let numbers = map (λ id. name 0 word Revocation id) ids in
-      All-cons is (name 0 word ListLabel 0) (labels ++ numbers) its
-      (All-append is labels numbers (All-map is (λ c. name 0 word PlusLabel c) cs (λ k d lt. its)) (All-map is (λ id. name 0 word Revocation id) ids (λ k d lt. its)))
+      let labels = map (λ c. name epoch word PlusLabel c) cs in
+      let numbers = map (λ id. name epoch word Revocation id) ids in
+      All-cons is (name epoch word ListLabel 0) (labels ++ numbers) its
+      (All-append is labels numbers (All-map is (λ c. name epoch word PlusLabel c) cs (λ k d lt. its)) (All-map is (λ id. name epoch word Revocation id) ids (λ k d lt. its)))
 
   -- what is so of the names of each command is so of those of all
   own_over : (f : List Command → Command → List Name) → ((past : List Command) (c : Command) → Has words (flat_map words_named past) → Has words (words_named c) → All is (f past c))
@@ -243,13 +243,13 @@ module _ (words : List (List ℕ)) (s : Setup) (has : Has words (all_words s.doc
 
 -- Promise P36, also here
 -- each name that a history draws or a server looks up for it is of one of its words, or of a dummy
-pub own_names : (run : Run) → All (λ n. is_own (run_words run) n ≡ true) (all_names at_first run)
-own_names run =
-    subst (All own) (sym (flat_map-append (λ ns. ns) (drawn at_first run) (probed at_first run)))
-    (All-append own (flat_map (λ ns. ns) (drawn at_first run)) (flat_map (λ ns. ns) (probed at_first run))
-    (All-append own (names_of_setup 0 run.setup) (flat_map (λ ns. ns) (over (drawn_by 0 run.setup) [] run.later)) (own_setup words run.setup docs)
-    (own_over words run.setup docs (drawn_by 0 run.setup) (own_drawn words run.setup docs) [] run.later none later))
-    (own_over words run.setup docs (probed_by 0 run.setup) (own_probed words run.setup docs) [] run.later none later))
+pub own_names : (o : Offsets) (run : Run) → All (λ n. is_own (run_words run) n ≡ true) (all_names o run)
+own_names o run =
+    subst (All own) (sym (flat_map-append (λ ns. ns) (drawn o run) (probed o run)))
+    (All-append own (flat_map (λ ns. ns) (drawn o run)) (flat_map (λ ns. ns) (probed o run))
+    (All-append own (names_of_setup o.epoch run.setup) (flat_map (λ ns. ns) (over (drawn_by o.epoch run.setup) [] run.later)) (own_setup o.epoch words run.setup docs)
+    (own_over o.epoch words run.setup docs (drawn_by o.epoch run.setup) (own_drawn o.epoch words run.setup docs) [] run.later none later))
+    (own_over o.epoch words run.setup docs (probed_by o.epoch run.setup) (own_probed o.epoch words run.setup docs) [] run.later none later))
   where
     words : List (List ℕ)
     words = run_words run

@@ -12,22 +12,22 @@ use Rattle.leakage_names.specs.declared.name.NameKind.TheVariants as kinds
 use Rattle.sse_model.specs.Drawn.{probed_by}
 use Rattle.sse_model.specs.Names.{name, PlusLabel, Revocation}
 
-module _ (words : List (List ℕ)) (word : List ℕ) where
-  labels : (cs : List ℕ) → map (numbered words) (map (λ c. name 0 word PlusLabel c) cs) ≡ map (code_name (number_of_word words word) kinds.PlusLabel) cs
+module _ (epoch : ℕ) (words : List (List ℕ)) (word : List ℕ) where
+  labels : (cs : List ℕ) → map (numbered words) (map (λ c. name epoch word PlusLabel c) cs) ≡ map (code_name epoch (number_of_word words word) kinds.PlusLabel) cs
   labels [] = refl
-  labels (c ∷ cs) = ap (λ rest. code_name (number_of_word words word) kinds.PlusLabel c ∷ rest) (labels cs)
+  labels (c ∷ cs) = ap (λ rest. code_name epoch (number_of_word words word) kinds.PlusLabel c ∷ rest) (labels cs)
 
-  revocations : (ids : List ℕ) → map (numbered words) (map (λ id. name 0 word Revocation id) ids) ≡ map (code_name (number_of_word words word) kinds.Revocation) ids
+  revocations : (ids : List ℕ) → map (numbered words) (map (λ id. name epoch word Revocation id) ids) ≡ map (code_name epoch (number_of_word words word) kinds.Revocation) ids
   revocations [] = refl
-  revocations (id ∷ ids) = ap (λ rest. code_name (number_of_word words word) kinds.Revocation id ∷ rest) (revocations ids)
+  revocations (id ∷ ids) = ap (λ rest. code_name epoch (number_of_word words word) kinds.Revocation id ∷ rest) (revocations ids)
 
 -- of a search
-pub probed-search : (words : List (List ℕ)) (s : Setup) (past : List Command) (word : List ℕ)
-    → probed_by_number (number_of_word words word) (counter s past word) (setup_list s word ++ added_list s past word) ≡ map (numbered words) (probed_by 0 s past (Search word))
-probed-search words s past word =
+pub probed-search : (epoch : ℕ) (words : List (List ℕ)) (s : Setup) (past : List Command) (word : List ℕ)
+    → probed_by_number epoch (number_of_word words word) (counter s past word) (setup_list s word ++ added_list s past word) ≡ map (numbered words) (probed_by epoch s past (Search word))
+probed-search epoch words s past word =
     let cs = range_with_len 0 (counter s past word + 1) in
     let ids = setup_list s word ++ added_list s past word in
     let number = number_of_word words word in
-    ap (λ rest. code_name number kinds.ListLabel 0 ∷ rest)
-    (sym (λ i. labels words word cs i ++ revocations words word ids i)
-    ∙ sym (map-append (numbered words) (map (λ c. name 0 word PlusLabel c) cs) (map (λ id. name 0 word Revocation id) ids)))
+    ap (λ rest. code_name epoch number kinds.ListLabel 0 ∷ rest)
+    (sym (λ i. labels epoch words word cs i ++ revocations epoch words word ids i)
+    ∙ sym (map-append (numbered words) (map (λ c. name epoch word PlusLabel c) cs) (map (λ id. name epoch word Revocation id) ids)))

@@ -1,4 +1,4 @@
--- The drawings of commands, by the numbers of words.
+-- The drawings of an epoch's commands, by the numbers of words.
 use Rattle.std.specs.Prelude.{ℕ, List, [], ◌∷◌, if◌then◌else◌}
 use Rattle.client_registry.specs.Facts.{Facts}
 use Rattle.client_registry.specs.declared.doc_id.DocId.{DocId}
@@ -11,23 +11,23 @@ use Rattle.leakage_values.specs.declared.drawn.Drawing.TheVariants.{Entry, Numbe
 use Rattle.leakage_names.specs.declared.name.NameKind.TheVariants.{PlusLabel, PlusPad, Revocation, Token}
 
 -- the new entry of an addition of the word of this number
-abbrev pub addition_by_number : (word counter : ℕ) → Drawing
-addition_by_number word counter = Entry (code_name word PlusLabel counter) (code_name word PlusPad counter)
+abbrev pub addition_by_number : (epoch word counter : ℕ) → Drawing
+addition_by_number epoch word counter = Entry (code_name epoch word PlusLabel counter) (code_name epoch word PlusPad counter)
 
-abbrev pub number_by_number : (word id : ℕ) → Drawing
-number_by_number word id = Number (code_name word Revocation id)
+abbrev pub number_by_number : (epoch word id : ℕ) → Drawing
+number_by_number epoch word id = Number (code_name epoch word Revocation id)
 
-abbrev pub token_by_number : ℕ → Drawing
-token_by_number word = TokenOf (code_name word Token 0)
+abbrev pub token_by_number : (epoch word : ℕ) → Drawing
+token_by_number epoch word = TokenOf (code_name epoch word Token 0)
 
 -- an addition draws for a word whose pair isn't listed
-abbrev pub addition_piece : List (List ℕ) → Facts → (id : ℕ) → List ℕ → List Drawing
-addition_piece words f id word = if f.listed word id then [] else addition_by_number (number_of_word words word) (f.counter word) ∷ []
+abbrev pub addition_piece : (epoch : ℕ) → List (List ℕ) → Facts → (id : ℕ) → List ℕ → List Drawing
+addition_piece epoch words f id word = if f.listed word id then [] else addition_by_number epoch (number_of_word words word) (f.counter word) ∷ []
 
 -- a deletion draws for a word whose pair isn't among those that were sent
-abbrev pub deletion_piece : List (List ℕ) → List (Word × DocId) → (id : ℕ) → List ℕ → List Drawing
-deletion_piece words sent id word = if has_pair word id sent then [] else number_by_number (number_of_word words word) id ∷ []
+abbrev pub deletion_piece : (epoch : ℕ) → List (List ℕ) → List (Word × DocId) → (id : ℕ) → List ℕ → List Drawing
+deletion_piece epoch words sent id word = if has_pair word id sent then [] else number_by_number epoch (number_of_word words word) id ∷ []
 
 -- a search draws for a word that isn't among those that were searched
-abbrev pub search_piece : List (List ℕ) → List Word → List ℕ → List Drawing
-search_piece words searched word = if has_search word searched then [] else token_by_number (number_of_word words word) ∷ []
+abbrev pub search_piece : (epoch : ℕ) → List (List ℕ) → List Word → List ℕ → List Drawing
+search_piece epoch words searched word = if has_search word searched then [] else token_by_number epoch (number_of_word words word) ∷ []

@@ -7,3 +7,4 @@ pub mod Numbered
 pub mod ProbedNames
 pub mod Replayed
 pub mod SetupDrawings
+pub mod SheetOf

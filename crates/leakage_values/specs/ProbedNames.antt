@@ -1,4 +1,4 @@
--- The names that a server looks up for a search, by the number of its word.
+-- The names that a server looks up for a search in an epoch, by the number of its word.
 use Rattle.std.specs.Prelude.{ℕ, ◌+◌, List, ◌∷◌, ◌++◌, map}
 use Rattle.std.specs.List.{range_with_len}
 use Rattle.leakage_values.specs.SetupDrawings.{code_name}
@@ -7,8 +7,8 @@ use Rattle.leakage_names.specs.declared.name.NameKind.TheVariants.{ListLabel, Pl
 
 -- of the word of this number, its next counter, and the identifiers that are listed with it: the list's label, each
 -- addition's up to the missing one, and each revocation number
-abbrev pub probed_by_number : ℕ → (counter : ℕ) → (ids : List ℕ) → List Name
-probed_by_number word counter ids =
-    code_name word ListLabel 0
-    ∷ map (code_name word PlusLabel) (range_with_len 0 (counter + 1))
-    ++ map (code_name word Revocation) ids
+abbrev pub probed_by_number : (epoch word : ℕ) → (counter : ℕ) → (ids : List ℕ) → List Name
+probed_by_number epoch word counter ids =
+    code_name epoch word ListLabel 0
+    ∷ map (code_name epoch word PlusLabel) (range_with_len 0 (counter + 1))
+    ++ map (code_name epoch word Revocation) ids

@@ -1,6 +1,6 @@
 ghost use Rattle.std.specs.Prelude.{◌≡◌, None, IfOk, OnOk, flat_map, map};
 ghost use Rattle.client_registry.specs.Acceptance.{size_refusal};
-ghost use Rattle.client_registry.specs.Run.{at_first};
+ghost use Rattle.client_registry.specs.Run.{Offsets};
 ghost use Rattle.client_registry.specs.Sized.{run_words};
 ghost use Rattle.leakage_history.specs.HashedRun.{run_of};
 ghost use Rattle.leakage_values.specs.NamesOnce.{Marks, with_name, with_names};
@@ -56,14 +56,15 @@ fn push_lists(
 }
 
 // Promise P36, also here; clauses: ensures
-/// The names whose values a history uses, each of them once: all that it draws, command by command, and then all that a server looks
-/// up for it, each at its first place alone. Error: where there is no memory, or no number of 32 bits for a word.
-pub fn used_names(alloc: Global, history: &History) -> Result<Items<Name>, AllocError>
+/// The names whose values a history uses, as those of this epoch, each of them once: all that it draws, command by command, and
+/// then all that a server looks up for it, each at its first place alone. Error: where there is no memory, or no number of 32 bits
+/// for a word.
+pub fn used_names(alloc: Global, history: &History, epoch: u32) -> Result<Items<Name>, AllocError>
     requires { size_refusal history.now.setup ≡ None }
-    ensures { IfOk result (λ names. names ≡ map (numbered (run_words (run_of history.now))) (used.names at_first (run_of history.now))) }
+    ensures { IfOk result (λ names. (o : Offsets) → o.epoch ≡ epoch → names ≡ map (numbered (run_words (run_of history.now))) (used.names o (run_of history.now))) }
 {
-    let drawn = drawn_names(alloc, history)?;
-    let probed = probed_names(alloc, history)?;
+    let drawn = drawn_names(alloc, history, epoch)?;
+    let probed = probed_names(alloc, history, epoch)?;
     let mut seen = Sheet::new(alloc);
     let mut names = Items::new(alloc);
     push_lists(&mut names, &mut seen, drawn.as_slice())?;

@@ -22,27 +22,27 @@ use sse_frames::Items;
 use std::alloc::{AllocError, Global};
 
 /// The new entry of an addition of the word of this number, with its counter.
-fn addition(word: u32, counter: u32) -> Drawing
-    ensures { result ≡ addition_by_number word counter }
+fn addition(epoch: u32, word: u32, counter: u32) -> Drawing
+    ensures { result ≡ addition_by_number epoch word counter }
 {
     Drawing::Entry(
-        name(word, NameKind::PlusLabel, u64::from(counter)),
-        name(word, NameKind::PlusPad, u64::from(counter)),
+        name(epoch, word, NameKind::PlusLabel, u64::from(counter)),
+        name(epoch, word, NameKind::PlusPad, u64::from(counter)),
     )
 }
 
 /// The revocation number of the word of this number and an identifier.
-fn revocation(word: u32, id: DocId) -> Drawing
-    ensures { result ≡ number_by_number word (id_number id) }
+fn revocation(epoch: u32, word: u32, id: DocId) -> Drawing
+    ensures { result ≡ number_by_number epoch word (id_number id) }
 {
-    Drawing::Number(name(word, NameKind::Revocation, id.get()))
+    Drawing::Number(name(epoch, word, NameKind::Revocation, id.get()))
 }
 
 /// The token of the word of this number.
-fn token(word: u32) -> Drawing
-    ensures { result ≡ token_by_number word }
+fn token(epoch: u32, word: u32) -> Drawing
+    ensures { result ≡ token_by_number epoch word }
 {
-    Drawing::Token(name(word, NameKind::Token, 0))
+    Drawing::Token(name(epoch, word, NameKind::Token, 0))
 }
 
 /// Appends the new entry of a word where its pair with the identifier isn't listed.
@@ -52,12 +52,13 @@ fn push_if_fresh(
     registry: &Registry,
     word: &Word,
     id: DocId,
+    epoch: u32,
 ) -> Result<(), AllocError>
     requires { length words.now < 2 ^ 32 }
-    ensures { OnOk result (drawings.new ≡ drawings.old ++ addition_piece words.now (facts registry.now) (id_number id) (word_bytes word.now)) }
+    ensures { OnOk result (drawings.new ≡ drawings.old ++ addition_piece epoch words.now (facts registry.now) (id_number id) (word_bytes word.now)) }
 {
     if !registry.is_listed(word, id) {
-        drawings.push(addition(number_of(words, word), registry.counter(word)))?;
+        drawings.push(addition(epoch, number_of(words, word), registry.counter(word)))?;
     }
     Ok(())
 }
@@ -69,12 +70,13 @@ fn push_addition(
     registry: &Registry,
     of: &[Word],
     id: DocId,
+    epoch: u32,
 ) -> Result<(), AllocError>
     requires { length words.now < 2 ^ 32 }
-    ensures { OnOk result (drawings.new ≡ drawings.old ++ flat_map (addition_piece words.now (facts registry.now) (id_number id)) (map word_bytes of.now)) }
+    ensures { OnOk result (drawings.new ≡ drawings.old ++ flat_map (addition_piece epoch words.now (facts registry.now) (id_number id)) (map word_bytes of.now)) }
 {
     for word in of {
-        push_if_fresh(drawings, words, registry, word, id)?;
+        push_if_fresh(drawings, words, registry, word, id, epoch)?;
     }
     Ok(())
 }
@@ -86,12 +88,13 @@ fn push_if_unsent(
     sent: &Pairs,
     word: &Word,
     id: DocId,
+    epoch: u32,
 ) -> Result<(), AllocError>
     requires { length words.now < 2 ^ 32 }
-    ensures { OnOk result (drawings.new ≡ drawings.old ++ deletion_piece words.now sent.now.keys (id_number id) (word_bytes word.now)) }
+    ensures { OnOk result (drawings.new ≡ drawings.old ++ deletion_piece epoch words.now sent.now.keys (id_number id) (word_bytes word.now)) }
 {
     if !is_pair(sent, word, id) {
-        drawings.push(revocation(number_of(words, word), id))?;
+        drawings.push(revocation(epoch, number_of(words, word), id))?;
     }
     Ok(())
 }
@@ -104,13 +107,21 @@ fn push_deletion(
     registry: &Registry,
     numbers: &[u32],
     id: DocId,
+    epoch: u32,
 ) -> Result<(), AllocError>
     requires few { length words.now < 2 ^ 32 }
     requires within { All (λ n. n < length (known_words registry.now)) numbers.now }
-    ensures { OnOk result (drawings.new ≡ drawings.old ++ flat_map (deletion_piece words.now sent.now.keys (id_number id)) (words_by_number (known_words registry.now) numbers.now)) }
+    ensures { OnOk result (drawings.new ≡ drawings.old ++ flat_map (deletion_piece epoch words.now sent.now.keys (id_number id)) (words_by_number (known_words registry.now) numbers.now)) }
 {
     for number in numbers {
-        push_if_unsent(drawings, words, sent, registry.word(*number as usize), id)?;
+        push_if_unsent(
+            drawings,
+            words,
+            sent,
+            registry.word(*number as usize),
+            id,
+            epoch,
+        )?;
     }
     Ok(())
 }
@@ -122,12 +133,13 @@ fn push_live(
     sent: &Pairs,
     registry: &Registry,
     id: DocId,
+    epoch: u32,
 ) -> Result<(), AllocError>
     requires { length words.now < 2 ^ 32 }
-    ensures { OnOk result (drawings.new ≡ drawings.old ++ flat_map (deletion_piece words.now sent.now.keys (id_number id)) (unwrap_or ((facts registry.now).live (id_number id)) [])) }
+    ensures { OnOk result (drawings.new ≡ drawings.old ++ flat_map (deletion_piece epoch words.now sent.now.keys (id_number id)) (unwrap_or ((facts registry.now).live (id_number id)) [])) }
 {
     match registry.get(id) {
-        Some(doc) => push_deletion(drawings, words, sent, registry, doc.numbers, id),
+        Some(doc) => push_deletion(drawings, words, sent, registry, doc.numbers, id, epoch),
         None => Ok(()),
     }
 }
@@ -138,12 +150,13 @@ fn push_search(
     words: &RunWords,
     searched: &IndexSet<Word, HashKeys>,
     word: &Word,
+    epoch: u32,
 ) -> Result<(), AllocError>
     requires { length words.now < 2 ^ 32 }
-    ensures { OnOk result (drawings.new ≡ drawings.old ++ search_piece words.now searched.now.keys (word_bytes word.now)) }
+    ensures { OnOk result (drawings.new ≡ drawings.old ++ search_piece epoch words.now searched.now.keys (word_bytes word.now)) }
 {
     if !is_searched(searched, word) {
-        drawings.push(token(number_of(words, word)))?;
+        drawings.push(token(epoch, number_of(words, word)))?;
     }
     Ok(())
 }
@@ -154,15 +167,16 @@ fn push_command(
     words: &RunWords,
     replay: &Replay,
     command: &Command,
+    epoch: u32,
 ) -> Result<(), AllocError>
     requires { length words.now < 2 ^ 32 }
-    ensures { OnOk result ((s : Setup) (past : List Meant) → Follows replay.now s past → HasApart s past → drawings.new ≡ drawings.old ++ map (numbered_drawing words.now) (drawings_by 0 s past (command_of command.now))) }
+    ensures { OnOk result ((s : Setup) (past : List Meant) → Follows replay.now s past → HasApart s past → drawings.new ≡ drawings.old ++ map (numbered_drawing words.now) (drawings_by epoch s past (command_of command.now))) }
 {
     let registry = &replay.registry;
     match command {
-        Command::Add(doc) => push_addition(drawings, words, registry, doc.words(), doc.id()),
-        Command::Delete(id) => push_live(drawings, words, &replay.sent, registry, *id),
-        Command::Search(word) => push_search(drawings, words, &replay.searched, word),
+        Command::Add(doc) => push_addition(drawings, words, registry, doc.words(), doc.id(), epoch),
+        Command::Delete(id) => push_live(drawings, words, &replay.sent, registry, *id, epoch),
+        Command::Search(word) => push_search(drawings, words, &replay.searched, word, epoch),
     }
 }
 
@@ -172,11 +186,12 @@ pub(crate) fn command_drawings(
     replay: &Replay,
     words: &RunWords,
     command: &Command,
+    epoch: u32,
 ) -> Result<Items<Drawing>, AllocError>
     requires { length words.now < 2 ^ 32 }
-    ensures { IfOk result (λ drawings. (s : Setup) (past : List Meant) → Follows replay.now s past → HasApart s past → drawings ≡ map (numbered_drawing words.now) (drawings_by 0 s past (command_of command.now))) }
+    ensures { IfOk result (λ drawings. (s : Setup) (past : List Meant) → Follows replay.now s past → HasApart s past → drawings ≡ map (numbered_drawing words.now) (drawings_by epoch s past (command_of command.now))) }
 {
     let mut drawings = Items::new(alloc);
-    push_command(&mut drawings, words, replay, command)?;
+    push_command(&mut drawings, words, replay, command, epoch)?;
     Ok(drawings)
 }

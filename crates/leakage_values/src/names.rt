@@ -1,6 +1,6 @@
 ghost use Rattle.std.specs.Prelude.{◌≡◌, ◌++◌, None, IfOk, OnOk, flat_map, map};
 ghost use Rattle.client_registry.specs.Acceptance.{size_refusal};
-ghost use Rattle.client_registry.specs.Run.{at_first};
+ghost use Rattle.client_registry.specs.Run.{Offsets};
 ghost use Rattle.client_registry.specs.Sized.{run_words};
 ghost use Rattle.leakage_history.specs.HashedRun.{run_of};
 ghost use Rattle.leakage_values.specs.DrawnNames.{names_in_code};
@@ -39,13 +39,17 @@ fn names_of(alloc: Global, drawings: &[Drawing]) -> Result<Items<Name>, AllocErr
 }
 
 // Promise P35, also here; clauses: ensures
-/// For each command of a history, the setup first, the names whose values it draws, in the order of [`drawings`]: of an entry or a
-/// block its label or tag, then its pad. No two of them are the same. Error: as for [`drawings`].
-pub fn drawn_names(alloc: Global, history: &History) -> Result<Items<Items<Name>>, AllocError>
+/// For each command of a history, as that of this epoch, the setup first, the names whose values it draws, in the order of
+/// [`drawings`]: of an entry or a block its label or tag, then its pad. No two of them are the same. Error: as for [`drawings`].
+pub fn drawn_names(
+    alloc: Global,
+    history: &History,
+    epoch: u32,
+) -> Result<Items<Items<Name>>, AllocError>
     requires { size_refusal history.now.setup ≡ None }
-    ensures { IfOk result (λ all. all ≡ map (map (numbered (run_words (run_of history.now)))) (drawn at_first (run_of history.now))) }
+    ensures { IfOk result (λ all. (o : Offsets) → o.epoch ≡ epoch → all ≡ map (map (numbered (run_words (run_of history.now)))) (drawn o (run_of history.now))) }
 {
-    let drawings = drawings(alloc, history)?;
+    let drawings = drawings(alloc, history, epoch)?;
     let mut all = Items::new(alloc);
     for own in drawings.as_slice() {
         all.push(names_of(alloc, own.as_slice())?)?;

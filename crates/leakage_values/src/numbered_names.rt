@@ -17,12 +17,12 @@ pub(crate) fn number_of(words: &RunWords, word: &Word) -> u32
     }
 }
 
-/// The name of the one epoch with this word, kind and number.
-pub(crate) fn name(word: u32, kind: NameKind, number: u64) -> Name
-    ensures { result ≡ record { epoch = 0; word = word; kind = kind; number = number } }
+/// The name of this epoch, word, kind and number.
+pub(crate) fn name(epoch: u32, word: u32, kind: NameKind, number: u64) -> Name
+    ensures { result ≡ record { epoch = epoch; word = word; kind = kind; number = number } }
 {
     Name {
-        epoch: 0,
+        epoch,
         word,
         kind,
         number,

@@ -3,7 +3,7 @@ ghost use Rattle.std.specs.List.{range_with_len};
 ghost use Rattle.client_registry.specs.Command.{Command as Meant};
 ghost use Rattle.client_registry.specs.IdNumber.{id_number};
 ghost use Rattle.client_registry.specs.Registered.{facts};
-ghost use Rattle.client_registry.specs.Run.{at_first};
+ghost use Rattle.client_registry.specs.Run.{Offsets};
 ghost use Rattle.client_registry.specs.Setup.{Setup};
 ghost use Rattle.client_registry.specs.Sized.{run_words};
 ghost use Rattle.client_registry.specs.WordBytes.{word_bytes};
@@ -26,21 +26,26 @@ use sse_frames::Items;
 use std::alloc::{AllocError, Global};
 
 /// Appends the labels of so many additions of the word of this number.
-fn push_labels(names: &mut Items<Name>, word: u32, count: u64) -> Result<(), AllocError>
-    ensures { OnOk result (names.new ≡ names.old ++ map (code_name word kinds.PlusLabel) (range_with_len 0 count)) }
+fn push_labels(names: &mut Items<Name>, word: u32, count: u64, epoch: u32) -> Result<(), AllocError>
+    ensures { OnOk result (names.new ≡ names.old ++ map (code_name epoch word kinds.PlusLabel) (range_with_len 0 count)) }
 {
     for counter in 0..count {
-        names.push(name(word, NameKind::PlusLabel, counter))?;
+        names.push(name(epoch, word, NameKind::PlusLabel, counter))?;
     }
     Ok(())
 }
 
 /// Appends the revocation numbers of the word of this number and these identifiers.
-fn push_revocations(names: &mut Items<Name>, word: u32, ids: &[DocId]) -> Result<(), AllocError>
-    ensures { OnOk result (names.new ≡ names.old ++ map (code_name word kinds.Revocation) (map id_number ids.now)) }
+fn push_revocations(
+    names: &mut Items<Name>,
+    word: u32,
+    ids: &[DocId],
+    epoch: u32,
+) -> Result<(), AllocError>
+    ensures { OnOk result (names.new ≡ names.old ++ map (code_name epoch word kinds.Revocation) (map id_number ids.now)) }
 {
     for id in ids {
-        names.push(name(word, NameKind::Revocation, id.get()))?;
+        names.push(name(epoch, word, NameKind::Revocation, id.get()))?;
     }
     Ok(())
 }
@@ -51,16 +56,17 @@ fn search_names(
     listing: &Listing,
     words: &RunWords,
     word: &Word,
+    epoch: u32,
 ) -> Result<Items<Name>, AllocError>
     requires { length words.now < 2 ^ 32 }
-    ensures { IfOk result (λ names. names ≡ probed_by_number (number_of_word words.now (word_bytes word.now)) ((facts listing.now.registry).counter (word_bytes word.now)) (ids_in listing.now.table.entries word.now)) }
+    ensures { IfOk result (λ names. names ≡ probed_by_number epoch (number_of_word words.now (word_bytes word.now)) ((facts listing.now.registry).counter (word_bytes word.now)) (ids_in listing.now.table.entries word.now)) }
 {
     let number = number_of(words, word);
     let count = u64::from(listing.registry.counter(word)) + 1;
     let mut names = Items::new(alloc);
-    names.push(name(number, NameKind::ListLabel, 0))?;
-    push_labels(&mut names, number, count)?;
-    push_revocations(&mut names, number, listing.ids(word))?;
+    names.push(name(epoch, number, NameKind::ListLabel, 0))?;
+    push_labels(&mut names, number, count, epoch)?;
+    push_revocations(&mut names, number, listing.ids(word), epoch)?;
     Ok(names)
 }
 
@@ -70,14 +76,15 @@ fn command_names(
     listing: &Listing,
     words: &RunWords,
     command: &Command,
+    epoch: u32,
 ) -> Result<Items<Name>, AllocError>
     requires { length words.now < 2 ^ 32 }
-    ensures { IfOk result (λ names. (s : Setup) (past : List Meant) → IsListing listing.now s past → names ≡ map (numbered words.now) (probed_by 0 s past (command_of command.now))) }
+    ensures { IfOk result (λ names. (s : Setup) (past : List Meant) → IsListing listing.now s past → names ≡ map (numbered words.now) (probed_by epoch s past (command_of command.now))) }
 {
     match command {
         Command::Add(_) => Ok(Items::new(alloc)),
         Command::Delete(_) => Ok(Items::new(alloc)),
-        Command::Search(word) => search_names(alloc, listing, words, word),
+        Command::Search(word) => search_names(alloc, listing, words, word, epoch),
     }
 }
 
@@ -88,13 +95,14 @@ fn take_turn(
     listing: &mut Listing,
     words: &RunWords,
     command: &Command,
+    epoch: u32,
 ) -> Result<(), AllocError>
     requires accepted { is_accepted_by (facts listing.old.registry) (command_of command.now) ≡ true }
     requires few { length words.now < 2 ^ 32 }
-    ensures probed { OnOk result ((s : Setup) (past : List Meant) → IsListing listing.old s past → all.new ≡ all.old ++ map (numbered words.now) (probed_by 0 s past (command_of command.now)) ∷ []) }
+    ensures probed { OnOk result ((s : Setup) (past : List Meant) → IsListing listing.old s past → all.new ≡ all.old ++ map (numbered words.now) (probed_by epoch s past (command_of command.now)) ∷ []) }
     ensures follows { OnOk result ((s : Setup) (past : List Meant) → IsListing listing.old s past → IsListing listing.new s (past ++ command_of command.now ∷ [])) }
 {
-    all.push(command_names(alloc, listing, words, command)?)?;
+    all.push(command_names(alloc, listing, words, command, epoch)?)?;
     listing.take(command)
 }
 
@@ -103,9 +111,10 @@ fn probed_by_words(
     alloc: Global,
     history: &History,
     words: &RunWords,
+    epoch: u32,
 ) -> Result<Items<Items<Name>>, AllocError>
     requires { length words.now < 2 ^ 32 }
-    ensures { IfOk result (λ all. all ≡ map (map (numbered words.now)) (probed at_first (run_of history.now))) }
+    ensures { IfOk result (λ all. (o : Offsets) → o.epoch ≡ epoch → all ≡ map (map (numbered words.now)) (probed o (run_of history.now))) }
 {
     let mut all = Items::new(alloc);
     all.push(Items::new(alloc))?;
@@ -114,22 +123,27 @@ fn probed_by_words(
     }
     let mut listing = Listing::begin(alloc, history)?;
     for command in history.commands() {
-        take_turn(alloc, &mut all, &mut listing, words, command)?;
+        take_turn(alloc, &mut all, &mut listing, words, command, epoch)?;
     }
     Ok(all)
 }
 
 // Promise P36 (caller): A program gets the names that a server looks up, and all names a history uses, each once; or memory runs out.
 //   clauses: ensures; assumes: accepted setup
-/// For each command of a history, the setup first, the names that a server looks up for it: for a search the label of the word's
-/// list, those of its additions up to the first that is missing, and the revocation number of each pair that is listed with it, in
-/// the order in which they were; for any other command none. Error: where there is no memory, or no number of 32 bits for a word.
-pub fn probed_names(alloc: Global, history: &History) -> Result<Items<Items<Name>>, AllocError>
-    ensures { IfOk result (λ all. all ≡ map (map (numbered (run_words (run_of history.now)))) (probed at_first (run_of history.now))) }
+/// For each command of a history, as that of this epoch, the setup first, the names that a server looks up for it: for a search the
+/// label of the word's list, those of its additions up to the first that is missing, and the revocation number of each pair that is
+/// listed with it, in the order in which they were; for any other command none. Error: where there is no memory, or no number of 32
+/// bits for a word.
+pub fn probed_names(
+    alloc: Global,
+    history: &History,
+    epoch: u32,
+) -> Result<Items<Items<Name>>, AllocError>
+    ensures { IfOk result (λ all. (o : Offsets) → o.epoch ≡ epoch → all ≡ map (map (numbered (run_words (run_of history.now)))) (probed o (run_of history.now))) }
 {
     let words = RunWords::of(alloc, history)?;
     if words.len() > u32::MAX as usize {
         return Err(AllocError);
     }
-    probed_by_words(alloc, history, &words)
+    probed_by_words(alloc, history, &words, epoch)
 }

@@ -18,42 +18,42 @@ use std::alloc::{AllocError, Global};
 use two_level::Shape;
 
 /// The entry of the word of this number.
-fn entry(word: u32) -> Drawing
-    ensures { result ≡ entry_by_number word }
+fn entry(epoch: u32, word: u32) -> Drawing
+    ensures { result ≡ entry_by_number epoch word }
 {
     Drawing::Entry(
-        name(word, NameKind::ListLabel, 0),
-        name(word, NameKind::ListPad, 0),
+        name(epoch, word, NameKind::ListLabel, 0),
+        name(epoch, word, NameKind::ListPad, 0),
     )
 }
 
 /// Block i of the list of the word of this number.
-fn block(word: u32, i: u32) -> Drawing
-    ensures { result ≡ block_by_number word i }
+fn block(epoch: u32, word: u32, i: u32) -> Drawing
+    ensures { result ≡ block_by_number epoch word i }
 {
     Drawing::Block(
-        name(word, NameKind::PlaceTag, u64::from(i)),
-        name(word, NameKind::ListPad, u64::from(i) + 1),
+        name(epoch, word, NameKind::PlaceTag, u64::from(i)),
+        name(epoch, word, NameKind::ListPad, u64::from(i) + 1),
     )
 }
 
 /// Dummy entry i.
-fn dummy_entry(i: u32) -> Drawing
-    ensures { result ≡ dummy_entry_drawing i }
+fn dummy_entry(epoch: u32, i: u32) -> Drawing
+    ensures { result ≡ dummy_entry_drawing epoch i }
 {
     Drawing::Entry(
-        name(NO_WORD, NameKind::DummyLabel, u64::from(i)),
-        name(NO_WORD, NameKind::DummyCell, u64::from(i)),
+        name(epoch, NO_WORD, NameKind::DummyLabel, u64::from(i)),
+        name(epoch, NO_WORD, NameKind::DummyCell, u64::from(i)),
     )
 }
 
 /// Dummy block j.
-fn dummy_block(j: u32) -> Drawing
-    ensures { result ≡ dummy_block_drawing j }
+fn dummy_block(epoch: u32, j: u32) -> Drawing
+    ensures { result ≡ dummy_block_drawing epoch j }
 {
     Drawing::Block(
-        name(NO_WORD, NameKind::DummyTag, u64::from(j)),
-        name(NO_WORD, NameKind::DummyBlock, u64::from(j)),
+        name(epoch, NO_WORD, NameKind::DummyTag, u64::from(j)),
+        name(epoch, NO_WORD, NameKind::DummyBlock, u64::from(j)),
     )
 }
 
@@ -62,32 +62,42 @@ fn push_entries(
     drawings: &mut Items<Drawing>,
     words: &RunWords,
     docs: &Docs,
+    epoch: u32,
 ) -> Result<(), AllocError>
     requires { length words.now < 2 ^ 32 }
-    ensures { OnOk result (drawings.new ≡ drawings.old ++ map (λ word. entry_by_number (number_of_word words.now word)) (words_of docs.now.documents)) }
+    ensures { OnOk result (drawings.new ≡ drawings.old ++ map (λ word. entry_by_number epoch (number_of_word words.now word)) (words_of docs.now.documents)) }
 {
     for w in 0..docs.words() {
-        drawings.push(entry(number_of(words, docs.word(w))))?;
+        drawings.push(entry(epoch, number_of(words, docs.word(w))))?;
     }
     Ok(())
 }
 
 /// Appends so many dummy entries.
-fn push_dummy_entries(drawings: &mut Items<Drawing>, count: u32) -> Result<(), AllocError>
-    ensures { OnOk result (drawings.new ≡ drawings.old ++ map dummy_entry_drawing (range_with_len 0 count)) }
+fn push_dummy_entries(
+    drawings: &mut Items<Drawing>,
+    count: u32,
+    epoch: u32,
+) -> Result<(), AllocError>
+    ensures { OnOk result (drawings.new ≡ drawings.old ++ map (dummy_entry_drawing epoch) (range_with_len 0 count)) }
 {
     for i in 0..count {
-        drawings.push(dummy_entry(i))?;
+        drawings.push(dummy_entry(epoch, i))?;
     }
     Ok(())
 }
 
 /// Appends so many blocks of the word of this number.
-fn push_blocks_of(drawings: &mut Items<Drawing>, word: u32, count: u32) -> Result<(), AllocError>
-    ensures { OnOk result (drawings.new ≡ drawings.old ++ map (block_by_number word) (range_with_len 0 count)) }
+fn push_blocks_of(
+    drawings: &mut Items<Drawing>,
+    word: u32,
+    count: u32,
+    epoch: u32,
+) -> Result<(), AllocError>
+    ensures { OnOk result (drawings.new ≡ drawings.old ++ map (block_by_number epoch word) (range_with_len 0 count)) }
 {
     for i in 0..count {
-        drawings.push(block(word, i))?;
+        drawings.push(block(epoch, word, i))?;
     }
     Ok(())
 }
@@ -109,36 +119,42 @@ fn push_blocks(
     words: &RunWords,
     docs: &Docs,
     shape: Shape,
+    epoch: u32,
 ) -> Result<(), AllocError>
     requires { length words.now < 2 ^ 32 }
-    ensures { (pad : ℕ) → OnOk result (drawings.new ≡ drawings.old ++ blocks_by_number words.now (setup_with docs.now.documents shape.b shape.big pad) (words_of docs.now.documents)) }
+    ensures { (pad : ℕ) → OnOk result (drawings.new ≡ drawings.old ++ blocks_by_number epoch words.now (setup_with docs.now.documents shape.b shape.big pad) (words_of docs.now.documents)) }
 {
     for w in 0..docs.words() {
         let count = blocks_in(docs.list_len(w), shape);
-        push_blocks_of(drawings, number_of(words, docs.word(w)), count)?;
+        push_blocks_of(drawings, number_of(words, docs.word(w)), count, epoch)?;
     }
     Ok(())
 }
 
 /// Appends so many dummy blocks.
-fn push_dummy_blocks(drawings: &mut Items<Drawing>, count: u32) -> Result<(), AllocError>
-    ensures { OnOk result (drawings.new ≡ drawings.old ++ map dummy_block_drawing (range_with_len 0 count)) }
+fn push_dummy_blocks(
+    drawings: &mut Items<Drawing>,
+    count: u32,
+    epoch: u32,
+) -> Result<(), AllocError>
+    ensures { OnOk result (drawings.new ≡ drawings.old ++ map (dummy_block_drawing epoch) (range_with_len 0 count)) }
 {
     for j in 0..count {
-        drawings.push(dummy_block(j))?;
+        drawings.push(dummy_block(epoch, j))?;
     }
     Ok(())
 }
 
-/// What the setup's values are drawn for.
+/// What the values of the setup are drawn for, as that of this epoch.
 pub(crate) fn setup_drawings(
     alloc: Global,
     history: &History,
     words: &RunWords,
+    epoch: u32,
 ) -> Result<Items<Drawing>, AllocError>
     requires accepted { size_refusal history.now.setup ≡ None }
     requires few { length words.now < 2 ^ 32 }
-    ensures { IfOk result (λ drawings. drawings ≡ map (numbered_drawing words.now) (drawings_of_setup 0 history.now.setup)) }
+    ensures { IfOk result (λ drawings. drawings ≡ map (numbered_drawing words.now) (drawings_of_setup epoch history.now.setup)) }
 {
     let docs = history.docs();
     let (b, big, pad) = (history.b(), history.big(), history.pad());
@@ -151,9 +167,9 @@ pub(crate) fn setup_drawings(
         unreachable!()
     };
     let mut drawings = Items::new(alloc);
-    push_entries(&mut drawings, words, docs)?;
-    push_dummy_entries(&mut drawings, size.padded_words - size.words)?;
-    push_blocks(&mut drawings, words, docs, size.shape)?;
-    push_dummy_blocks(&mut drawings, size.padded_blocks - size.blocks)?;
+    push_entries(&mut drawings, words, docs, epoch)?;
+    push_dummy_entries(&mut drawings, size.padded_words - size.words, epoch)?;
+    push_blocks(&mut drawings, words, docs, size.shape, epoch)?;
+    push_dummy_blocks(&mut drawings, size.padded_blocks - size.blocks, epoch)?;
     Ok(drawings)
 }

@@ -2,7 +2,7 @@ use Rattle.std.proofs.Common.{◌≡◌, ℕ, ◌+◌, List, ◌++◌, ◌∷◌
 use Rattle.std.specs.Prelude.{slice_get}
 use Rattle.std.proofs.lemmas.List.{map-append}
 use Rattle.client_registry.specs.WordBytes.{word_bytes}
-use Rattle.leakage_history.proofs.Fronts.{take-one_more}
+use Rattle.client_live_docs.proofs.Pushing.{take-one_more}
 use Rattle.keyed_fn.specs.KeyedFn.{keyed_fn}
 use Rattle.leakage_sheets.specs.OwnKeys.{OwnKeys, own_keys}
 use Rattle.leakage_sheets.proofs.words.keys_of.Goals as goal

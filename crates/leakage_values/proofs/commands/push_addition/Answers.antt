@@ -14,10 +14,10 @@ loop-word-preserved c =
     let of = c.args.of.now in
     let i = c.loop-word.word-index in
     let word = c.word-item.result in
-    more-front (addition_piece c.args.words.now (facts c.args.registry.now) (id_number c.args.id)) (map word_bytes (take i of)) _ (word_bytes word) c.args.drawings.now c.loop-word.drawings c.push_if_fresh.new.drawings
+    more-front (addition_piece c.args.epoch c.args.words.now (facts c.args.registry.now) (id_number c.args.id)) (map word_bytes (take i of)) _ (word_bytes word) c.args.drawings.now c.loop-word.drawings c.push_if_fresh.new.drawings
     (front_more word_bytes of i word (word_bytes word) c.loop-word-test.true c.word-item.is refl) c.loop-word.invariant c.in_ok-push_if_fresh.ensures
 
 pub returns : goal.returns
 returns c =
     c.loop-word.invariant
-    ∙ ap (λ front. c.args.drawings.now ++ flat_map (addition_piece c.args.words.now (facts c.args.registry.now) (id_number c.args.id)) (map word_bytes front)) (take_all c.loop-word.word-index c.args.of.now c.loop-word-test.false)
+    ∙ ap (λ front. c.args.drawings.now ++ flat_map (addition_piece c.args.epoch c.args.words.now (facts c.args.registry.now) (id_number c.args.id)) (map word_bytes front)) (take_all c.loop-word.word-index c.args.of.now c.loop-word-test.false)

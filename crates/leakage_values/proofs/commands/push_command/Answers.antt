@@ -17,9 +17,9 @@ returns-in-Add c =
     (λ is s past follows apart.
     is
     ∙ ap (λ ds. c.args.drawings.now ++ ds)
-    ((λ i. flat_map (addition_piece words (follows.registry i) (c.id.ensures i)) (c.words.ensures.words i))
-    ∙ drawings-add words s past c.in-Add.doc
-    ∙ ap (λ m. map (numbered_drawing words) (drawings_by 0 s past m)) (ap command_of (sym c.in-Add.is))))
+    ((λ i. flat_map (addition_piece c.args.epoch words (follows.registry i) (c.id.ensures i)) (c.words.ensures.words i))
+    ∙ drawings-add c.args.epoch words s past c.in-Add.doc
+    ∙ ap (λ m. map (numbered_drawing words) (drawings_by c.args.epoch s past m)) (ap command_of (sym c.in-Add.is))))
     c.push_addition.ensures
 
 pub returns-in-Delete : goal.returns-in-Delete
@@ -29,9 +29,9 @@ returns-in-Delete c =
     (λ is s past follows apart.
     is
     ∙ ap (λ ds. c.args.drawings.now ++ ds)
-    ((λ i. flat_map (deletion_piece words c.args.replay.now.sent.keys (id_number c.in-Delete.id)) (unwrap_or ((follows.registry i).live (id_number c.in-Delete.id)) []))
-    ∙ drawings-delete words s past (id_number c.in-Delete.id) c.args.replay.now.sent.keys apart follows.sent
-    ∙ ap (λ m. map (numbered_drawing words) (drawings_by 0 s past m)) (ap command_of (sym c.in-Delete.is))))
+    ((λ i. flat_map (deletion_piece c.args.epoch words c.args.replay.now.sent.keys (id_number c.in-Delete.id)) (unwrap_or ((follows.registry i).live (id_number c.in-Delete.id)) []))
+    ∙ drawings-delete c.args.epoch words s past (id_number c.in-Delete.id) c.args.replay.now.sent.keys apart follows.sent
+    ∙ ap (λ m. map (numbered_drawing words) (drawings_by c.args.epoch s past m)) (ap command_of (sym c.in-Delete.is))))
     c.push_live.ensures
 
 pub returns-in-Search : goal.returns-in-Search
@@ -41,6 +41,6 @@ returns-in-Search c =
     (λ is s past follows apart.
     is
     ∙ ap (λ ds. c.args.drawings.now ++ ds)
-    (drawings-search words s past (word_bytes c.in-Search.word) c.args.replay.now.searched.keys (follows.searched (word_bytes c.in-Search.word))
-    ∙ ap (λ m. map (numbered_drawing words) (drawings_by 0 s past m)) (ap command_of (sym c.in-Search.is))))
+    (drawings-search c.args.epoch words s past (word_bytes c.in-Search.word) c.args.replay.now.searched.keys (follows.searched (word_bytes c.in-Search.word))
+    ∙ ap (λ m. map (numbered_drawing words) (drawings_by c.args.epoch s past m)) (ap command_of (sym c.in-Search.is))))
     c.push_search.ensures

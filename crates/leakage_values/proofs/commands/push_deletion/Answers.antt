@@ -15,10 +15,10 @@ loop-number-preserved c =
     let numbers = c.args.numbers.now in
     let i = c.loop-number.number-index in
     let word = word_bytes c.word.result.now in
-    more-front (deletion_piece c.args.words.now c.args.sent.now.keys (id_number c.args.id)) (words_by_number known (take i numbers)) _ word c.args.drawings.now c.loop-number.drawings c.push_if_unsent.new.drawings
+    more-front (deletion_piece c.args.epoch c.args.words.now c.args.sent.now.keys (id_number c.args.id)) (words_by_number known (take i numbers)) _ word c.args.drawings.now c.loop-number.drawings c.push_if_unsent.new.drawings
     (front_by_number known numbers i word c.loop-number-test.true c.word.ensures) c.loop-number.invariant c.in_ok-push_if_unsent.ensures
 
 pub returns : goal.returns
 returns c =
     c.loop-number.invariant
-    ∙ ap (λ front. c.args.drawings.now ++ flat_map (deletion_piece c.args.words.now c.args.sent.now.keys (id_number c.args.id)) (words_by_number (known_words c.args.registry.now) front)) (take_all c.loop-number.number-index c.args.numbers.now c.loop-number-test.false)
+    ∙ ap (λ front. c.args.drawings.now ++ flat_map (deletion_piece c.args.epoch c.args.words.now c.args.sent.now.keys (id_number c.args.id)) (words_by_number (known_words c.args.registry.now) front)) (take_all c.loop-number.number-index c.args.numbers.now c.loop-number-test.false)

@@ -44,15 +44,16 @@ loop-command-preserved c =
       follows = subst (λ cs. Follows c.take_turn.new.replay s cs) (sym then) (c.in-Ok.ensures.follows s front c.loop-command.invariant.follows apart);
       all =
           c.in-Ok.ensures.drawn s front c.loop-command.invariant.follows apart
-          ∙ ap (λ ds. ds ++ map (numbered_drawing c.args.words.now) (drawings_by 0 s front (command_of x)) ∷ []) c.loop-command.invariant.all
-          ∙ ap (λ ds. map (numbered_drawing c.args.words.now) (drawings_of_setup 0 s) ∷ ds)
-          (sym (map-append (map (numbered_drawing c.args.words.now)) (over (drawings_by 0 s) [] front) (drawings_by 0 s front (command_of x) ∷ []))
-          ∙ ap (map (map (numbered_drawing c.args.words.now))) (sym (over-append (drawings_by 0 s) [] front (command_of x ∷ [])) ∙ ap (over (drawings_by 0 s) []) (sym then)));
+          ∙ ap (λ ds. ds ++ map (numbered_drawing c.args.words.now) (drawings_by c.args.epoch s front (command_of x)) ∷ []) c.loop-command.invariant.all
+          ∙ ap (λ ds. map (numbered_drawing c.args.words.now) (drawings_of_setup c.args.epoch s) ∷ ds)
+          (sym (map-append (map (numbered_drawing c.args.words.now)) (over (drawings_by c.args.epoch s) [] front) (drawings_by c.args.epoch s front (command_of x) ∷ []))
+          ∙ ap (map (map (numbered_drawing c.args.words.now))) (sym (over-append (drawings_by c.args.epoch s) [] front (command_of x ∷ [])) ∙ ap (over (drawings_by c.args.epoch s) []) (sym then)));
     }
 
 pub returns : goal.returns
-returns c =
+returns c o is =
     let s : Setup = c.args.history.now.setup in
     c.loop-command.invariant.all
-    ∙ ap (λ cs. map (map (numbered_drawing c.args.words.now)) (drawings_of_setup 0 s ∷ over (drawings_by 0 s) [] cs))
+    ∙ ap (λ cs. map (map (numbered_drawing c.args.words.now)) (drawings_of_setup c.args.epoch s ∷ over (drawings_by c.args.epoch s) [] cs))
     (ap (map command_of) (take_all c.loop-command.command-index c.commands-command-items.result.now c.loop-command-test.false) ∙ c.commands-command-items.ensures.commands)
+    ∙ ap (λ e. map (map (numbered_drawing c.args.words.now)) (drawings_of_setup e s ∷ over (drawings_by e s) [] c.args.history.now.later)) (sym is)

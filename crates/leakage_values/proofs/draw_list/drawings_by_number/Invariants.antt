@@ -9,5 +9,5 @@ use Rattle.leakage_values.proofs.draw_list.drawings_by_number.Given as goal
 abbrev pub invariant-loop-command : goal.invariant-loop-command
 invariant-loop-command l = record {
   follows : Follows l.replay l.history.setup (map command_of (take l.command-index l.command-items));
-  all : l.all ≡ map (map (numbered_drawing l.words)) (drawings_of_setup 0 l.history.setup ∷ over (drawings_by 0 l.history.setup) [] (map command_of (take l.command-index l.command-items)));
+  all : l.all ≡ map (map (numbered_drawing l.words)) (drawings_of_setup l.epoch l.history.setup ∷ over (drawings_by l.epoch l.history.setup) [] (map command_of (take l.command-index l.command-items)));
 }

@@ -1,7 +1,6 @@
 use Rattle.std.proofs.Common.{◌++◌, ◌∷◌, [], map, ap, sym, ◌∙◌}
 use Rattle.std.specs.Prelude.{flat_map}
 use Rattle.std.proofs.lemmas.List.{take_all}
-use Rattle.client_registry.specs.Run.{at_first}
 use Rattle.client_registry.specs.Sized.{run_words}
 use Rattle.leakage_history.specs.HashedRun.{run_of}
 use Rattle.leakage_values.proofs.FrontLaws.{front_then}
@@ -19,9 +18,9 @@ loop-own-preserved c =
     ∙ sym (front_then (flat_map names_in_code) c.as_slice-own-items.result.now c.loop-own.own-index c.own-item.result c.loop-own-test.true c.own-item.is)
 
 pub returns : goal.returns
-returns c =
+returns c o is =
     let words = run_words (run_of c.args.history.now) in
     c.loop-own.invariant
-    ∙ ap (map (flat_map names_in_code)) (take_all c.loop-own.own-index c.as_slice-own-items.result.now c.loop-own-test.false ∙ c.as_slice-own-items.ensures ∙ c.in_ok-drawings.ensures)
-    ∙ names-drawings words (drawings at_first (run_of c.args.history.now))
-    ∙ ap (map (map (numbered words))) (names_drawn at_first (run_of c.args.history.now))
+    ∙ ap (map (flat_map names_in_code)) (take_all c.loop-own.own-index c.as_slice-own-items.result.now c.loop-own-test.false ∙ c.as_slice-own-items.ensures ∙ c.in_ok-drawings.ensures o is)
+    ∙ names-drawings words (drawings o (run_of c.args.history.now))
+    ∙ ap (map (map (numbered words))) (names_drawn o (run_of c.args.history.now))

@@ -15,7 +15,7 @@ returns-in-Search c =
     IfOk-weaker c.search_names.result _ _
     (λ names is s past listing.
     is
-    ∙ (λ i. probed_by_number (number_of_word words word) ((listing.registry i).counter word) (listing.table c.in-Search.word i))
-    ∙ probed-search words s past word
-    ∙ ap (λ m. map (numbered words) (probed_by 0 s past m)) (ap command_of (sym c.in-Search.is)))
+    ∙ (λ i. probed_by_number c.args.epoch (number_of_word words word) ((listing.registry i).counter word) (listing.table c.in-Search.word i))
+    ∙ probed-search c.args.epoch words s past word
+    ∙ ap (λ m. map (numbered words) (probed_by c.args.epoch s past m)) (ap command_of (sym c.in-Search.is)))
     c.search_names.ensures

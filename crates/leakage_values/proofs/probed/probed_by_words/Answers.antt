@@ -1,5 +1,5 @@
 use Rattle.std.proofs.Common.{◌+◌, ◌++◌, ◌∷◌, [], List, map, take, drop, sym, ap, subst, ◌∙◌}
-use Rattle.std.proofs.lemmas.List.{map-append}
+use Rattle.std.proofs.lemmas.List.{map-append, take_all}
 use Rattle.client_registry.proofs.OverLaws.{over-append}
 use Rattle.client_registry.specs.Command.{Command}
 use Rattle.client_registry.specs.Over.{over}
@@ -36,8 +36,17 @@ loop-command-preserved c =
       follows = subst (λ cs. IsListing c.take_turn.new.listing s cs) (sym then) (c.in_ok-take_turn.ensures.follows s front c.loop-command.invariant.follows);
       all =
           c.in_ok-take_turn.ensures.probed s front c.loop-command.invariant.follows
-          ∙ ap (λ ns. ns ++ map (numbered words) (probed_by 0 s front (command_of x)) ∷ []) c.loop-command.invariant.all
+          ∙ ap (λ ns. ns ++ map (numbered words) (probed_by c.args.epoch s front (command_of x)) ∷ []) c.loop-command.invariant.all
           ∙ ap (λ ns. [] ∷ ns)
-          (sym (map-append (map (numbered words)) (over (probed_by 0 s) [] front) (probed_by 0 s front (command_of x) ∷ []))
-          ∙ ap (map (map (numbered words))) (sym (over-append (probed_by 0 s) [] front (command_of x ∷ [])) ∙ ap (over (probed_by 0 s) []) (sym then)));
+          (sym (map-append (map (numbered words)) (over (probed_by c.args.epoch s) [] front) (probed_by c.args.epoch s front (command_of x) ∷ []))
+          ∙ ap (map (map (numbered words))) (sym (over-append (probed_by c.args.epoch s) [] front (command_of x ∷ [])) ∙ ap (over (probed_by c.args.epoch s) []) (sym then)));
     }
+
+pub returns : goal.returns
+returns c o is =
+    let s : Setup = c.args.history.now.setup in
+    let words = c.args.words.now in
+    c.loop-command.invariant.all
+    ∙ ap (λ cs. map (map (numbered words)) ([] ∷ over (probed_by c.args.epoch s) [] cs))
+    (ap (map command_of) (take_all c.loop-command.command-index c.commands-command-items.result.now c.loop-command-test.false) ∙ c.commands-command-items.ensures.commands)
+    ∙ ap (λ e. map (map (numbered words)) ([] ∷ over (probed_by e s) [] c.args.history.now.later)) (sym is)

@@ -9,5 +9,5 @@ use Rattle.leakage_values.proofs.probed.probed_by_words.Given as goal
 abbrev pub invariant-loop-command : goal.invariant-loop-command
 invariant-loop-command l = record {
   follows : IsListing l.listing l.history.setup (map command_of (take l.command-index l.command-items));
-  all : l.all ≡ map (map (numbered l.words)) ([] ∷ over (probed_by 0 l.history.setup) [] (map command_of (take l.command-index l.command-items)));
+  all : l.all ≡ map (map (numbered l.words)) ([] ∷ over (probed_by l.epoch l.history.setup) [] (map command_of (take l.command-index l.command-items)));
 }

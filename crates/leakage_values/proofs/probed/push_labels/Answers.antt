@@ -7,4 +7,4 @@ use Rattle.leakage_values.proofs.probed.push_labels.Goals as goal
 pub loop-counter-preserved : goal.loop-counter-preserved
 loop-counter-preserved c =
     c.in_ok-push.ensures.ok
-    ∙ more-range (code_name c.args.word kinds.PlusLabel) c.args.names.now c.loop-counter.names c.loop-counter.counter c.name.result c.loop-counter.invariant c.name.ensures
+    ∙ more-range (code_name c.args.epoch c.args.word kinds.PlusLabel) c.args.names.now c.loop-counter.names c.loop-counter.counter c.name.result c.loop-counter.invariant c.name.ensures

@@ -5,4 +5,4 @@ use Rattle.leakage_names.specs.declared.name.NameKind.TheVariants as kinds
 use Rattle.leakage_values.proofs.probed.push_revocations.Given as goal
 
 abbrev pub invariant-loop-id : goal.invariant-loop-id
-invariant-loop-id l = l.names ≡ l.initial.names ++ map (code_name l.word kinds.Revocation) (map id_number (take l.id-index l.ids))
+invariant-loop-id l = l.names ≡ l.initial.names ++ map (code_name l.epoch l.word kinds.Revocation) (map id_number (take l.id-index l.ids))

@@ -21,7 +21,7 @@ loop-w-preserved c pad =
     let word : get_or ws w [] ≡ word_bytes c.word.result.now = get_or_from_slice_get ws w (word_bytes c.word.result.now) [] c.word.ensures in
     let n : c.list_len.result ≡ length (ids_with docs (get_or ws w [])) =
     sym (get_or_from_slice_get (list_lengths docs) w c.list_len.result 0 c.list_len.ensures.length) ∙ get_or-map (λ v. length (ids_with docs v)) ws w [] 0 within in
-    more-pieces (λ v. map (block_by_number (number_of_word c.args.words.now v)) (range_with_len 0 (word_blocks (setup_with docs c.args.shape.b c.args.shape.big pad) v))) ws w [] c.args.drawings.now c.loop-w.drawings c.push_blocks_of.new.drawings
+    more-pieces (λ v. map (block_by_number c.args.epoch (number_of_word c.args.words.now v)) (range_with_len 0 (word_blocks (setup_with docs c.args.shape.b c.args.shape.big pad) v))) ws w [] c.args.drawings.now c.loop-w.drawings c.push_blocks_of.new.drawings
     within (c.loop-w.invariant pad)
     (c.in_ok-push_blocks_of.ensures
-    ∙ (λ i. c.loop-w.drawings ++ map (block_by_number ((c.number_of.ensures ∙ ap (number_of_word c.args.words.now) (sym word)) i)) (range_with_len 0 ((c.blocks_in-count.ensures ∙ ap (λ k. block_count (plan c.args.shape k)) n) i))))
+    ∙ (λ i. c.loop-w.drawings ++ map (block_by_number c.args.epoch ((c.number_of.ensures ∙ ap (number_of_word c.args.words.now) (sym word)) i)) (range_with_len 0 ((c.blocks_in-count.ensures ∙ ap (λ k. block_count (plan c.args.shape k)) n) i))))

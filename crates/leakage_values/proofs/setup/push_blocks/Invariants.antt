@@ -5,4 +5,4 @@ use Rattle.leakage_values.specs.SetupDrawings.{blocks_by_number}
 use Rattle.leakage_values.proofs.setup.push_blocks.Given as goal
 
 abbrev pub invariant-loop-w : goal.invariant-loop-w
-invariant-loop-w l = (pad : ℕ) → l.drawings ≡ l.initial.drawings ++ blocks_by_number l.words (setup_with l.docs.documents l.shape.b l.shape.big pad) (take l.w (words_of l.docs.documents))
+invariant-loop-w l = (pad : ℕ) → l.drawings ≡ l.initial.drawings ++ blocks_by_number l.epoch l.words (setup_with l.docs.documents l.shape.b l.shape.big pad) (take l.w (words_of l.docs.documents))

@@ -21,10 +21,10 @@ returns c =
     let docs = c.docs-docs.result.now.documents in
     let s : Setup = setup_with docs c.from.result c.from-2.result c.from-3.result in
     let same : s ≡ c.args.history.now.setup = same_setup c.args.history.now.setup docs c.from.result c.from-2.result c.from-3.result c.docs-docs.ensures (c.from.ensures ∙ c.b-b.ensures) (c.from-2.ensures ∙ c.big-big.ensures) (c.from-3.ensures ∙ c.pad-pad.ensures) in
-    setup_joined words s c.new-drawings.result c.push_entries.new.drawings c.push_dummy_entries.new.drawings c.push_blocks.new.drawings c.push_dummy_blocks.new.drawings
+    setup_joined c.args.epoch words s c.new-drawings.result c.push_entries.new.drawings c.push_dummy_entries.new.drawings c.push_blocks.new.drawings c.push_dummy_blocks.new.drawings
     (c.in-Ok.size.padded_words - c.in-Ok.size.words) (c.in-Ok.size.padded_blocks - c.in-Ok.size.blocks)
     c.new-drawings.ensures c.in_ok-push_entries.ensures c.in_ok-push_dummy_entries.ensures
-    (c.in_ok-push_blocks.ensures c.from-3.result ∙ ap (λ shape. c.push_dummy_entries.new.drawings ++ blocks_by_number words (setup_with docs shape.b shape.big c.from-3.result) (words_of docs)) c.in-Ok.ensures.shape)
+    (c.in_ok-push_blocks.ensures c.from-3.result ∙ ap (λ shape. c.push_dummy_entries.new.drawings ++ blocks_by_number c.args.epoch words (setup_with docs shape.b shape.big c.from-3.result) (words_of docs)) c.in-Ok.ensures.shape)
     c.in_ok-push_dummy_blocks.ensures
     (omega (arith, c.in-Ok.ensures.words, c.in-Ok.ensures.padded_words)) (omega (arith, c.in-Ok.ensures.blocks, c.in-Ok.ensures.padded_blocks))
-    ∙ ap (λ t. map (numbered_drawing words) (drawings_of_setup 0 t)) same
+    ∙ ap (λ t. map (numbered_drawing words) (drawings_of_setup c.args.epoch t)) same
