@@ -1,4 +1,6 @@
 mod CommandRefused
+mod KnownWords
+mod RenewalRefused
 pub mod Ended
 pub mod MeaningLaws
 mod LinesTaken
@@ -6,3 +8,4 @@ mod PartsTaken
 mod SearchesTaken
 pub mod ReadingGoesOn
 mod WholeScripts
+mod UsedKeysLaws

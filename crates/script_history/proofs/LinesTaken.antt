@@ -10,7 +10,7 @@ use Rattle.bool_search.specs.declared.fault.QueryFault.TheVariants as queries
 use Rattle.client_registry.specs.Command.{Command as Meant}
 use Rattle.client_registry.specs.Document.{Document}
 use Rattle.client_registry.specs.Histories.{is_set_up, longer}
-use Rattle.client_registry.specs.Run.{History, Run}
+use Rattle.client_registry.specs.Run.{History, Epochs}
 use Rattle.script_documents.specs.LineDocument.{document}
 use Rattle.script_documents.specs.LineFaults.{SaysRefusal, fault_refusal}
 use Rattle.script_documents.specs.declared.line_fault.LineFault.{LineFault}
@@ -22,7 +22,7 @@ use Rattle.def_script_meaning.specs.Refused.{index_refusal}
 use Rattle.client_registry.specs.Setup.{setup_with}
 use Rattle.sse_script.specs.declared.refusal.Refusal.{Refusal}
 use Rattle.sse_script.specs.declared.refusal.Refusal.TheVariants.{HistoryFull}
-use Rattle.script_history.specs.Numbered.{one_epoch, run_after, run_after_all}
+use Rattle.script_history.specs.Numbered.{epochs_after, epochs_after_all}
 use Rattle.script_history.specs.Reads.{is_full, number_refusal, numbered, read_outcome, refusal_in}
 use Rattle.script_history.specs.Stages.{IsAt, ComesTo, IsSetUp, collected_after, keys_at}
 use Rattle.script_history.specs.Turns.{hashed_at}
@@ -31,14 +31,13 @@ use Rattle.script_history.specs.declared.stage.Stage.TheVariants.{Collecting, Bu
 
 -- Lines.
 
-abbrev asked : Request → Option Line → Request
-asked other None = other
-asked other (Some Empty) = other
-asked other (Some (Key key)) = other
-asked other (Some (Command request)) = request
+abbrev asked : Request → Line → Request
+asked other Empty = other
+asked other (Key key) = other
+asked other (Command request) = request
 
 -- what holds of a line's own request holds of the one that it is
-pub of_own : (P : Request → Type 0) (read : Option Line) (own : Request) → read ≡ Some (Command own) → P own → (request : Request) → read ≡ Some (Command request) → P request
+pub of_own : (P : Request → Type 0) (read : Line) (own : Request) → read ≡ Command own → P own → (request : Request) → read ≡ Command request → P request
 of_own P read own is holds request e = subst P (ap (asked own) (sym is ∙ e)) holds
 
 -- Outcomes.
@@ -71,40 +70,40 @@ numbered-command h None commands shown = by (is_full (longer commands h))
 
 -- After the setup.
 
-module _ (place : Place) (run : Run) (e : place.history ≡ one_epoch run) where
-  pub behind : (request : Request) → read_outcome place request ≡ numbered (one_epoch run) (after_setup place (one_epoch run) request)
+module _ (place : Place) (es : Epochs) (e : place.history ≡ Some es) where
+  pub behind : (request : Request) → read_outcome place request ≡ numbered (Some es) (after_setup place (Some es) request)
   behind request = ap (λ h. numbered h (if is_set_up h then after_setup place h request else before_setup place.documents request)) e
 
   -- a line that is refused
-  pub refused-behind : (request : Request) (refusal : Refusal) → after_setup place (one_epoch run) request ≡ Refuses refusal
-      → (Some refusal ≡ refusal_in (read_outcome place request)) × ((after (read_outcome place request) place).history ≡ one_epoch run)
+  pub refused-behind : (request : Request) (refusal : Refusal) → after_setup place (Some es) request ≡ Refuses refusal
+      → (Some refusal ≡ refusal_in (read_outcome place request)) × ((after (read_outcome place request) place).history ≡ Some es)
   refused-behind request refusal is =
-      let whole = behind request ∙ ap (numbered (one_epoch run)) is in
-      subst (λ o. (Some refusal ≡ refusal_in o) × ((after o place).history ≡ one_epoch run)) (sym whole) (refl, e)
+      let whole = behind request ∙ ap (numbered (Some es)) is in
+      subst (λ o. (Some refusal ≡ refusal_in o) × ((after o place).history ≡ Some es)) (sym whole) (refl, e)
 
   -- a command
-  pub command-behind : (request : Request) (r found : Option Refusal) (c : Meant) (shown : Printed) (next : Run) → after_setup place (one_epoch run) request ≡ unless r (Does (c ∷ []) shown)
-      → found ≡ option_or r (number_refusal (one_epoch run) (c ∷ [])) → next ≡ run_after found run c
-      → (found ≡ refusal_in (read_outcome place request)) × ((after (read_outcome place request) place).history ≡ one_epoch next)
+  pub command-behind : (request : Request) (r found : Option Refusal) (c : Meant) (shown : Printed) (next : Epochs) → after_setup place (Some es) request ≡ unless r (Does (c ∷ []) shown)
+      → found ≡ option_or r (number_refusal (Some es) (c ∷ [])) → next ≡ epochs_after found es c
+      → (found ≡ refusal_in (read_outcome place request)) × ((after (read_outcome place request) place).history ≡ Some next)
   command-behind request r found c shown next is same went =
-      let whole = behind request ∙ ap (numbered (one_epoch run)) is ∙ numbered-command (one_epoch run) r (c ∷ []) shown ∙ ap (λ q. unless q (Does (c ∷ []) shown)) (sym same) in
-      subst (λ o. (found ≡ refusal_in o) × ((after o place).history ≡ one_epoch next)) (sym whole) (by found went)
+      let whole = behind request ∙ ap (numbered (Some es)) is ∙ numbered-command (Some es) r (c ∷ []) shown ∙ ap (λ q. unless q (Does (c ∷ []) shown)) (sym same) in
+      subst (λ o. (found ≡ refusal_in o) × ((after o place).history ≡ Some next)) (sym whole) (by found went)
     where
-      by : (q : Option Refusal) → next ≡ run_after q run c → (q ≡ refusal_in (unless q (Does (c ∷ []) shown))) × ((after (unless q (Does (c ∷ []) shown)) place).history ≡ one_epoch next)
-      by None went = (refl, ap (longer (c ∷ [])) e ∙ ap one_epoch (sym went))
-      by (Some refusal) went = (refl, e ∙ ap one_epoch (sym went))
+      by : (q : Option Refusal) → next ≡ epochs_after q es c → (q ≡ refusal_in (unless q (Does (c ∷ []) shown))) × ((after (unless q (Does (c ∷ []) shown)) place).history ≡ Some next)
+      by None went = (refl, ap (longer (c ∷ [])) e ∙ ap (λ xs. Some xs) (sym went))
+      by (Some refusal) went = (refl, e ∙ ap (λ xs. Some xs) (sym went))
 
   -- several commands of one line
-  pub commands-behind : (request : Request) (r found : Option Refusal) (cs : List Meant) (shown : Printed) (next : Run) → after_setup place (one_epoch run) request ≡ unless r (Does cs shown)
-      → found ≡ option_or r (number_refusal (one_epoch run) cs) → next ≡ run_after_all found run cs
-      → (found ≡ refusal_in (read_outcome place request)) × ((after (read_outcome place request) place).history ≡ one_epoch next)
+  pub commands-behind : (request : Request) (r found : Option Refusal) (cs : List Meant) (shown : Printed) (next : Epochs) → after_setup place (Some es) request ≡ unless r (Does cs shown)
+      → found ≡ option_or r (number_refusal (Some es) cs) → next ≡ epochs_after_all found es cs
+      → (found ≡ refusal_in (read_outcome place request)) × ((after (read_outcome place request) place).history ≡ Some next)
   commands-behind request r found cs shown next is same went =
-      let whole = behind request ∙ ap (numbered (one_epoch run)) is ∙ numbered-command (one_epoch run) r cs shown ∙ ap (λ q. unless q (Does cs shown)) (sym same) in
-      subst (λ o. (found ≡ refusal_in o) × ((after o place).history ≡ one_epoch next)) (sym whole) (by found went)
+      let whole = behind request ∙ ap (numbered (Some es)) is ∙ numbered-command (Some es) r cs shown ∙ ap (λ q. unless q (Does cs shown)) (sym same) in
+      subst (λ o. (found ≡ refusal_in o) × ((after o place).history ≡ Some next)) (sym whole) (by found went)
     where
-      by : (q : Option Refusal) → next ≡ run_after_all q run cs → (q ≡ refusal_in (unless q (Does cs shown))) × ((after (unless q (Does cs shown)) place).history ≡ one_epoch next)
-      by None went = (refl, ap (longer cs) e ∙ ap one_epoch (sym went))
-      by (Some refusal) went = (refl, e ∙ ap one_epoch (sym went))
+      by : (q : Option Refusal) → next ≡ epochs_after_all q es cs → (q ≡ refusal_in (unless q (Does cs shown))) × ((after (unless q (Does cs shown)) place).history ≡ Some next)
+      by None went = (refl, ap (longer cs) e ∙ ap (λ xs. Some xs) (sym went))
+      by (Some refusal) went = (refl, e ∙ ap (λ xs. Some xs) (sym went))
 
 -- the fault of a query says why its line is refused, before anything else does
 pub query_says : (line : LineFault) (fault : QueryFault) (fields : List (List ℕ)) (other : Option Refusal) → fault_refusal line ≡ query_refused fault → (fault ≢ queries.NoMemory → query_refusal fields ≡ Some fault)
@@ -134,7 +133,7 @@ module _ (place : Place) (e : place.history ≡ None) where
 -- Hash numbers.
 
 -- the history of a stage hashes as the stage does
-pub hashed_at-keys : (stage : Stage) (numbers : ℕ × ℕ) → keys_at stage ≡ numbers → IfSome (hashed_at stage) (λ h. h.keys ≡ numbers)
+pub hashed_at-keys : (stage : Stage) (numbers : ℕ × ℕ) → keys_at stage ≡ numbers → IfSome (hashed_at stage) (λ h. h.last.keys ≡ numbers)
 hashed_at-keys (Collecting docs) numbers same = tt
 hashed_at-keys (Built history) numbers same = same
 
@@ -171,7 +170,7 @@ set_up-before place docs stage b big pad found same none is went =
     subst (λ o. ComesTo place o stage found) (sym whole) (by found stage went)
   where
     by : (q : Option Refusal) (s : Stage) → IsSetUp q docs (setup_with docs b big pad) s → ComesTo place (unless q (SetsUp (setup_with docs b big pad))) s q
-    by None (Built history) went = record { refusal = refl; stands = ap one_epoch (sym went) }
+    by None (Built history) went = record { refusal = refl; stands = ap (λ xs. Some xs) (sym went) }
     by None (Collecting collected) went = absurd went
     by (Some refusal) (Collecting collected) went = record { refusal = refl; stands = (went ∙ same, none) }
     by (Some refusal) (Built history) went = absurd went

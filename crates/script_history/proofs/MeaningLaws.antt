@@ -1,35 +1,30 @@
 -- A reading that no device disturbed, with memory for all of it, did what its script means.
 use Rattle.std.proofs.Common.{◌≡◌, ◌≤◌, ◌<◌, inl, inr, ℕ, ◌+◌, ◌*◌, ◌-◌, ◌^◌, Bool, false, ◌||◌, List, [], ◌∷◌, ◌++◌, length, nat_lt, Option, None, Some, refl, sym, ap, subst, ◌∙◌, append_assoc, length-append, arith}
-use Rattle.std.specs.List.{AllByRecursion}
-use Rattle.std.specs.Option.{option_and_then}
-use Rattle.std.specs.Prelude.{IfSome, filter, flat_map, fold, map, option_map, if◌then◌else◌}
+use Rattle.std.specs.Prelude.{filter, flat_map, fold, map, if◌then◌else◌}
 use Rattle.std.specs.Io.KnownBytes.{append_known}
 use Rattle.std.proofs.lemmas.Bool.{le-ltb}
 use Rattle.std.proofs.lemmas.List.{append-nil, length-map}
-use Rattle.std.proofs.lemmas.List.Concat.{flat_map-append}
 use Rattle.client_registry.proofs.HistoryLaws.{IsKept-first, joined-first}
 use Rattle.client_registry.specs.Command.{Command as Meant}
-use Rattle.client_registry.specs.Documents.{all_words, first_seen}
+use Rattle.client_registry.specs.Documents.{first_seen}
 use Rattle.client_registry.specs.Epochs.{Step, Does as DoesOne, Renews, joined, step_after}
 use Rattle.client_registry.specs.Histories.{IsFirstOf, commands_in, longer, renewed}
-use Rattle.client_registry.specs.Run.{Run, Offsets, Epochs, From, Renewed, History}
+use Rattle.client_registry.specs.Run.{Epochs, From, Renewed, History}
 use Rattle.client_registry.specs.Sized.{words_named}
 use Rattle.def_script_meaning.proofs.FollowedPlaces.{first-follow}
 use Rattle.def_script_meaning.proofs.Outcomes.{by_cases}
-use Rattle.def_script_meaning.proofs.Kept.{IsWithinItem, kept_meant}
+use Rattle.def_script_meaning.proofs.Kept.{kept_meant}
 use Rattle.def_script_meaning.proofs.Within.{IsWithin-lines_in}
-use Rattle.def_script_meaning.specs.Lines.{Line, Empty, Key, Command, Request, line_in, line_read, lines_in, script_lines}
-use Rattle.def_script_meaning.specs.Meaning.{follow, meant, meant_from, meaning}
+use Rattle.def_script_meaning.specs.Lines.{Line, Empty, Key, Command, Request, line_in, script_lines}
+use Rattle.def_script_meaning.specs.Meaning.{follow, meant_from, meaning}
 use Rattle.def_script_meaning.specs.Outcome.{Place, Printed, said, Refuses, Does, Renews as Renewal, setup_after, opened, outcome, after, shown_by, is_refusal}
-use Rattle.sse_script.specs.Lines as read
-use Rattle.sse_script.specs.Lines.{line_of}
 use Rattle.sse_script.specs.TextLines.{lines_of}
 use Rattle.sse_script.specs.Texts.{text_of}
 use Rattle.sse_script.specs.declared.refusal.Refusal.TheVariants.{HistoryFull}
 use Rattle.script_history.specs.Reads.{ReadEnd, Whole, EndsSo, StopsUnread, StopsPrinting, Reads, ReadsFirst, IsCountable, is_full, numbered, read_outcome, refusal_in, refused_text, words_in}
-use Rattle.script_history.specs.LinesHere.{RenewsNothing, line_here, line_taken, lines_here, meaning_here, script_lines_here}
 use Rattle.script_history.specs.Meant.{IsCalm, IsReadAs, end_of, is_refused_line}
 use Rattle.script_history.proofs.CommandRefused.{grown}
+use Rattle.script_history.proofs.KnownWords.{named, named-longer}
 
 -- Where nothing disturbs a reading.
 
@@ -71,15 +66,6 @@ text_first place line shown = by_cases place line (λ o. refusals_text (shown_by
 })
 
 -- Histories that can be numbered.
-
--- what a run names
-abbrev named : List ℕ → Offsets → Run → List (List ℕ)
-named key o run = all_words run.setup.documents ++ flat_map words_named run.later
-
-named-longer : (key : List ℕ) (o : Offsets) (run : Run) (commands : List Meant) → named key o (record { setup = run.setup; later = run.later ++ commands }) ≡ named key o run ++ flat_map words_named commands
-named-longer key o run commands =
-    ap (λ words. all_words run.setup.documents ++ words) (flat_map-append words_named run.later commands)
-    ∙ sym (append_assoc (all_words run.setup.documents) (flat_map words_named run.later) (flat_map words_named commands))
 
 -- with more steps there are no fewer commands
 one_more : (es : Epochs) (step : Step) → commands_in (Some es) ≤ commands_in (Some (step_after es step))
@@ -197,59 +183,18 @@ reads-meant mark number (Some (Command line) ∷ lines) now last end reads calm 
     let so = ends_so now last end calm _ reads in record { ends = so.1; printed = so.0 ∙ sym (known-nil now) }
 
 -- Promise P164 (inside): A script that is read to its end is read as it means, and its refusals are the ones printed.
---   assumes: observable devices, no device fault, enough memory, countable history; not: A script with a `rebuild` line, which ends at that line as at a bad one.
+--   assumes: observable devices, no device fault, enough memory, countable history
 -- of a script's bytes
-pub reads-meaning : (mark : Option (List ℕ → List ℕ)) (bytes : List ℕ) (now last : Option (List ℕ)) (end : ReadEnd) → ReadsFirst mark 1 (script_lines_here bytes) now last end → IsCalm end
-    → IsCountable (meaning_here mark bytes).history → IsReadAs (meaning_here mark bytes) (length (script_lines bytes) + 1) now last end
+pub reads-meaning : (mark : Option (List ℕ → List ℕ)) (bytes : List ℕ) (now last : Option (List ℕ)) (end : ReadEnd) → ReadsFirst mark 1 (script_lines bytes) now last end → IsCalm end
+    → IsCountable (meaning mark bytes).history → IsReadAs (meaning mark bytes) (length (script_lines bytes) + 1) now last end
 reads-meaning mark bytes now last end reads calm countable =
-    subst (λ next. IsReadAs (meaning_here mark bytes) next now last end) (number-behind (length (script_lines_here bytes)) ∙ ap (λ n. n + 1) same) (reads-meant mark 1 (script_lines_here bytes) now last end reads calm countable)
+    subst (λ next. IsReadAs (meaning mark bytes) next now last end) (number-behind (length (script_lines bytes))) (reads-meant mark 1 (script_lines bytes) now last end reads calm countable)
   where
     number-behind : (n : ℕ) → 1 + n ≡ n + 1
     number-behind n = omega arith
 
-    same : length (script_lines_here bytes) ≡ length (script_lines bytes)
-    same = length-map (lines_of bytes) line_here ∙ sym (length-map (lines_of bytes) line_in)
-
--- a line that doesn't ask for a new key is read as it is
-taken_as : (o : Option read.Line) → IfSome (option_map line_read o) RenewsNothing → option_and_then line_taken o ≡ option_map line_read o
-taken_as None plain = refl
-taken_as (Some read.Empty) plain = refl
-taken_as (Some (read.Key key)) plain = refl
-taken_as (Some (read.Doc id words)) plain = refl
-taken_as (Some (read.SetupLine b big pad)) plain = refl
-taken_as (Some (read.AddLine id words)) plain = refl
-taken_as (Some (read.Del id)) plain = refl
-taken_as (Some (read.Find word)) plain = refl
-taken_as (Some (read.Query fields)) plain = refl
-taken_as (Some (read.Rebuild key)) plain = absurd plain
-
-taken_all : (texts : List (List ℕ)) → AllByRecursion (λ line. IfSome line RenewsNothing) (lines_in texts) → lines_here texts ≡ lines_in texts
-taken_all [] plain = refl
-taken_all (text ∷ texts) plain =
-    ap (λ line. line ∷ lines_here texts) (taken_as (line_of text) plain.0) ∙ ap (λ lines. line_in text ∷ lines) (taken_all texts plain.1)
-
--- so is a script with no `rebuild` line
-pub meaning_here-plain : (mark : Option (List ℕ → List ℕ)) (bytes : List ℕ) → AllByRecursion (λ line. IfSome line RenewsNothing) (script_lines bytes) → meaning_here mark bytes ≡ meaning mark bytes
-meaning_here-plain mark bytes plain = ap (meant mark) (taken_all (lines_of bytes) plain)
-
 -- a script's history can be counted where its lines are few enough, and its words too
-pub meaning_is_countable : (mark : Option (List ℕ → List ℕ)) (bytes : List ℕ) → 32 * length (lines_of bytes) + 1 < 2 ^ 32 → length (words_in (meaning_here mark bytes).history) < 2 ^ 32 → IsCountable (meaning_here mark bytes).history
+pub meaning_is_countable : (mark : Option (List ℕ → List ℕ)) (bytes : List ℕ) → 32 * length (lines_of bytes) + 1 < 2 ^ 32 → length (words_in (meaning mark bytes).history) < 2 ^ 32 → IsCountable (meaning mark bytes).history
 meaning_is_countable mark bytes few words =
-    let kept = kept_meant mark 1 (script_lines_here bytes) (all_within (lines_of bytes) (IsWithin-lines_in (lines_of bytes))) in
-    record { kept = kept.0; commands = omega (arith, few, kept.1, length-map (lines_of bytes) line_here); words = words }
-  where
-    within : (o : Option read.Line) → IsWithinItem (option_map line_read o) → IsWithinItem (option_and_then line_taken o)
-    within None h = tt
-    within (Some read.Empty) h = h
-    within (Some (read.Key key)) h = h
-    within (Some (read.Doc id words)) h = h
-    within (Some (read.SetupLine b big pad)) h = h
-    within (Some (read.AddLine id words)) h = h
-    within (Some (read.Del id)) h = h
-    within (Some (read.Find word)) h = h
-    within (Some (read.Query fields)) h = h
-    within (Some (read.Rebuild key)) h = tt
-
-    all_within : (texts : List (List ℕ)) → AllByRecursion IsWithinItem (lines_in texts) → AllByRecursion IsWithinItem (lines_here texts)
-    all_within [] h = tt
-    all_within (text ∷ texts) h = (within (line_of text) h.0, all_within texts h.1)
+    let kept = kept_meant mark 1 (script_lines bytes) (IsWithin-lines_in (lines_of bytes)) in
+    record { kept = kept.0; commands = omega (arith, few, kept.1, length-map (lines_of bytes) line_in); words = words }

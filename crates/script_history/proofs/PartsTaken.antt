@@ -10,7 +10,7 @@ use Rattle.sse_script.specs.Lines as read
 use Rattle.sse_script.specs.Lines.{line_of}
 use Rattle.sse_script.specs.TextLines.{TakesLine, SkipsLine}
 use Rattle.def_script_meaning.proofs.Steps.{IsBadFirst}
-use Rattle.script_history.specs.LinesHere.{line_here}
+use Rattle.def_script_meaning.specs.Lines.{line_in}
 use Rattle.sse_script.specs.Shown.{BadLine}
 use Rattle.script_history.specs.Reads.{Stopped, ReadsFirstFrom}
 use Rattle.script_history.specs.TwoScripts.{EndsPart, before_twin, behind_twin, first_left, behind_left}
@@ -110,7 +110,7 @@ none-behind (Some texts) none = ap behind_twin none
 
 -- before the key line: a bad line, be it the one between two scripts
 pub opening-wrong : (mark : Option (List ℕ → List ℕ)) (first : ℕ) (all : Option (List (List ℕ))) (number : ℕ) (left behind : Option (List (List ℕ))) → GoesOnFirst mark first all (number + 1) (first_left left) → (text : List ℕ) → TakesLine left behind text
-    → (now : Option (List ℕ)) (m : ℕ) → IsBadFirst (line_here text) → m ≡ number + 1 → ReadsFirstFrom mark first all now now (Stopped (Some (BadLine m)))
+    → (now : Option (List ℕ)) (m : ℕ) → IsBadFirst (line_in text) → m ≡ number + 1 → ReadsFirstFrom mark first all now now (Stopped (Some (BadLine m)))
 opening-wrong mark first all number left behind on text taken now m bad counted = by (is_twin_line text) refl
   where
     by : (b : Bool) → is_twin_line text ≡ b → ReadsFirstFrom mark first all now now (Stopped (Some (BadLine m)))

@@ -4,13 +4,12 @@ use Rattle.std.specs.Prelude.{Option, None, Some, IfSome, option_map, if◌then�
 use Rattle.std.specs.Io.KnownBytes.{append_known}
 use Rattle.script_run_texts.proofs.TwinLines.{line_of-twin}
 use Rattle.script_run_texts.specs.Twins.{is_twin_line}
-use Rattle.def_script_meaning.specs.Lines.{Line, Empty, Key, Command}
+use Rattle.def_script_meaning.specs.Lines.{Line, Empty, Key, Command, line_in, lines_in}
 use Rattle.def_script_meaning.specs.Outcome.{Place, after, is_refusal, opened}
 use Rattle.sse_script.specs.Shown.{BadLine}
-use Rattle.script_history.specs.LinesHere.{line_here, lines_here}
 use Rattle.script_history.specs.Reads.{ReadEnd, Whole, Stopped, EndsSo, StopsUnread, StopsPrinting, Reads, ReadsFirst, ReadsFirstFrom, read_outcome, refusal_in, refused_text}
 use Rattle.script_history.specs.TwoScripts.{EndsPart, before_twin, behind_twin, first_left, behind_left}
-use Rattle.script_history.proofs.ReadingGoesOn.{line_here-none}
+use Rattle.script_history.proofs.ReadingGoesOn.{line_in-none}
 
 -- how a whole reading ends where the first script's ended at a line `twin`
 abbrev pub at_line : ReadEnd → ReadEnd
@@ -64,22 +63,22 @@ module _ (last : Option (List ℕ)) (end : ReadEnd) (before whole : List (Option
 module _ (last : Option (List ℕ)) (end : ReadEnd) where
   abbrev IsReadOn : List (List ℕ) → Type 0
   IsReadOn texts =
-      (place : Place) (number : ℕ) (refused : Bool) (now : Option (List ℕ)) → Reads place number (lines_here (before_twin texts)) refused now last end → Reads place number (lines_here texts) refused now last (at_line end)
+      (place : Place) (number : ℕ) (refused : Bool) (now : Option (List ℕ)) → Reads place number (lines_in (before_twin texts)) refused now last end → Reads place number (lines_in texts) refused now last (at_line end)
 
   abbrev IsReadFirst : (mark : Option (List ℕ → List ℕ)) → List (List ℕ) → Type 0
-  IsReadFirst mark texts = (number : ℕ) (now : Option (List ℕ)) → ReadsFirst mark number (lines_here (before_twin texts)) now last end → ReadsFirst mark number (lines_here texts) now last (at_line end)
+  IsReadFirst mark texts = (number : ℕ) (now : Option (List ℕ)) → ReadsFirst mark number (lines_in (before_twin texts)) now last end → ReadsFirst mark number (lines_in texts) now last (at_line end)
 
   -- a text that has such a line, from a place
   reads-twin : (texts behind : List (List ℕ)) → behind_twin texts ≡ Some behind → IsReadOn texts
   reads-twin [] behind some place number refused now reads = absurd (cc)
   reads-twin (text ∷ texts) behind some place number refused now reads = by (is_twin_line text) refl some (reads-twin texts behind) reads
     where
-      by : (b : Bool) → is_twin_line text ≡ b → (if b then Some texts else behind_twin texts) ≡ Some behind → (behind_twin texts ≡ Some behind → IsReadOn texts) → Reads place number (lines_here (if b then [] else text ∷ before_twin texts)) refused now last end
-          → Reads place number (lines_here (text ∷ texts)) refused now last (at_line end)
+      by : (b : Bool) → is_twin_line text ≡ b → (if b then Some texts else behind_twin texts) ≡ Some behind → (behind_twin texts ≡ Some behind → IsReadOn texts) → Reads place number (lines_in (if b then [] else text ∷ before_twin texts)) refused now last end
+          → Reads place number (lines_in (text ∷ texts)) refused now last (at_line end)
       by true is some rest reads =
-          subst (λ item. Reads place number (item ∷ lines_here texts) refused now last (at_line end)) (sym (line_here-none text (line_of-twin text is)))
+          subst (λ item. Reads place number (item ∷ lines_in texts) refused now last (at_line end)) (sym (line_in-none text (line_of-twin text is)))
           (so-at now last end (Whole place.key place.history refused number) reads)
-      by false is some rest reads = step last end (lines_here (before_twin texts)) (lines_here texts) (rest some) (line_here text) place number refused now reads
+      by false is some rest reads = step last end (lines_in (before_twin texts)) (lines_in texts) (rest some) (line_in text) place number refused now reads
 
   -- from before its key line
   first-twin : (mark : Option (List ℕ → List ℕ)) (texts behind : List (List ℕ)) → behind_twin texts ≡ Some behind → IsReadFirst mark texts
@@ -87,11 +86,11 @@ module _ (last : Option (List ℕ)) (end : ReadEnd) where
   first-twin mark (text ∷ texts) behind some number now reads = by (is_twin_line text) refl some (first-twin mark texts behind) (reads-twin texts behind) reads
     where
       by : (b : Bool) → is_twin_line text ≡ b → (if b then Some texts else behind_twin texts) ≡ Some behind → (behind_twin texts ≡ Some behind → IsReadFirst mark texts) → (behind_twin texts ≡ Some behind → IsReadOn texts)
-          → ReadsFirst mark number (lines_here (if b then [] else text ∷ before_twin texts)) now last end → ReadsFirst mark number (lines_here (text ∷ texts)) now last (at_line end)
+          → ReadsFirst mark number (lines_in (if b then [] else text ∷ before_twin texts)) now last end → ReadsFirst mark number (lines_in (text ∷ texts)) now last (at_line end)
       by true is some first rest reads =
-          subst (λ item. ReadsFirst mark number (item ∷ lines_here texts) now last (at_line end)) (sym (line_here-none text (line_of-twin text is)))
+          subst (λ item. ReadsFirst mark number (item ∷ lines_in texts) now last (at_line end)) (sym (line_in-none text (line_of-twin text is)))
           (so-at now last end (Stopped (Some (BadLine number))) reads)
-      by false is some first rest reads = step_first last end (lines_here (before_twin texts)) (lines_here texts) mark (first some) (rest some) (line_here text) number now reads
+      by false is some first rest reads = step_first last end (lines_in (before_twin texts)) (lines_in texts) mark (first some) (rest some) (line_in text) number now reads
 
 -- Where lines are taken from a source.
 
@@ -102,7 +101,7 @@ module _ (mark : Option (List ℕ → List ℕ)) (left : Option (List (List ℕ)
     where
       of : (l : Option (List (List ℕ))) → IfSome l (λ lines. behind_twin lines ≡ None) → ReadsFirstFrom mark number (first_left l) now last end → ReadsFirstFrom mark number l now last end
       of None none reads = tt
-      of (Some texts) none reads = subst (λ ts. ReadsFirst mark number (lines_here ts) now last end) (before-whole texts none) reads
+      of (Some texts) none reads = subst (λ ts. ReadsFirst mark number (lines_in ts) now last end) (before-whole texts none) reads
 
   -- with one
   pub whole-twin : (end : ReadEnd) (new : Option (List (List ℕ))) → behind_left left ≡ option_map (λ lines. Some lines) new → ReadsFirstFrom mark number (first_left left) now last end → ReadsFirstFrom mark number left now last (at_line end)
@@ -124,9 +123,9 @@ module _ (mark : Option (List ℕ → List ℕ)) (left : Option (List (List ℕ)
       of None reads = tt
       of (Some texts) reads = by (behind_twin texts) refl
         where
-          by : (o : Option (List (List ℕ))) → behind_twin texts ≡ o → ReadsFirst mark number (lines_here texts) now last end
-          by None none = subst (λ ts. ReadsFirst mark number (lines_here ts) now last end) (before-whole texts none) reads
-          by (Some behind) some = subst (ReadsFirst mark number (lines_here texts) now last) same (first-twin last end mark texts behind some number now reads)
+          by : (o : Option (List (List ℕ))) → behind_twin texts ≡ o → ReadsFirst mark number (lines_in texts) now last end
+          by None none = subst (λ ts. ReadsFirst mark number (lines_in ts) now last end) (before-whole texts none) reads
+          by (Some behind) some = subst (ReadsFirst mark number (lines_in texts) now last) same (first-twin last end mark texts behind some number now reads)
 
   -- by where the lines ended
   pub whole-ended : (at_twin : Bool) (end : ReadEnd) (new : Option (List (List ℕ))) (remaining : Option (List ℕ)) (few : Type 0) → EndsPart at_twin left new remaining few → ReadsFirstFrom mark number (first_left left) now last end

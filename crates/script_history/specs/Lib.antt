@@ -1,7 +1,7 @@
-pub mod LinesHere
 pub mod Reads
 pub mod Meant
 pub mod Numbered
+pub mod UsedKeys
 pub mod Stages
 pub mod Turns
 pub mod TwoScripts

@@ -7,14 +7,13 @@ use Rattle.client_registry.specs.Epochs.{joined}
 use Rattle.client_registry.specs.Histories.{IsKept, commands_in, longer, renewed}
 use Rattle.client_registry.specs.Run.{History}
 use Rattle.client_registry.specs.Sized.{words_named}
-use Rattle.def_script_meaning.specs.Lines.{Line, Request, Empty, Key, Command}
+use Rattle.def_script_meaning.specs.Lines.{Line, Request, Empty, Key, Command, lines_in}
 use Rattle.def_script_meaning.specs.Outcome.{Place, Outcome, Collects, Refuses, SetsUp, Does, Renews, opened, outcome, after, is_refusal}
 use Rattle.sse_outside.specs.Fronts.{TookFront}
 use Rattle.sse_script.specs.declared.refusal.Refusal.{Refusal}
 use Rattle.sse_script.specs.declared.refusal.Refusal.TheVariants.{HistoryFull}
 use Rattle.sse_script.specs.Shown.{Cause, BadLine, SourceFault, NoMemory, Refused}
 use Rattle.sse_script.specs.Texts.{text_of}
-use Rattle.script_history.specs.LinesHere.{lines_here}
 
 -- how a reading ends: at the end of the script, with its key, its history, whether a command was refused, and the number that one
 -- more line would have; or before it, for a cause, and for none where the sink is what failed
@@ -94,7 +93,8 @@ Reads place number (Some (Command line) ∷ lines) refused now last end =
     ⊎ StopsPrinting (refused_text (refusal_in result)) now last end
     ⊎ Reads (after result place) (number + 1) lines (refused || is_refusal result) (append_known now (refused_text (refusal_in result))) last end
 
--- a reading of these lines from before the key line: empty ones, the key line, and what follows, whatever marks keys have
+-- a reading of these lines from before the key line: empty ones, the key line, and what follows. Each key has the mark that is given, or
+-- none is where a new key isn't compared with those before
 abbrev pub ReadsFirst : (mark : Option (List ℕ → List ℕ)) → (number : ℕ) → List (Option Line) → (now last : Option (List ℕ)) → ReadEnd → Type 0
 ReadsFirst mark number (Some Empty ∷ lines) now last end = StopsUnread now last end ⊎ ReadsFirst mark (number + 1) lines now last end
 ReadsFirst mark number (Some (Key key) ∷ lines) now last end = StopsUnread now last end ⊎ Reads (opened mark key) (number + 1) lines false now last end
@@ -103,7 +103,7 @@ ReadsFirst mark number _ now last end = EndsSo (Stopped (Some (BadLine number)))
 -- Where lines are taken from a source, of which nothing may be known.
 
 abbrev pub ReadsFrom : Place → (number : ℕ) → Option (List (List ℕ)) → (refused : Bool) → (now last : Option (List ℕ)) → ReadEnd → Type 0
-ReadsFrom place number left refused now last end = IfSome left (λ texts. Reads place number (lines_here texts) refused now last end)
+ReadsFrom place number left refused now last end = IfSome left (λ texts. Reads place number (lines_in texts) refused now last end)
 
 abbrev pub ReadsFirstFrom : (mark : Option (List ℕ → List ℕ)) → (number : ℕ) → Option (List (List ℕ)) → (now last : Option (List ℕ)) → ReadEnd → Type 0
-ReadsFirstFrom mark number left now last end = IfSome left (λ texts. ReadsFirst mark number (lines_here texts) now last end)
+ReadsFirstFrom mark number left now last end = IfSome left (λ texts. ReadsFirst mark number (lines_in texts) now last end)

@@ -6,19 +6,20 @@ ghost use Rattle.script_run_texts.specs.LineWords.{words_in};
 ghost use Rattle.script_run_texts.specs.Stops.{stop_cause};
 ghost use Rattle.script_run_texts.specs.Twins.{is_twin_line};
 ghost use Rattle.def_script_meaning.specs.Lines as requests;
-ghost use Rattle.def_script_meaning.specs.Lines.{Request};
+ghost use Rattle.def_script_meaning.specs.Lines.{Request, line_in, line_read};
+ghost use Rattle.keyed_fn.specs.KeyedFn.{keyed_fn};
 ghost use Rattle.def_script_meaning.specs.Outcome.{Place};
 ghost use Rattle.sse_script.specs.TextLines.{bytes_to_come, lines_left};
 ghost use Rattle.sse_script.specs.Views.{line_view};
-ghost use Rattle.script_history.specs.LinesHere.{line_here, line_taken};
 ghost use Rattle.script_history.specs.Reads.{refused_text, Stopped, StopsPrinting};
-ghost use Rattle.script_history.specs.Stages.{IsAt, keys_at};
+ghost use Rattle.script_history.specs.Stages.{Stands, keys_at};
 ghost use Rattle.script_history.specs.Turns.{ComesThrough, HasAdvanced, IsElsewhere, IsTurnAt, LeadsOn, LeadsTo, OnLine, PartsOn, ReadsOn, end_at, moment, stage_after};
 ghost use Rattle.script_history.specs.TwoScripts.{EndsPart, first_left};
 
-use crate::stage::Stage;
+use crate::stage::Standing;
 use crate::taken_line::take_line;
 use client_registry::HashKeys;
+use keyed_fn::Keyed;
 use script_run_texts::{Input, InputStop, StopCause};
 use sse_outside::{Sink, Source};
 use sse_script::{Line, Refusal, Shown, print};
@@ -27,7 +28,7 @@ use std::alloc::Global;
 /// How far a script is read between two of its lines, and whether a command was refused.
 #[derive(Drop)]
 pub(crate) struct Progress {
-    pub(crate) stage: Stage,
+    pub(crate) standing: Standing,
     pub(crate) refused: bool,
 }
 
@@ -49,8 +50,9 @@ enum Turn {
 }
 
 /// Reads the lines after the key line, up to a line `twin` where there is one, and prints the refusals.
-pub(crate) fn read_lines<S: Source, W: Sink>(
+pub(crate) fn read_lines<K: Keyed, S: Source, W: Sink>(
     alloc: Global,
+    keyed: &K,
     keys: HashKeys,
     source: &mut S,
     sink: &mut W,
@@ -58,16 +60,16 @@ pub(crate) fn read_lines<S: Source, W: Sink>(
     mut progress: Progress,
 ) -> Result<Last, StopCause>
     requires few { input.old.number + bytes_to_come input.old.pending (S.handed_out source.old) ≤ 2 ^ 63 }
-    ensures reads { (place : Place) → IsAt progress.stage place →
+    ensures reads { (place : Place) → Stands (keyed_fn K.prf K.pad) progress.standing place →
         ReadsOn (moment place (input.old.number + 1) (first_left (lines_left input.old.pending (S.remaining source.old))) progress.refused (W.written sink.old)) (W.written sink.new) (end_at place.key input.new.number result) }
     ensures ended { IfOk result (λ last. EndsPart last.at_twin (lines_left input.old.pending (S.remaining source.old)) (lines_left input.new.pending (S.remaining source.new)) (S.remaining source.new)
         (input.new.number + bytes_to_come input.new.pending (S.handed_out source.new) ≤ 2 ^ 63)) }
-    ensures hashed { keys_at progress.stage ≡ hash_numbers keys → IfOk result (λ last. keys_at last.progress.stage ≡ hash_numbers keys) }
+    ensures hashed { keys_at progress.standing.stage ≡ hash_numbers keys → IfOk result (λ last. keys_at last.progress.standing.stage ≡ hash_numbers keys) }
     ensures source { KeepsSource SourceCause (S.faults source.old) (S.faults source.new) result }
     ensures sink { KeepsSink (W.faults sink.old) (W.faults sink.new) (W.shortages sink.old) (W.shortages sink.new) result }
 {
     'lines: loop {
-        match take_turn(alloc, keys, source, sink, input, progress)? {
+        match take_turn(alloc, keyed, keys, source, sink, input, progress)? {
             Turn::Next(next) => progress = next,
             Turn::End(last) => return Ok(last),
         }
@@ -75,8 +77,9 @@ pub(crate) fn read_lines<S: Source, W: Sink>(
 }
 
 /// Reads the next line and takes it.
-fn take_turn<S: Source, W: Sink>(
+fn take_turn<K: Keyed, S: Source, W: Sink>(
     alloc: Global,
+    keyed: &K,
     keys: HashKeys,
     source: &mut S,
     sink: &mut W,
@@ -84,16 +87,16 @@ fn take_turn<S: Source, W: Sink>(
     progress: Progress,
 ) -> Result<Turn, StopCause>
     requires few { input.old.number + bytes_to_come input.old.pending (S.handed_out source.old) ≤ 2 ^ 63 }
-    ensures turns { (place : Place) → IsAt progress.stage place →
-        LeadsTo (moment place (input.old.number + 1) (first_left (lines_left input.old.pending (S.remaining source.old))) progress.refused (W.written sink.old)) input.new.number (first_left (lines_left input.new.pending (S.remaining source.new))) (W.written sink.new) result }
+    ensures turns { (place : Place) → Stands (keyed_fn K.prf K.pad) progress.standing place →
+        LeadsTo (keyed_fn K.prf K.pad) (moment place (input.old.number + 1) (first_left (lines_left input.old.pending (S.remaining source.old))) progress.refused (W.written sink.old)) input.new.number (first_left (lines_left input.new.pending (S.remaining source.new))) (W.written sink.new) result }
     ensures parts { IfOk result (λ turn. PartsOn turn (lines_left input.old.pending (S.remaining source.old)) (lines_left input.new.pending (S.remaining source.new)) (S.remaining source.new)) }
     ensures advanced { IfOk result (λ turn. OnLine turn (HasAdvanced input.old.number (bytes_to_come input.old.pending (S.handed_out source.old)) input.new.number (bytes_to_come input.new.pending (S.handed_out source.new)))) }
-    ensures hashed { keys_at progress.stage ≡ hash_numbers keys → IfOk result (λ turn. keys_at (stage_after turn) ≡ hash_numbers keys) }
+    ensures hashed { keys_at progress.standing.stage ≡ hash_numbers keys → IfOk result (λ turn. keys_at (stage_after turn) ≡ hash_numbers keys) }
     ensures source { KeepsSource SourceCause (S.faults source.old) (S.faults source.new) result }
     ensures sink { KeepsSink (W.faults sink.old) (W.faults sink.new) (W.shortages sink.old) (W.shortages sink.new) result }
 {
     match input.advance(source) {
-        Ok(true) => turn_at_line(alloc, keys, sink, input, progress),
+        Ok(true) => turn_at_line(alloc, keyed, keys, sink, input, progress),
         Ok(false) => Ok(Turn::End(Last {
             progress,
             at_twin: false,
@@ -103,17 +106,18 @@ fn take_turn<S: Source, W: Sink>(
 }
 
 /// Takes the line that was read last, or ends the script at it.
-fn turn_at_line<W: Sink>(
+fn turn_at_line<K: Keyed, W: Sink>(
     alloc: Global,
+    keyed: &K,
     keys: HashKeys,
     sink: &mut W,
     input: &Input,
     progress: Progress,
 ) -> Result<Turn, StopCause>
-    ensures leads { (place : Place) (behind : Option (List (List ℕ))) → IsAt progress.stage place →
-        LeadsTo (moment place input.now.number (first_left (option_map (λ lines. input.now.line ∷ lines) behind)) progress.refused (W.written sink.old)) input.now.number (first_left behind) (W.written sink.new) result }
+    ensures leads { (place : Place) (behind : Option (List (List ℕ))) → Stands (keyed_fn K.prf K.pad) progress.standing place →
+        LeadsTo (keyed_fn K.prf K.pad) (moment place input.now.number (first_left (option_map (λ lines. input.now.line ∷ lines) behind)) progress.refused (W.written sink.old)) input.now.number (first_left behind) (W.written sink.new) result }
     ensures at { IfOk result (IsTurnAt (is_twin_line input.now.line)) }
-    ensures hashed { keys_at progress.stage ≡ hash_numbers keys → IfOk result (λ turn. keys_at (stage_after turn) ≡ hash_numbers keys) }
+    ensures hashed { keys_at progress.standing.stage ≡ hash_numbers keys → IfOk result (λ turn. keys_at (stage_after turn) ≡ hash_numbers keys) }
     ensures sink { KeepsSink (W.faults sink.old) (W.faults sink.new) (W.shortages sink.old) (W.shortages sink.new) result }
     ensures elsewhere { IfErr result IsElsewhere }
 {
@@ -123,7 +127,7 @@ fn turn_at_line<W: Sink>(
             at_twin: true,
         }));
     }
-    match take_read(alloc, keys, sink, input, progress) {
+    match take_read(alloc, keyed, keys, sink, input, progress) {
         Ok(next) => Ok(Turn::Next(next)),
         Err(stop) => Err(stop),
     }
@@ -138,28 +142,30 @@ fn not_read(progress: Progress, stop: InputStop) -> Result<Turn, StopCause>
 }
 
 /// Takes the line that was read last.
-fn take_read<W: Sink>(
+fn take_read<K: Keyed, W: Sink>(
     alloc: Global,
+    keyed: &K,
     keys: HashKeys,
     sink: &mut W,
     input: &Input,
     progress: Progress,
 ) -> Result<Progress, StopCause>
-    ensures leads { (place : Place) (behind : Option (List (List ℕ))) → IsAt progress.stage place →
-        LeadsOn (moment place input.now.number (option_map (λ lines. input.now.line ∷ lines) behind) progress.refused (W.written sink.old)) input.now.number behind (W.written sink.new) result }
-    ensures hashed { keys_at progress.stage ≡ hash_numbers keys → IfOk result (λ next. keys_at next.stage ≡ hash_numbers keys) }
+    ensures leads { (place : Place) (behind : Option (List (List ℕ))) → Stands (keyed_fn K.prf K.pad) progress.standing place →
+        LeadsOn (keyed_fn K.prf K.pad) (moment place input.now.number (option_map (λ lines. input.now.line ∷ lines) behind) progress.refused (W.written sink.old)) input.now.number behind (W.written sink.new) result }
+    ensures hashed { keys_at progress.standing.stage ≡ hash_numbers keys → IfOk result (λ next. keys_at next.standing.stage ≡ hash_numbers keys) }
     ensures sink { KeepsSink (W.faults sink.old) (W.faults sink.new) (W.shortages sink.old) (W.shortages sink.new) result }
     ensures elsewhere { IfErr result IsElsewhere }
 {
     match input.line() {
-        Ok(line) => take(alloc, keys, sink, progress, input.number(), line),
+        Ok(line) => take(alloc, keyed, keys, sink, progress, input.number(), line),
         Err(stop) => stopped(progress, StopCause::Input(stop)),
     }
 }
 
 /// Takes a line, which has this number.
-fn take<W: Sink>(
+fn take<K: Keyed, W: Sink>(
     alloc: Global,
+    keyed: &K,
     keys: HashKeys,
     sink: &mut W,
     progress: Progress,
@@ -167,17 +173,16 @@ fn take<W: Sink>(
     line: Line<'_>,
 ) -> Result<Progress, StopCause>
     requires words { words_in (line_view line) ≤ 2 ^ 19 }
-    ensures leads { (place : Place) (text : List ℕ) (behind : Option (List (List ℕ))) → IsAt progress.stage place → line_here text ≡ line_taken (line_view line.entry) →
-        LeadsOn (moment place number (option_map (λ lines. text ∷ lines) behind) progress.refused (W.written sink.old)) number behind (W.written sink.new) result }
-    ensures hashed { keys_at progress.stage ≡ hash_numbers keys → IfOk result (λ next. keys_at next.stage ≡ hash_numbers keys) }
+    ensures leads { (place : Place) (text : List ℕ) (behind : Option (List (List ℕ))) → Stands (keyed_fn K.prf K.pad) progress.standing place → line_in text ≡ Some (line_read (line_view line.entry)) →
+        LeadsOn (keyed_fn K.prf K.pad) (moment place number (option_map (λ lines. text ∷ lines) behind) progress.refused (W.written sink.old)) number behind (W.written sink.new) result }
+    ensures hashed { keys_at progress.standing.stage ≡ hash_numbers keys → IfOk result (λ next. keys_at next.standing.stage ≡ hash_numbers keys) }
     ensures sink { KeepsSink (W.faults sink.old) (W.faults sink.new) (W.shortages sink.old) (W.shortages sink.new) result }
     ensures elsewhere { IfErr result IsElsewhere }
 {
     match line {
         Line::Empty => Ok(progress),
         Line::Key(_) => stopped(progress, StopCause::Input(InputStop::Line(number))),
-        Line::Rebuild(_) => stopped(progress, StopCause::Input(InputStop::Line(number))),
-        line => take_command(alloc, keys, sink, progress, line),
+        line => take_command(alloc, keyed, keys, sink, progress, line),
     }
 }
 
@@ -190,23 +195,24 @@ fn stopped(progress: Progress, stop: StopCause) -> Result<Progress, StopCause>
 }
 
 /// Takes a line that is neither empty nor a key line.
-fn take_command<W: Sink>(
+fn take_command<K: Keyed, W: Sink>(
     alloc: Global,
+    keyed: &K,
     keys: HashKeys,
     sink: &mut W,
     progress: Progress,
     line: Line<'_>,
 ) -> Result<Progress, StopCause>
     requires words { words_in (line_view line) ≤ 2 ^ 19 }
-    ensures comes { (request : Request) → line_taken (line_view line.entry) ≡ Some (requests.Command request) → (place : Place) → IsAt progress.stage place →
-        ComesThrough place request progress.refused (W.written sink.old) (W.written sink.new) result }
-    ensures hashed { keys_at progress.stage ≡ hash_numbers keys → IfOk result (λ next. keys_at next.stage ≡ hash_numbers keys) }
+    ensures comes { (request : Request) → line_read (line_view line.entry) ≡ requests.Command request → (place : Place) → Stands (keyed_fn K.prf K.pad) progress.standing place →
+        ComesThrough (keyed_fn K.prf K.pad) place request progress.refused (W.written sink.old) (W.written sink.new) result }
+    ensures hashed { keys_at progress.standing.stage ≡ hash_numbers keys → IfOk result (λ next. keys_at next.standing.stage ≡ hash_numbers keys) }
     ensures sink { KeepsSink (W.faults sink.old) (W.faults sink.new) (W.shortages sink.old) (W.shortages sink.new) result }
     ensures elsewhere { IfErr result IsElsewhere }
 {
-    let Progress { stage, refused } = progress;
-    match take_line(alloc, keys, stage, line) {
-        Ok((stage, found)) => tell(alloc, sink, Progress { stage, refused }, found),
+    let Progress { standing, refused } = progress;
+    match take_line(alloc, keyed, keys, standing, line) {
+        Ok((standing, found)) => tell(alloc, sink, Progress { standing, refused }, found),
         Err(_) => Err(StopCause::Memory),
     }
 }
@@ -218,7 +224,7 @@ fn tell<W: Sink>(
     progress: Progress,
     found: Option<Refusal>,
 ) -> Result<Progress, StopCause>
-    ensures stage { IfOk result (λ next. next.stage ≡ progress.stage) }
+    ensures standing { IfOk result (λ next. next.standing ≡ progress.standing) }
     ensures refused { IfOk result (λ next. next.refused ≡ progress.refused || is_some found) }
     ensures printed { OnOk result (W.written sink.new ≡ append_known (W.written sink.old) (refused_text found)) }
     ensures stops { IfErr result (λ stop. StopsPrinting (refused_text found) (W.written sink.old) (W.written sink.new) (Stopped (stop_cause stop))) }
@@ -236,11 +242,11 @@ fn tell<W: Sink>(
 
 /// The same, with a command refused.
 fn noted(progress: Progress) -> Progress
-    ensures stage { result.stage ≡ progress.stage }
+    ensures standing { result.standing ≡ progress.standing }
     ensures refused { result.refused ≡ true }
 {
     Progress {
-        stage: progress.stage,
+        standing: progress.standing,
         refused: true,
     }
 }

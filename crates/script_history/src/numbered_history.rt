@@ -5,15 +5,18 @@ ghost use Rattle.client_registry.specs.Command.{Search, is_update};
 ghost use Rattle.client_registry.specs.Setup.{setup_with, setup_words};
 ghost use Rattle.client_registry.specs.HashNumbers.{hash_numbers};
 ghost use Rattle.client_registry.specs.WordBytes.{word_bytes};
-ghost use Rattle.client_registry.specs.Sized.{IsSized, IsSizedCommand, words_named};
+ghost use Rattle.client_registry.specs.Epochs.{with_commands};
+ghost use Rattle.client_registry.specs.Histories.{commands_in};
+ghost use Rattle.client_registry.specs.Run.{last_run};
+ghost use Rattle.client_registry.specs.Sized.{IsSizedCommand, words_named};
 ghost use Rattle.leakage_history.specs.Commands.{command_of};
-ghost use Rattle.leakage_history.specs.HashedRun.{epochs_of, run_of};
+ghost use Rattle.leakage_history.specs.HashedEpochs.{epochs_in};
 ghost use Rattle.leakage_history.specs.Refusal.{push_refusal};
-ghost use Rattle.script_history.specs.Numbered.{fault_refusal, with_command};
+ghost use Rattle.script_history.specs.Numbered.{fault_refusal, renewal_fault_refusal};
 ghost use Rattle.script_history.specs.Reads.{number_refusal};
 
 use client_registry::{Docs, HashKeys, Size, Word};
-use leakage_history::{Command, History, HistoryFault};
+use leakage_history::{Command, Epochs, History, HistoryFault, RenewalFault};
 use sse_script::Refusal;
 use std::alloc::{AllocError, Global};
 use std::marker::Model;
@@ -21,17 +24,19 @@ use std::marker::Model;
 /// A history whose commands, update frames and words can each be numbered in 32 bits, with the counts that show it.
 #[derive(Drop)]
 pub struct NumberedHistory {
-    history: History,
+    history: Epochs,
     /// How many update frames it takes.
     frames: u32,
+    /// How many commands it has, the setup and each renewal of the key among them.
+    commands: u32,
     /// At least how many different words it has: each is counted as often as a command names it.
     named: u32,
 }
 
 impl Model for NumberedHistory {
-    ghost use Rattle.leakage_history.specs.HashedRun.{HashedRun};
+    ghost use Rattle.leakage_history.specs.HashedEpochs.{HashedEpochs};
 
-    ghost Value = { HashedRun };
+    ghost Value = { HashedEpochs };
 
     ghost use Rattle.script_history.specs.Numbered.{IsNumbered};
 
@@ -41,7 +46,8 @@ impl Model for NumberedHistory {
 }
 
 impl NumberedHistory {
-    ghost use Rattle.script_history.specs.Numbered.{accept_refusal, command_refusal, run_after, run_after_all, update_refusal as refused_update};
+    ghost use Rattle.script_history.specs.Numbered.{accept_refusal, command_refusal, epochs_after, epochs_after_all, epochs_renewed, frames_free, renew_refusal, update_refusal as refused_update};
+    ghost use Rattle.script_history.specs.Reads.{IsCountable};
 
     // Promise P73 (caller): A numbered history refuses a command as a script would, or as full; its commands, frames and words fit 32 bits.
     //   clauses: ensures; assumes: accepted setup, earlier calls; not: How much memory there is: for 2^32 words or more it always runs out.
@@ -56,7 +62,7 @@ impl NumberedHistory {
         requires words { size.now.words ≡ length (setup_words (setup_with docs.documents size.now.shape.b size.now.shape.big size.now.pad)) }
         requires padded_words { size.now.padded_words ≡ counts.padded_words (setup_with docs.documents size.now.shape.b size.now.shape.big size.now.pad) }
         requires padded_blocks { size.now.padded_blocks ≡ counts.padded_blocks (setup_with docs.documents size.now.shape.b size.now.shape.big size.now.pad) }
-        ensures { IfOk result (λ h. h ≡ record { setup = setup_with docs.documents size.now.shape.b size.now.shape.big size.now.pad; later = []; keys = hash_numbers keys }) }
+        ensures { IfOk result (λ h. h ≡ record { before = []; last = record { setup = setup_with docs.documents size.now.shape.b size.now.shape.big size.now.pad; later = []; keys = hash_numbers keys } }) }
     {
         // Its contract says that the documents keep their limits.
         let _limits = docs.words();
@@ -64,8 +70,9 @@ impl NumberedHistory {
         let (b, big) = (size.shape.b(), size.shape.big());
         let history = History::new(alloc, docs, keys, b, big, size.pad)?;
         Ok(NumberedHistory {
-            history,
+            history: Epochs::of(alloc, history),
             frames,
+            commands: 1,
             named: size.words,
         })
     }
@@ -76,15 +83,15 @@ impl NumberedHistory {
     ///
     /// Error: out of memory, which comes only if nothing refuses the command but that its words can't be numbered.
     pub fn push(&mut self, command: Command) -> Result<Option<Refusal>, AllocError>
-        ensures found { IfOk result (λ found. found ≡ command_refusal (run_of self.old) (command_of command)) }
-        ensures after { IfOk result (λ found. run_of self.new ≡ run_after found (run_of self.old) (command_of command)) }
-        ensures may_stop { OnErr result (accept_refusal (run_of self.old) (command_of command) ≡ None) }
-        ensures keys { self.new.keys ≡ self.old.keys }
+        ensures found { IfOk result (λ found. found ≡ command_refusal (epochs_in self.old) (command_of command)) }
+        ensures after { IfOk result (λ found. epochs_in self.new ≡ epochs_after found (epochs_in self.old) (command_of command)) }
+        ensures may_stop { OnErr result (accept_refusal (epochs_in self.old) (command_of command) ≡ None) }
+        ensures keys { self.new.last.keys ≡ self.old.last.keys }
     {
         if let Some(refusal) = self.refusal(&command) {
             return Ok(Some(refusal));
         }
-        if self.history.len() >= u32::MAX as usize {
+        if self.commands == u32::MAX {
             return Ok(Some(Refusal::HistoryFull));
         }
         self.push_accepted(command)?;
@@ -97,11 +104,11 @@ impl NumberedHistory {
     /// Error: out of memory; some of the searches may be taken then.
     pub fn push_searches(&mut self, words: &[Word]) -> Result<Option<Refusal>, AllocError>
         requires some { words.now ≢ [] }
-        ensures found { IfOk result (λ found. found ≡ number_refusal (Some (epochs_of self.old)) (map (λ word. Search word) (map word_bytes words.now))) }
-        ensures after { IfOk result (λ found. run_of self.new ≡ run_after_all found (run_of self.old) (map (λ word. Search word) (map word_bytes words.now))) }
-        ensures keys { self.new.keys ≡ self.old.keys }
+        ensures found { IfOk result (λ found. found ≡ number_refusal (Some (epochs_in self.old)) (map (λ word. Search word) (map word_bytes words.now))) }
+        ensures after { IfOk result (λ found. epochs_in self.new ≡ epochs_after_all found (epochs_in self.old) (map (λ word. Search word) (map word_bytes words.now))) }
+        ensures keys { self.new.last.keys ≡ self.old.last.keys }
     {
-        if words.len() > u32::MAX as usize - self.history.len() {
+        if words.len() > (u32::MAX - self.commands) as usize {
             return Ok(Some(Refusal::HistoryFull));
         }
         for word in words {
@@ -112,12 +119,12 @@ impl NumberedHistory {
 
     /// Takes a command that isn't refused.
     fn push_accepted(&mut self, command: Command) -> Result<(), AllocError>
-        requires accepted { accept_refusal (run_of self.old) (command_of command) ≡ None }
+        requires accepted { accept_refusal (epochs_in self.old) (command_of command) ≡ None }
         requires valid { IsSizedCommand (command_of command) }
-        requires few { length self.old.later + 2 < 2 ^ 32 }
-        ensures taken { OnOk result (run_of self.new ≡ with_command (run_of self.old) (command_of command)) }
-        ensures numbered { OnOk result (number_refusal (Some (epochs_of self.old)) (command_of command ∷ []) ≡ None) }
-        ensures keys { self.new.keys ≡ self.old.keys }
+        requires few { commands_in (Some (epochs_in self.old)) + 2 < 2 ^ 32 }
+        ensures taken { OnOk result (epochs_in self.new ≡ with_commands (command_of command ∷ []) (epochs_in self.old)) }
+        ensures numbered { OnOk result (number_refusal (Some (epochs_in self.old)) (command_of command ∷ []) ≡ None) }
+        ensures keys { self.new.last.keys ≡ self.old.last.keys }
     {
         // So many words aren't counted: which of them are different takes a table of 2^32 words.
         let Some(named) = self.named.checked_add(count_words(&command)) else {
@@ -126,13 +133,14 @@ impl NumberedHistory {
         let frames = self.frames + count_frames(&command);
         push_known(&mut self.history, command)?;
         self.frames = frames;
+        self.commands += 1;
         self.named = named;
         Ok(())
     }
 
     /// Why a command isn't accepted after the others, or has no number for its update frame.
     fn refusal(&self, command: &Command) -> Option<Refusal>
-        ensures refusal { result ≡ accept_refusal (run_of self.now) (command_of command.now) }
+        ensures refusal { result ≡ accept_refusal (epochs_in self.now) (command_of command.now) }
         ensures valid { IsSizedCommand (command_of command.now) }
     {
         match self.history.refusal(command) {
@@ -143,7 +151,7 @@ impl NumberedHistory {
 
     /// Why an update isn't taken that is accepted.
     fn update_refusal(&self, command: &Command) -> Option<Refusal>
-        ensures { result ≡ refused_update (run_of self.now) (command_of command.now) }
+        ensures { result ≡ refused_update (epochs_in self.now) (command_of command.now) }
     {
         if count_frames(command) > u32::MAX - self.frames {
             return Some(Refusal::HistoryFull);
@@ -151,11 +159,44 @@ impl NumberedHistory {
         None
     }
 
-    // Promise P73, also here; clauses: same, sized
+    // Promise P59, also here; clauses: keys
+    // Promise P73, also here; clauses: found, after
+    /// Renews the key after the commands so far, or tells why not, and then the history is as before. Whether an epoch had this
+    /// key isn't tested.
+    ///
+    /// Error: out of memory, which may come in place of any refusal.
+    pub fn renew(&mut self, key: [u8; 32]) -> Result<Option<Refusal>, AllocError>
+        ensures found { IfOk result (λ found. found ≡ renew_refusal (epochs_in self.old) key) }
+        ensures after { IfOk result (λ found. epochs_in self.new ≡ epochs_renewed found (epochs_in self.old) key) }
+        ensures keys { self.new.last.keys ≡ self.old.last.keys }
+    {
+        let most = self.frames_free();
+        match self.history.renew(key, most) {
+            Ok(size) => {
+                self.frames += setup_frames(&size);
+                self.commands += 1;
+                Ok(None)
+            }
+            Err(fault) => Ok(Some(renewal_refusal_of(fault)?)),
+        }
+    }
+
+    /// How many update frames a renewal may take: none where it would have no number as a command, so that it is refused as full.
+    fn frames_free(&self) -> u32
+        ensures { result ≡ frames_free (epochs_in self.now) }
+    {
+        if self.commands < u32::MAX {
+            u32::MAX - self.frames
+        } else {
+            0
+        }
+    }
+
+    // Promise P73, also here; clauses: same, counted
     /// The history alone.
-    pub fn into_history(self) -> History
+    pub fn into_history(self) -> Epochs
         ensures same { result ≡ self }
-        ensures sized { IsSized (run_of self) }
+        ensures counted { IsCountable (Some (epochs_in self)) }
     {
         let NumberedHistory { history, .. } = self;
         history
@@ -163,11 +204,11 @@ impl NumberedHistory {
 }
 
 /// Takes a command that is accepted.
-fn push_known(history: &mut History, command: Command) -> Result<(), AllocError>
-    requires { push_refusal (run_of history.old) (command_of command) ≡ None }
-    ensures taken { OnOk result (run_of history.new ≡ with_command (run_of history.old) (command_of command)) }
+fn push_known(history: &mut Epochs, command: Command) -> Result<(), AllocError>
+    requires { push_refusal (last_run (epochs_in history.old)) (command_of command) ≡ None }
+    ensures taken { OnOk result (epochs_in history.new ≡ with_commands (command_of command ∷ []) (epochs_in history.old)) }
     ensures kept { OnErr result (history.new ≡ history.old) }
-    ensures keys { history.new.keys ≡ history.old.keys }
+    ensures keys { history.new.last.keys ≡ history.old.last.keys }
 {
     match history.push(command) {
         Ok(()) => Ok(()),
@@ -185,6 +226,21 @@ fn refusal_of(fault: HistoryFault) -> Option<Refusal>
         HistoryFault::UnknownDocument(id) => Some(Refusal::UnknownDocument { id }),
         HistoryFault::CounterFull(position) => Some(Refusal::CounterFull { position }),
         HistoryFault::NoMemory => None,
+    }
+}
+
+/// The refusal that a fault of a renewal is.
+fn renewal_refusal_of(fault: RenewalFault) -> Result<Refusal, AllocError>
+    ensures refusal { IfOk result (λ refusal. renewal_fault_refusal fault ≡ Some refusal) }
+    ensures other { IfOk result (λ refusal. fault ≢ RenewalFault.NoMemory) }
+{
+    match fault {
+        RenewalFault::TooManyDocuments(n) => Ok(Refusal::TooManyDocuments { n }),
+        RenewalFault::TooManyPairs(n) => Ok(Refusal::TooManyPairs { n }),
+        RenewalFault::ListTooLong { word, n } => Ok(Refusal::ListTooLong { word, n }),
+        RenewalFault::TooManyBytes(n) => Ok(Refusal::TooManyBytes { n }),
+        RenewalFault::HistoryFull => Ok(Refusal::HistoryFull),
+        RenewalFault::NoMemory => Err(AllocError),
     }
 }
 

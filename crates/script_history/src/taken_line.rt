@@ -7,42 +7,159 @@ ghost use Rattle.def_script_meaning.specs.Lines as requests;
 ghost use Rattle.def_script_meaning.specs.Lines.{Request};
 ghost use Rattle.def_script_meaning.specs.Refused.{delete_refusal, index_refusal, size_refused};
 ghost use Rattle.sse_script.specs.Views.{line_view};
-ghost use Rattle.script_history.specs.LinesHere.{line_taken};
+ghost use Rattle.def_script_meaning.specs.Lines.{line_read};
+ghost use Rattle.keyed_fn.specs.KeyFormulas.{mark_of};
+ghost use Rattle.keyed_fn.specs.KeyedFn.{keyed_fn};
 ghost use Rattle.sse_script.specs.declared.refusal.Refusal.{Refusal as Reason};
 ghost use Rattle.std.specs.declared.option.Option.{Option};
 ghost use Rattle.client_registry.specs.Acceptance.{size_refusal};
 ghost use Rattle.client_registry.specs.Command.{Add, Delete, Search};
 ghost use Rattle.client_registry.specs.HashNumbers.{hash_numbers};
 ghost use Rattle.client_registry.specs.Setup.{setup_with};
-ghost use Rattle.leakage_history.specs.HashedRun.{epochs_of, run_of};
+ghost use Rattle.leakage_history.specs.HashedEpochs.{epochs_in};
 ghost use Rattle.bool_search.specs.Fields.{words_of};
-ghost use Rattle.script_history.specs.Numbered.{run_after, run_after_all};
-ghost use Rattle.script_history.specs.Stages.{IsSetUp, MayStop, Takes, TakesAfter, collected_after, keys_at, read_add_refusal, read_delete_refusal, read_find_refusal, read_query_refusal};
+ghost use Rattle.script_history.specs.Numbered.{epochs_after, epochs_after_all, epochs_renewed, renew_refusal};
+ghost use Rattle.script_history.specs.Stages.{CarriesOut, IsSetUp, KeepsKey, MayStop, MayStopHere, RenewalMayStop, Takes, TakesAfter, collected_after, keys_at, read_add_refusal, read_delete_refusal, read_find_refusal, read_query_refusal};
+ghost use Rattle.script_history.specs.UsedKeys.{known_after, known_refusal, marks_known};
+ghost use Rattle.std.specs.Option.{option_or};
 
 use crate::numbered_history::NumberedHistory;
-use crate::stage::Stage;
+use crate::stage::{Stage, Standing};
+use crate::used_keys::{UsedKeys, epoch_of};
 use bool_search::Query;
 use client_registry::{DocId, Docs, HashKeys, SizeFault, Sizes, size_of};
+use keyed_fn::Keyed;
 use leakage_history::Command;
 use script_documents::{LineFault, add_document, document_of, word_of};
 use sse_script::{Fields, Line, Refusal};
 use std::alloc::{AllocError, Global};
+use word_keys::MasterKey;
 
 // Promise P74 (inside): Reading a script, a line is refused for the same cause as in a run, or as full; otherwise it is taken.
-//   clauses: takes, may_stop, hashed; not: The words of a document that is collected or added, and its later refusals, and a query after the setup: there memory may run out instead.
-/// Takes a line of a script after its key line, or tells why it is refused, and then the stage is as before. Its tables hash under
-/// these keys. A line without fields, a key line and a `rebuild` line change nothing.
+//   clauses: takes, may_stop, hashed; not: The words of a document that is collected or added, and its later refusals, a query after the setup, and a renewal whose key is new: there
+//     memory may run out instead.
+/// Takes a line of a script after its key line, or tells why it is refused, and then the reading stands as before. Its tables hash
+/// under these keys. A line without fields and a key line change nothing.
 ///
-/// Error: out of memory, which never comes in place of a refusal that is found without memory (`MayStop`); the stage is lost then.
-pub fn take_line(
+/// Error: out of memory, which never comes in place of a refusal that is found without memory (`MayStop`); all is lost then.
+pub fn take_line<K: Keyed>(
+    alloc: Global,
+    keyed: &K,
+    keys: HashKeys,
+    standing: Standing,
+    line: Line<'_>,
+) -> Result<(Standing, Option<Refusal>), AllocError>
+    requires words { words_in (line_view line) ≤ 2 ^ 19 }
+    ensures takes { IfOk result (λ done. (request : Request) → line_read (line_view line.entry) ≡ requests.Command request → CarriesOut (keyed_fn K.prf K.pad) standing request done.0 done.1) }
+    ensures may_stop { OnErr result (MayStop (keyed_fn K.prf K.pad) standing (line_view line.entry)) }
+    ensures hashed { keys_at standing.stage ≡ hash_numbers keys → IfOk result (λ done. keys_at done.0.stage ≡ hash_numbers keys) }
+{
+    match line {
+        Line::Rebuild(key) => rebuild(keyed, standing, key),
+        line => {
+            let Standing { stage, used } = standing;
+            let (stage, found) = take_plain(alloc, keys, stage, line)?;
+            Ok((Standing { stage, used }, found))
+        }
+    }
+}
+
+/// Takes the new key of a `rebuild` line.
+fn rebuild<K: Keyed>(
+    keyed: &K,
+    standing: Standing,
+    key: [u8; 32],
+) -> Result<(Standing, Option<Refusal>), AllocError>
+    ensures takes { IfOk result (λ done. CarriesOut (keyed_fn K.prf K.pad) standing (requests.RebuildLine key) done.0 done.1) }
+    ensures may_stop { OnErr result (RenewalMayStop (keyed_fn K.prf K.pad) standing.stage standing.used key) }
+    ensures hashed { IfOk result (λ done. keys_at done.0.stage ≡ keys_at standing.stage) }
+{
+    let Standing { stage, mut used } = standing;
+    match stage {
+        Stage::Collecting(docs) => {
+            let stage = Stage::Collecting(docs);
+            Ok((Standing { stage, used }, Some(Refusal::NotSetUp)))
+        }
+        Stage::Built(history) => {
+            let mut history = history;
+            let found = renew(keyed, &mut history, &mut used, key)?;
+            let stage = Stage::Built(history);
+            Ok((Standing { stage, used }, found))
+        }
+    }
+}
+
+/// Renews the key, or tells why not.
+fn renew<K: Keyed>(
+    keyed: &K,
+    history: &mut NumberedHistory,
+    used: &mut UsedKeys,
+    key: [u8; 32],
+) -> Result<Option<Refusal>, AllocError>
+    ensures found { IfOk result (λ found. found ≡ option_or (known_refusal (marks_known used.old) (mark_of (keyed_fn K.prf K.pad) key)) (renew_refusal (epochs_in history.old) key)) }
+    ensures after { IfOk result (λ found. epochs_in history.new ≡ epochs_renewed found (epochs_in history.old) key) }
+    ensures known { IfOk result (λ found. marks_known used.new ≡ known_after found (mark_of (keyed_fn K.prf K.pad) key) (marks_known used.old)) }
+    ensures may_stop { OnErr result (known_refusal (marks_known used.old) (mark_of (keyed_fn K.prf K.pad) key) ≡ None) }
+    ensures keys { history.new.last.keys ≡ history.old.last.keys }
+{
+    match used {
+        UsedKeys::Marked(marks) => renew_unused(keyed, history, marks, key),
+        UsedKeys::Unmarked => history.renew(key),
+    }
+}
+
+/// The same where the key has to be another than those of these marks.
+fn renew_unused<K: Keyed>(
+    keyed: &K,
+    history: &mut NumberedHistory,
+    marks: &mut Vec<[u8; 16]>,
+    key: [u8; 32],
+) -> Result<Option<Refusal>, AllocError>
+    ensures found { IfOk result (λ found. found ≡ option_or (known_refusal (Some marks.old.items) (mark_of (keyed_fn K.prf K.pad) key)) (renew_refusal (epochs_in history.old) key)) }
+    ensures after { IfOk result (λ found. epochs_in history.new ≡ epochs_renewed found (epochs_in history.old) key) }
+    ensures known { IfOk result (λ found. Some marks.new.items ≡ known_after found (mark_of (keyed_fn K.prf K.pad) key) (Some marks.old.items)) }
+    ensures may_stop { OnErr result (known_refusal (Some marks.old.items) (mark_of (keyed_fn K.prf K.pad) key) ≡ None) }
+    ensures keys { history.new.last.keys ≡ history.old.last.keys }
+{
+    let mark = MasterKey::new(key).prepare(keyed).mark();
+    match epoch_of(marks.as_slice(), &mark) {
+        Some(epoch) => Ok(Some(Refusal::KeyUsed {
+            epoch: epoch as u64,
+        })),
+        None => renew_marked(history, marks, mark, key),
+    }
+}
+
+/// Renews the key, which has this mark, or tells why not.
+fn renew_marked(
+    history: &mut NumberedHistory,
+    marks: &mut Vec<[u8; 16]>,
+    mark: [u8; 16],
+    key: [u8; 32],
+) -> Result<Option<Refusal>, AllocError>
+    ensures found { IfOk result (λ found. found ≡ renew_refusal (epochs_in history.old) key) }
+    ensures after { IfOk result (λ found. epochs_in history.new ≡ epochs_renewed found (epochs_in history.old) key) }
+    ensures known { IfOk result (λ found. Some marks.new.items ≡ known_after found mark (Some marks.old.items)) }
+    ensures keys { history.new.last.keys ≡ history.old.last.keys }
+{
+    let found = history.renew(key)?;
+    if found.is_none() {
+        marks.push(mark)?;
+    }
+    Ok(found)
+}
+
+/// Takes a line that isn't a `rebuild` line.
+fn take_plain(
     alloc: Global,
     keys: HashKeys,
     stage: Stage,
     line: Line<'_>,
 ) -> Result<(Stage, Option<Refusal>), AllocError>
     requires words { words_in (line_view line) ≤ 2 ^ 19 }
-    ensures takes { IfOk result (λ done. (request : Request) → line_taken (line_view line.entry) ≡ Some (requests.Command request) → Takes stage request done.0 done.1) }
-    ensures may_stop { OnErr result (MayStop stage (line_view line.entry)) }
+    requires keeps { KeepsKey (line_view line) }
+    ensures takes { IfOk result (λ done. (request : Request) → line_read (line_view line.entry) ≡ requests.Command request → Takes stage request done.0 done.1) }
+    ensures may_stop { OnErr result (MayStopHere stage (line_view line.entry)) }
     ensures hashed { keys_at stage ≡ hash_numbers keys → IfOk result (λ done. keys_at done.0 ≡ hash_numbers keys) }
 {
     match stage {
@@ -59,8 +176,9 @@ fn before_setup(
     line: Line<'_>,
 ) -> Result<(Stage, Option<Refusal>), AllocError>
     requires words { words_in (line_view line) ≤ 2 ^ 19 }
-    ensures takes { IfOk result (λ done. (request : Request) → line_taken (line_view line.entry) ≡ Some (requests.Command request) → Takes (Stage.Collecting docs) request done.0 done.1) }
-    ensures may_stop { OnErr result (MayStop (Stage.Collecting docs) (line_view line.entry)) }
+    requires keeps { KeepsKey (line_view line) }
+    ensures takes { IfOk result (λ done. (request : Request) → line_read (line_view line.entry) ≡ requests.Command request → Takes (Stage.Collecting docs) request done.0 done.1) }
+    ensures may_stop { OnErr result (MayStopHere (Stage.Collecting docs) (line_view line.entry)) }
     ensures hashed { docs.keys ≡ hash_numbers keys → IfOk result (λ done. keys_at done.0 ≡ hash_numbers keys) }
 {
     match line {
@@ -83,9 +201,10 @@ fn after_setup(
     line: Line<'_>,
 ) -> Result<(Stage, Option<Refusal>), AllocError>
     requires words { words_in (line_view line) ≤ 2 ^ 19 }
-    ensures takes { IfOk result (λ done. (request : Request) → line_taken (line_view line.entry) ≡ Some (requests.Command request) → Takes (Stage.Built history) request done.0 done.1) }
-    ensures may_stop { OnErr result (MayStop (Stage.Built history) (line_view line.entry)) }
-    ensures hashed { IfOk result (λ done. keys_at done.0 ≡ history.keys) }
+    requires keeps { KeepsKey (line_view line) }
+    ensures takes { IfOk result (λ done. (request : Request) → line_read (line_view line.entry) ≡ requests.Command request → Takes (Stage.Built history) request done.0 done.1) }
+    ensures may_stop { OnErr result (MayStopHere (Stage.Built history) (line_view line.entry)) }
+    ensures hashed { IfOk result (λ done. keys_at done.0 ≡ history.last.keys) }
 {
     let found = command_of_line(alloc, &mut history, line)?;
     Ok((Stage::Built(history), found))
@@ -98,9 +217,10 @@ fn command_of_line(
     line: Line<'_>,
 ) -> Result<Option<Refusal>, AllocError>
     requires words { words_in (line_view line) ≤ 2 ^ 19 }
-    ensures takes { IfOk result (λ found. (request : Request) → line_taken (line_view line.entry) ≡ Some (requests.Command request) → TakesAfter (run_of history.old) request (run_of history.new) found) }
-    ensures may_stop { OnErr result (MayStop (Stage.Built history.old) (line_view line.entry)) }
-    ensures keys { history.new.keys ≡ history.old.keys }
+    requires keeps { KeepsKey (line_view line) }
+    ensures takes { IfOk result (λ found. (request : Request) → line_read (line_view line.entry) ≡ requests.Command request → TakesAfter (epochs_in history.old) request (epochs_in history.new) found) }
+    ensures may_stop { OnErr result (MayStopHere (Stage.Built history.old) (line_view line.entry)) }
+    ensures keys { history.new.last.keys ≡ history.old.last.keys }
 {
     match line {
         Line::Empty | Line::Key(_) | Line::Rebuild(_) => Ok(None),
@@ -160,10 +280,10 @@ fn add(
     fields: Fields<'_>,
 ) -> Result<Option<Refusal>, AllocError>
     requires { length fields ≤ 2 ^ 19 }
-    ensures found { IfOk result (λ found. found ≡ read_add_refusal (run_of history.old) (document id fields.entry)) }
-    ensures after { IfOk result (λ found. run_of history.new ≡ run_after found (run_of history.old) (Add (document id fields.entry))) }
+    ensures found { IfOk result (λ found. found ≡ read_add_refusal (epochs_in history.old) (document id fields.entry)) }
+    ensures after { IfOk result (λ found. epochs_in history.new ≡ epochs_after found (epochs_in history.old) (Add (document id fields.entry))) }
     ensures may_stop { OnErr result (id ≢ 0) }
-    ensures keys { history.new.keys ≡ history.old.keys }
+    ensures keys { history.new.last.keys ≡ history.old.last.keys }
 {
     match document_of(alloc, id, fields) {
         Ok(doc) => history.push(Command::Add(doc)),
@@ -173,10 +293,10 @@ fn add(
 
 /// Takes the deletion of a `del` line.
 fn delete(history: &mut NumberedHistory, id: u64) -> Result<Option<Refusal>, AllocError>
-    ensures found { IfOk result (λ found. found ≡ read_delete_refusal (run_of history.old) id) }
-    ensures after { IfOk result (λ found. run_of history.new ≡ run_after found (run_of history.old) (Delete id)) }
-    ensures may_stop { OnErr result (delete_refusal (Some (epochs_of history.old)) id ≡ None) }
-    ensures keys { history.new.keys ≡ history.old.keys }
+    ensures found { IfOk result (λ found. found ≡ read_delete_refusal (epochs_in history.old) id) }
+    ensures after { IfOk result (λ found. epochs_in history.new ≡ epochs_after found (epochs_in history.old) (Delete id)) }
+    ensures may_stop { OnErr result (delete_refusal (Some (epochs_in history.old)) id ≡ None) }
+    ensures keys { history.new.last.keys ≡ history.old.last.keys }
 {
     match DocId::new(id) {
         Ok(id) => history.push(Command::Delete(id)),
@@ -186,10 +306,10 @@ fn delete(history: &mut NumberedHistory, id: u64) -> Result<Option<Refusal>, All
 
 /// Takes the search of a `find` line.
 fn find(history: &mut NumberedHistory, field: &[u8]) -> Result<Option<Refusal>, AllocError>
-    ensures found { IfOk result (λ found. found ≡ read_find_refusal (run_of history.old) field.now) }
-    ensures after { IfOk result (λ found. run_of history.new ≡ run_after found (run_of history.old) (Search field.now)) }
+    ensures found { IfOk result (λ found. found ≡ read_find_refusal (epochs_in history.old) field.now) }
+    ensures after { IfOk result (λ found. epochs_in history.new ≡ epochs_after found (epochs_in history.old) (Search field.now)) }
     ensures may_stop { OnErr result (bad_word 0 (field.now ∷ []) ≡ None) }
-    ensures keys { history.new.keys ≡ history.old.keys }
+    ensures keys { history.new.last.keys ≡ history.old.last.keys }
 {
     match word_of(field, 0) {
         Ok(word) => history.push(Command::Search(word)),
@@ -203,9 +323,9 @@ fn query(
     history: &mut NumberedHistory,
     fields: Fields<'_>,
 ) -> Result<Option<Refusal>, AllocError>
-    ensures found { IfOk result (λ found. found ≡ read_query_refusal (run_of history.old) fields.entry) }
-    ensures after { IfOk result (λ found. run_of history.new ≡ run_after_all found (run_of history.old) (map (λ word. Search word) (words_of fields.entry))) }
-    ensures keys { history.new.keys ≡ history.old.keys }
+    ensures found { IfOk result (λ found. found ≡ read_query_refusal (epochs_in history.old) fields.entry) }
+    ensures after { IfOk result (λ found. epochs_in history.new ≡ epochs_after_all found (epochs_in history.old) (map (λ word. Search word) (words_of fields.entry))) }
+    ensures keys { history.new.last.keys ≡ history.old.last.keys }
 {
     match Query::read(alloc, fields) {
         Ok(query) => history.push_searches(query.words()),

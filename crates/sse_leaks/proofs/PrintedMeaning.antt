@@ -9,7 +9,9 @@ use Rattle.script_history.specs.Meant.{IsCalm, end_of, is_refused_line}
 use Rattle.script_history.specs.Reads.{IsCountable, ReadEnd, Whole}
 use Rattle.script_history.specs.Reads.{Stopped as NotRead}
 use Rattle.def_script_meaning.specs.Lines.{script_lines}
-use Rattle.script_history.specs.LinesHere.{meaning_here}
+use Rattle.def_script_meaning.specs.Meaning.{meaning}
+use Rattle.keyed_fn.specs.KeyFormulas.{mark_of}
+use Rattle.keyed_fn.specs.KeyedFn.{KeyedFn}
 use Rattle.def_script_meaning.specs.Outcome.{said}
 use Rattle.def_script_meaning.specs.Stops.{Stop, AtEnd, SinkFault, At}
 use Rattle.sse_script.specs.Shown.{Cause, SourceFault, NoMemory}
@@ -58,11 +60,11 @@ module _ (stop : Stop) (sink : stop ≢ SinkFault) (source : stop ≢ At SourceF
   follows None None next (At cause) between before goes = (goes.1, goes.0 ∙ known-nil between)
 
   -- Promise P164, also here
-  pub told-meaning : (mark : Option (List ℕ → List ℕ)) (bytes : List ℕ) (now before : Option (List ℕ)) → IsPrintedSo bytes now before stop → IsCountable (meaning_here mark bytes).history → IsPrintedAs (meaning_here mark bytes) (length (script_lines bytes) + 1) now before stop
-  told-meaning mark bytes now before told countable =
-      let m = meaning_here mark bytes in
+  pub told-meaning : (f : KeyedFn) (bytes : List ℕ) (now before : Option (List ℕ)) → IsPrintedSo f bytes now before stop → IsCountable (meaning (Some (mark_of f)) bytes).history → IsPrintedAs (meaning (Some (mark_of f)) bytes) (length (script_lines bytes) + 1) now before stop
+  told-meaning f bytes now before told countable =
+      let m = meaning (Some (mark_of f)) bytes in
       let next = length (script_lines bytes) + 1 in
-      let read = reads-meaning mark bytes now told.between told.end (told.reads mark) (calm told.end told.between before told.goes_on) countable in
+      let read = reads-meaning (Some (mark_of f)) bytes now told.between told.end told.reads (calm told.end told.between before told.goes_on) countable in
       let rest = follows m.key m.history next m.end told.between before (subst (λ end. GoesOn end told.between before stop) read.ends told.goes_on) in
       record {
         stop_is = rest.0;

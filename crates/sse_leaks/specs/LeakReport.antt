@@ -4,7 +4,9 @@ use Rattle.std.specs.Io.KnownBytes.{append_known}
 use Rattle.std.specs.List.{enumerate_from}
 use Rattle.client_registry.specs.Run.{History, Epochs}
 use Rattle.script_history.specs.Endings.{EndsIn, Seen, StopsTelling, stop_for}
-use Rattle.script_history.specs.LinesHere.{script_lines_here}
+use Rattle.def_script_meaning.specs.Lines.{script_lines}
+use Rattle.keyed_fn.specs.KeyFormulas.{mark_of}
+use Rattle.keyed_fn.specs.KeyedFn.{KeyedFn}
 use Rattle.script_history.specs.Meant.{is_refused_line}
 use Rattle.script_history.specs.Reads.{ReadEnd, Whole, ReadsFirst}
 use Rattle.script_history.specs.Reads.{Stopped as NotRead}
@@ -33,18 +35,18 @@ GoesOn (Whole key (Some es) refused next) now last stop =
 GoesOn (Whole key None refused next) now last stop = (last ≡ now) × (stop ≡ At (BadLine next))
 GoesOn (NotRead cause) now last stop = (last ≡ now) × (stop ≡ stop_for cause)
 
--- a script of these bytes was read, whatever marks keys have, and what its history leaks told, up to the last line of a stop
-pub record IsPrintedSo (bytes : List ℕ) (now last : Option (List ℕ)) (stop : Stop) : Type 0 where
+-- a script of these bytes was read, and what its history leaks told, up to the last line of a stop
+pub record IsPrintedSo (f : KeyedFn) (bytes : List ℕ) (now last : Option (List ℕ)) (stop : Stop) : Type 0 where
   pub end : ReadEnd
   pub between : Option (List ℕ)
-  pub reads : (mark : Option (List ℕ → List ℕ)) → ReadsFirst mark 1 (script_lines_here bytes) now between end
+  pub reads : ReadsFirst (Some (mark_of f)) 1 (script_lines bytes) now between end
   pub goes_on : GoesOn end between last stop
 
 -- a script of these bytes was read, what its history leaks was told, and this is the status
-pub record HasPrintedLeaks (bytes : List ℕ) (now last : Seen) (status : ℕ) : Type 0 where
+pub record HasPrintedLeaks (f : KeyedFn) (bytes : List ℕ) (now last : Seen) (status : ℕ) : Type 0 where
   pub before : Option (List ℕ)
   pub stop : Stop
-  pub told : IsPrintedSo bytes now.written before stop
+  pub told : IsPrintedSo f bytes now.written before stop
   pub ends : EndsIn stop before now last
   pub status_is : status ≡ status_of stop
 

@@ -1,8 +1,9 @@
-ghost use Rattle.std.specs.Prelude.{◌≡◌, ◌≢◌, ◌≤◌, ◌<◌, ◌+◌, ◌++◌, ◌^◌, None, Ok, IfErr, IfOk, IfSome, OnOk, length, map, string_bytes};
+ghost use Rattle.std.specs.Prelude.{◌≡◌, ◌≢◌, ◌≤◌, ◌<◌, ◌+◌, ◌++◌, ◌^◌, Ok, Some, IfErr, IfOk, IfSome, OnOk, length, map, string_bytes};
 ghost use Rattle.std.specs.Io.KnownBytes.{append_known, IsAtEnd};
-ghost use Rattle.client_registry.specs.Acceptance.{size_refusal};
-ghost use Rattle.client_registry.specs.Sized.{IsSized};
-ghost use Rattle.leakage_history.specs.HashedRun.{epochs_of, run_of};
+ghost use Rattle.client_registry.specs.Epochs.{next_begins};
+ghost use Rattle.keyed_fn.specs.KeyedFn.{keyed_fn};
+ghost use Rattle.leakage_history.specs.HashedEpochs.{epochs_in};
+ghost use Rattle.script_history.specs.Reads.{IsCountable};
 ghost use Rattle.script_history.specs.Endings.{StopsTelling, ending, seen_of, stop_for};
 ghost use Rattle.script_history.specs.Turns.{reading_end};
 ghost use Rattle.leakage_texts.specs.LeakTexts.{text_of_leak};
@@ -14,8 +15,8 @@ ghost use Rattle.sse_outside.specs.Causes.{Rose};
 
 use keyed_fn::Keyed;
 use leakage_frames::Leak;
-use leakage_history::History;
-use leakage_model::leak;
+use leakage_history::Epochs;
+use leakage_model::leak_epochs;
 use leakage_texts::leak_line;
 use script_history::{ReadScript, read_history};
 use script_run_texts::{Input, InputStop, StopCause, finish};
@@ -24,13 +25,12 @@ use std::alloc::{AllocError, Global};
 
 // Promise P28 (user): `sse_leaks` prints a script's refusals and then the leakage of each command of its history.
 //   clauses: tells, at_end, source_failed, source_steady, sink_failed, sink_steady; assumes: observable devices, no device fault, enough memory; checks: .ci/leakage; not: Standard input
-//     and output, which aren't observable. If the run stops, only a prefix of the lines is printed. A script is read up to its
-//     first `rebuild` line, at which it stops as at a bad line.
-/// Reads a script, prints its refusals as a run prints them, then for each command of its history a line of what it leaks, and
-/// answers the status: 0, or 1 where a command was refused. The keyed function only hashes words and identifiers.
+//     and output, which aren't observable. If the run stops, only a prefix of the lines is printed.
+/// Reads a script, prints its refusals as a run prints them, then for each command of its history, renewals of the key included, a
+/// line of what it leaks, and answers the status: 0, or 1 where a command was refused. The keyed function only hashes words and
+/// identifiers, and marks keys.
 ///
-/// A stop prints its last line: `stopped: line N` and 2 at the first bad line or `rebuild` line, and behind the last line where no
-/// setup was accepted; `stopped: source` and 3, nothing and 4 where the sink failed, `stopped: memory` and 7.
+/// A stop prints its last line: `stopped: line N` and 2 at the first bad line, and behind the last line where no setup was accepted; `stopped: source` and 3, nothing and 4 where the sink failed, `stopped: memory` and 7.
 pub(crate) fn leaks_run<K: Keyed, S: Source, W: Sink>(
     alloc: Global,
     keyed: &K,
@@ -38,7 +38,7 @@ pub(crate) fn leaks_run<K: Keyed, S: Source, W: Sink>(
     sink: &mut W,
 ) -> u8
     ensures tells { IfSome (S.remaining source.old) (λ bytes.
-        HasPrintedLeaks bytes (seen_of (W.written sink.old) (W.faults sink.old) (W.shortages sink.old)) (seen_of (W.written sink.new) (W.faults sink.new) (W.shortages sink.new)) result) }
+        HasPrintedLeaks (keyed_fn K.prf K.pad) bytes (seen_of (W.written sink.old) (W.faults sink.old) (W.shortages sink.old)) (seen_of (W.written sink.new) (W.faults sink.new) (W.shortages sink.new)) result) }
     ensures at_end { result ≤ 1 → IsAtEnd (S.remaining source.new) }
     ensures source_failed { result ≡ 3 → Rose (S.faults source.old) (S.faults source.new) }
     ensures source_steady { result ≢ 3 → S.faults source.new ≡ S.faults source.old }
@@ -59,7 +59,7 @@ fn tell_script<K: Keyed, S: Source, W: Sink>(
     source: &mut S,
     sink: &mut W,
 ) -> Result<bool, StopCause>
-    ensures tells { IfSome (S.remaining source.old) (λ bytes. IsPrintedSo bytes (W.written sink.old) (W.written sink.new) (ending result)) }
+    ensures tells { IfSome (S.remaining source.old) (λ bytes. IsPrintedSo (keyed_fn K.prf K.pad) bytes (W.written sink.old) (W.written sink.new) (ending result)) }
     ensures at_end { OnOk result (IsAtEnd (S.remaining source.new)) }
     ensures source { KeepsSource SourceCause (S.faults source.old) (S.faults source.new) result }
     ensures sink { KeepsSink (W.faults sink.old) (W.faults sink.new) (W.shortages sink.old) (W.shortages sink.new) result }
@@ -73,7 +73,7 @@ fn tell_script<K: Keyed, S: Source, W: Sink>(
 
 /// Tells what the history of a script that was read leaks.
 fn tell_read<W: Sink>(alloc: Global, sink: &mut W, read: ReadScript) -> Result<bool, StopCause>
-    requires sized { IfSome read.history (λ h. IsSized (run_of h)) }
+    requires counted { IfSome read.history (λ h. IsCountable (Some (epochs_in h))) }
     ensures goes_on { GoesOn (reading_end (Ok read)) (W.written sink.old) (W.written sink.new) (ending result) }
     ensures sink { KeepsSink (W.faults sink.old) (W.faults sink.new) (W.shortages sink.old) (W.shortages sink.new) result }
 {
@@ -84,7 +84,7 @@ fn tell_read<W: Sink>(alloc: Global, sink: &mut W, read: ReadScript) -> Result<b
         ..
     } = read;
     match history {
-        Some(history) => match print_leaks(alloc, sink, &history) {
+        Some(epochs) => match print_leaks(alloc, sink, &epochs) {
             Ok(()) => Ok(refused),
             Err(stop) => Err(stop),
         },
@@ -93,25 +93,23 @@ fn tell_read<W: Sink>(alloc: Global, sink: &mut W, read: ReadScript) -> Result<b
 }
 
 /// Prints a line of what each command of a history leaks.
-fn print_leaks<W: Sink>(alloc: Global, sink: &mut W, history: &History) -> Result<(), StopCause>
-    requires setup { size_refusal history.now.setup ≡ None }
-    requires numbered { length history.now.later + 1 < 2 ^ 32 }
-    ensures all { OnOk result (W.written sink.new ≡ append_known (W.written sink.old) (history_lines (epochs_of history.now))) }
-    ensures stops { IfErr result (λ stop. StopsTelling (history_lines (epochs_of history.now)) (W.written sink.old) (W.written sink.new) (stop_for (stop_cause stop))) }
+fn print_leaks<W: Sink>(alloc: Global, sink: &mut W, epochs: &Epochs) -> Result<(), StopCause>
+    requires { (next_begins (epochs_in epochs.now)).command < 2 ^ 32 }
+    ensures all { OnOk result (W.written sink.new ≡ append_known (W.written sink.old) (history_lines (epochs_in epochs.now))) }
+    ensures stops { IfErr result (λ stop. StopsTelling (history_lines (epochs_in epochs.now)) (W.written sink.old) (W.written sink.new) (stop_for (stop_cause stop))) }
     ensures sink { KeepsSink (W.faults sink.old) (W.faults sink.new) (W.shortages sink.old) (W.shortages sink.new) result }
 {
-    let text = leaks_text(alloc, history)?;
+    let text = leaks_text(alloc, epochs)?;
     print_all(sink, text.as_bytes())?;
     Ok(())
 }
 
 /// The lines of what each command of a history leaks.
-fn leaks_text(alloc: Global, history: &History) -> Result<String, AllocError>
-    requires setup { size_refusal history.now.setup ≡ None }
-    requires numbered { length history.now.later + 1 < 2 ^ 32 }
-    ensures { IfOk result (λ text. string_bytes text ≡ history_lines (epochs_of history.now)) }
+fn leaks_text(alloc: Global, epochs: &Epochs) -> Result<String, AllocError>
+    requires { (next_begins (epochs_in epochs.now)).command < 2 ^ 32 }
+    ensures { IfOk result (λ text. string_bytes text ≡ history_lines (epochs_in epochs.now)) }
 {
-    let leaks = leak(alloc, history)?;
+    let leaks = leak_epochs(alloc, epochs)?;
     lines_of(alloc, leaks.as_slice())
 }
 

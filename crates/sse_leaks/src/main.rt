@@ -1,8 +1,8 @@
 //! Prints what a server would learn of a script: first the lines of refused commands, then one line for each command
 //! of its history. It depends on `script_history` for the history, on `leakage_model` for what it leaks and on
-//! `leakage_texts` for the lines; nothing is encrypted or sent. It stops at a `rebuild` line, as at a line that isn't in
-//! the grammar. It takes no words, and ends with `stopped: words` and 2 if it is given any, with `stopped: memory` and
-//! 7 without memory to read them. `main` only reads the command line and names the devices.
+//! `leakage_texts` for the lines; nothing is encrypted or sent. It takes no words, and ends with `stopped: words` and 2 if
+//! it is given any, with `stopped: memory` and 7 without memory to read them. `main` only reads the command line and
+//! names the devices.
 //! Proved: `leaks_run`, over any source and sink: a reading of the script, then the lines of what its history leaks,
 //! or why it stopped, and the status.
 //! Tested: tests/scripts and 200 histories, against a plain model.

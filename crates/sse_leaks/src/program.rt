@@ -1,4 +1,5 @@
 ghost use Rattle.std.specs.Prelude.{◌≡◌, IfSome};
+ghost use Rattle.keyed_fn.specs.KeyedFn.{keyed_fn};
 ghost use Rattle.script_history.specs.Endings.{seen_of};
 ghost use Rattle.sse_leaks.specs.Given.{HadNoMemory, HasWords, IsAlone};
 ghost use Rattle.sse_leaks.specs.LeakReport.{HasPrintedLeaks};
@@ -7,7 +8,7 @@ ghost use Rattle.sse_script.specs.Shown.{Stopped, BadWords, NoMemory};
 ghost use Rattle.sse_script.specs.Texts.{text_of};
 
 use crate::leak_report::leaks_run;
-use keyed_fn::Real;
+use keyed_fn::{Keyed, Real};
 use script_run_texts::{StopCause, finish};
 use sse_outside::{Sink, Source};
 use std::alloc::Global;
@@ -33,7 +34,7 @@ pub(crate) fn run_program<S: Source, W: Sink>(
     sink: &mut W,
 ) -> u8
     ensures tells { IsAlone given → IfSome (S.remaining source.old) (λ bytes.
-        HasPrintedLeaks bytes (seen_of (W.written sink.old) (W.faults sink.old) (W.shortages sink.old)) (seen_of (W.written sink.new) (W.faults sink.new) (W.shortages sink.new)) result) }
+        HasPrintedLeaks (keyed_fn ⟦<Real as Keyed>⟧.prf ⟦<Real as Keyed>⟧.pad) bytes (seen_of (W.written sink.old) (W.faults sink.old) (W.shortages sink.old)) (seen_of (W.written sink.new) (W.faults sink.new) (W.shortages sink.new)) result) }
     ensures other_words { HasWords given → result ≡ 2 }
     ensures other_words_line { HasWords given →
         TookOrRose (W.written sink.old) (W.written sink.new) (text_of (Stopped BadWords)) (W.faults sink.old) (W.faults sink.new) (W.shortages sink.old) (W.shortages sink.new) }

@@ -1,47 +1,27 @@
 -- Two scripts, each part of what is done with them.
 use Rattle.std.proofs.Common.{◌≡◌, ◌≤◌, inr, ℕ, ◌+◌, Bool, true, false, List, [], Option, None, Some, refl, sym, ap, subst, ◌∙◌, arith}
-use Rattle.std.specs.Prelude.{IfErr, IfOk, IfSome, IsErrAnd, Result, Ok, Err}
-use Rattle.client_registry.specs.Run.{Run, Epochs, at_first}
-use Rattle.client_registry.specs.Sized.{run_words}
-use Rattle.leakage_draws.specs.SheetOf.{IsSheetOf}
+use Rattle.std.specs.Prelude.{IfErr, IfSome, IsErrAnd, Result, Ok, Err}
+use Rattle.client_registry.specs.Run.{Epochs}
 use Rattle.script_history.proofs.ReadingGoesOn.{elsewhere-steady, first-reading}
 use Rattle.script_history.specs.Endings.{ending, stop_for}
 use Rattle.script_history.specs.Reads.{ReadEnd, ReadsFirstFrom}
 use Rattle.script_history.specs.Reads.{Stopped as NotRead}
 use Rattle.script_history.specs.Turns.{IsElsewhere}
 use Rattle.script_history.specs.TwoScripts.{EndsPart, behind_twin, first_left}
+use Rattle.keyed_fn.specs.KeyFormulas.{mark_of}
 use Rattle.keyed_fn.specs.KeyedFn.{KeyedFn}
-use Rattle.leakage_names.specs.Sheets.{Values}
 use Rattle.script_run_texts.specs.Causes.{KeepsSink, KeepsSource, SourceCause}
 use Rattle.script_run_texts.specs.Stops.{stop_cause}
 use Rattle.script_run_texts.specs.declared.stop_cause.StopCause.{StopCause}
 use Rattle.def_script_meaning.specs.Stops.{Stop, At}
-use Rattle.def_comparison.specs.Sums.{sums}
-use Rattle.def_comparison.specs.UsedNames as used
-use Rattle.def_leakage.specs.CommandLeaks.{leak}
-use Rattle.def_leakage.specs.Relabelled.{relabelled}
-use Rattle.sse_model.specs.Names.{Table}
-use Rattle.def_relabelling.specs.Comparison.{IsComparison, LeakTheSame}
 use Rattle.sse_script.specs.Shown.{Cause, NoMemory}
 use Rattle.sse_script.specs.TextLines.{lines_left, lines_of}
 use Rattle.sse_local.specs.Compared.{AreBehind, AreComparedSo, GoesOnBehind, GoesOnFirst, ReadsBehind}
-use Rattle.sse_local.specs.ComparisonViews.{compared_view}
-use Rattle.sse_local.specs.declared.comparison.Compared.{Compared}
-
--- Comparing.
-
--- where two histories leak the same
-pub compared-same : {E : Type 0} (t : Table) (run other : Run) (moved : Values) (r : Result Compared E) → leak at_first run ≡ leak at_first other
-    → IsSheetOf moved (run_words other) (used.names at_first other) (relabelled at_first run other t)
-    → IfOk r (λ c. (u : Table) → IsSheetOf moved (run_words other) (used.names at_first other) u → compared_view c ≡ LeakTheSame (sums u at_first other))
-    → IfOk r (λ c. IsComparison t at_first run other (compared_view c))
-compared-same t run other moved (Ok c) same values counts = subst (IsComparison t at_first run other) (sym (counts (relabelled at_first run other t) values)) (same, refl)
-compared-same t run other moved (Err e) same values counts = tt
 
 -- The second script.
 
 pub reads-behind : (f : KeyedFn) (key : List ℕ) (es : Epochs) (refused : Bool) (number : ℕ) (left : Option (List (List ℕ))) (now between last : Option (List ℕ)) (end : ReadEnd) (stop : Stop)
-    → ((mark : Option (List ℕ → List ℕ)) → ReadsFirstFrom mark (number + 1) left now between end) → GoesOnBehind f key es refused end between last stop → IfSome left (λ lines. ReadsBehind f key es refused number lines now last stop)
+    → ReadsFirstFrom None (number + 1) left now between end → GoesOnBehind f key es refused end between last stop → IfSome left (λ lines. ReadsBehind f key es refused number lines now last stop)
 reads-behind f key es refused number None now between last end stop reads goes = tt
 reads-behind f key es refused number (Some lines) now between last end stop reads goes = record { end = end; between = between; reads = reads; goes_on = goes }
 
@@ -82,13 +62,16 @@ left-first number pending bytes remaining none is = ap (λ p. lines_left p remai
 
 -- all of it
 pub compared-so : (f : KeyedFn) (remaining : Option (List ℕ)) (number : ℕ) (pending : List ℕ) (now between last : Option (List ℕ)) (end : ReadEnd) (stop : Stop) → number ≡ 0 → pending ≡ []
-    → ((mark : Option (List ℕ → List ℕ)) → ReadsFirstFrom mark (number + 1) (first_left (lines_left pending remaining)) now between end) → ((bytes : List ℕ) → remaining ≡ Some bytes → GoesOnFirst f (behind_twin (lines_of bytes)) end between last stop)
+    → ReadsFirstFrom (Some (mark_of f)) (number + 1) (first_left (lines_left pending remaining)) now between end → ((bytes : List ℕ) → remaining ≡ Some bytes → GoesOnFirst f (behind_twin (lines_of bytes)) end between last stop)
     → IfSome remaining (λ bytes. AreComparedSo f (lines_of bytes) now last stop)
 compared-so f None number pending now between last end stop first none reads goes = tt
 compared-so f (Some bytes) number pending now between last end stop first none reads goes = record {
   end = end;
   between = between;
-  reads = λ mark. subst (λ n. ReadsFirstFrom mark (n + 1) (first_left (lines_left [] (Some bytes))) now between end) first (subst (λ p. ReadsFirstFrom mark (number + 1) (first_left (lines_left p (Some bytes))) now between end) none (reads mark));
+  reads =
+      let mark = Some (mark_of f) in
+      subst (λ n. ReadsFirstFrom mark (n + 1) (first_left (lines_left [] (Some bytes))) now between end) first
+      (subst (λ p. ReadsFirstFrom mark (number + 1) (first_left (lines_left p (Some bytes))) now between end) none reads);
   goes_on = goes bytes refl;
 }
 
@@ -98,7 +81,7 @@ none-compared f None now = tt
 none-compared f (Some bytes) now = record {
   end = NotRead (Some NoMemory);
   between = now;
-  reads = λ mark. first-reading mark 1 now (first_left (lines_left [] (Some bytes))) (NotRead (Some NoMemory)) (inr refl);
+  reads = first-reading (Some (mark_of f)) 1 now (first_left (lines_left [] (Some bytes))) (NotRead (Some NoMemory)) (inr refl);
   goes_on = stopped-first f (behind_twin (lines_of bytes)) (Some NoMemory) now;
 }
 

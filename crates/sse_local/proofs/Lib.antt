@@ -1,4 +1,6 @@
 mod Asked
 mod Compared
+mod ComparedSame
+mod ComparedStatus
 mod Does
 mod Summed

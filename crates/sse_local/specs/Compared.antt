@@ -4,11 +4,12 @@ use Rattle.std.specs.Io.KnownBytes.{append_known}
 use Rattle.std.specs.List.{concat}
 use Rattle.client_registry.specs.Run.{Epochs}
 use Rattle.script_history.specs.Endings.{EndsIn, Seen, StopsTelling, stop_for}
-use Rattle.script_history.specs.LinesHere.{lines_here}
 use Rattle.script_history.specs.Reads.{ReadEnd, Whole, ReadsFirst}
 use Rattle.script_history.specs.Reads.{Stopped as NotRead}
 use Rattle.script_history.specs.TwoScripts.{before_twin, behind_twin}
+use Rattle.keyed_fn.specs.KeyFormulas.{mark_of}
 use Rattle.keyed_fn.specs.KeyedFn.{KeyedFn}
+use Rattle.def_script_meaning.specs.Lines.{lines_in}
 use Rattle.def_script_meaning.specs.Stops.{Stop, AtEnd, At, status_of}
 use Rattle.def_relabelling.specs.Comparison.{Comparison, LeakTheSame, LeaksDiffer, IsComparisonIn}
 use Rattle.sse_script.specs.Shown.{BadLine, NoMemory}
@@ -44,11 +45,12 @@ GoesOnBehind f key es refused (Whole own (Some other) also next) now last stop =
 GoesOnBehind f key es refused (Whole own None also next) now last stop = (last ≡ now) × (stop ≡ At (BadLine next))
 GoesOnBehind f key es refused (NotRead cause) now last stop = (last ≡ now) × (stop ≡ stop_for cause)
 
--- the second script is read, whatever marks keys have, whose lines are these, behind the line `twin` of this number
+-- the second script is read, whose lines are these, behind the line `twin` of this number; its keys give no value, so none is refused for
+-- being used before
 pub record ReadsBehind (f : KeyedFn) (key : List ℕ) (es : Epochs) (refused : Bool) (twin : ℕ) (behind : List (List ℕ)) (now last : Option (List ℕ)) (stop : Stop) : Type 0 where
   pub end : ReadEnd
   pub between : Option (List ℕ)
-  pub reads : (mark : Option (List ℕ → List ℕ)) → ReadsFirst mark (twin + 1) (lines_here behind) now between end
+  pub reads : ReadsFirst None (twin + 1) (lines_in behind) now between end
   pub goes_on : GoesOnBehind f key es refused end between last stop
 
 -- how it goes on after the first script's reading that ended so: with the lines behind a line `twin`; where there is none, or no
@@ -66,11 +68,11 @@ AreBehind true None left = ⊥
 AreBehind false (Some lines) left = ⊥
 AreBehind false None left = Unit {0}
 
--- two scripts of these lines were read, whatever marks keys have, and compared, up to the last line of a stop
+-- two scripts of these lines were read, the first one's keys by their marks, and compared, up to the last line of a stop
 pub record AreComparedSo (f : KeyedFn) (lines : List (List ℕ)) (now last : Option (List ℕ)) (stop : Stop) : Type 0 where
   pub end : ReadEnd
   pub between : Option (List ℕ)
-  pub reads : (mark : Option (List ℕ → List ℕ)) → ReadsFirst mark 1 (lines_here (before_twin lines)) now between end
+  pub reads : ReadsFirst (Some (mark_of f)) 1 (lines_in (before_twin lines)) now between end
   pub goes_on : GoesOnFirst f (behind_twin lines) end between last stop
 
 -- two scripts of these bytes were read and compared, and this is the status

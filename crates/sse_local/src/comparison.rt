@@ -1,24 +1,19 @@
-ghost use Rattle.std.specs.Prelude.{◌≡◌, ◌+◌, ◌<◌, ◌^◌, IfOk, None, length, string_bytes};
-ghost use Rattle.client_registry.specs.Acceptance.{size_refusal};
-ghost use Rattle.client_registry.specs.Run.{at_first};
-ghost use Rattle.client_registry.specs.Sized.{run_words};
-ghost use Rattle.leakage_history.specs.HashedRun.{run_of};
-ghost use Rattle.leakage_draws.specs.SheetOf.{IsSheetOf};
+ghost use Rattle.std.specs.Prelude.{◌≡◌, ◌<◌, ◌^◌, IfOk, string_bytes};
+ghost use Rattle.client_registry.specs.Epochs.{next_begins};
+ghost use Rattle.leakage_history.specs.HashedEpochs.{epochs_in};
+ghost use Rattle.leakage_values.specs.SheetOf.{AreSheetsIn};
 ghost use Rattle.keyed_fn.specs.KeyedFn.{keyed_fn};
-ghost use Rattle.def_comparison.specs.Sums.{sums};
-ghost use Rattle.def_comparison.specs.UsedNames as used;
 ghost use Rattle.sse_local.specs.Compared as says;
 ghost use Rattle.sse_local.specs.Compared.{text_of_comparison};
 ghost use Rattle.sse_local.specs.ComparisonViews.{compared_view, sums_view};
-ghost use Rattle.sse_model.specs.Histories.{table_of};
 ghost use Rattle.sse_model.specs.Names.{Table};
-ghost use Rattle.def_relabelling.specs.Comparison.{IsComparison, LeakTheSame, LeaksDiffer};
+ghost use Rattle.def_relabelling.specs.Comparison.{IsComparisonIn, LeakTheSame, LeaksDiffer, sums_in};
 
 use keyed_fn::Keyed;
-use leakage_draws::{Counted, MoveFault, count, move_table};
-use leakage_history::History;
+use leakage_draws::{Counted, MoveFault, count, move_tables};
+use leakage_history::Epochs;
 use leakage_names::Sheet;
-use leakage_sheets::sheet_of;
+use leakage_sheets::sheets_of;
 use std::alloc::{AllocError, Global};
 use word_keys::MasterKey;
 
@@ -69,33 +64,31 @@ fn differ_line(alloc: Global, command: u32) -> Result<String, AllocError>
     format!(in alloc; "refused: leaks differ at command {command}\n")
 }
 
-/// Compares what two histories leak, under the first one's key, whose values are moved for the second where they leak the same.
+/// Compares what two histories leak, under the first one's keys, whose values are moved for the second where they leak the same. The
+/// first epoch has this key.
 pub(crate) fn compare<K: Keyed>(
     alloc: Global,
     keyed: &K,
     key: &MasterKey,
-    history: &History,
-    other: &History,
+    epochs: &Epochs,
+    other: &Epochs,
 ) -> Result<Compared, AllocError>
-    requires accepted { size_refusal history.now.setup ≡ None }
-    requires accepted_too { size_refusal other.now.setup ≡ None }
-    requires numbered { length history.now.later + 1 < 2 ^ 32 }
-    requires numbered_too { length other.now.later + 1 < 2 ^ 32 }
-    ensures { IfOk result (λ compared. IsComparison (table_of (keyed_fn K.prf K.pad) (λ epoch. key.now) (run_of history.now)) at_first (run_of history.now) (run_of other.now) (compared_view compared)) }
+    requires numbered { (next_begins (epochs_in epochs.now)).command < 2 ^ 32 }
+    requires numbered_too { (next_begins (epochs_in other.now)).command < 2 ^ 32 }
+    ensures { IfOk result (λ compared. IsComparisonIn (keyed_fn K.prf K.pad) key.now (epochs_in epochs.now) (epochs_in other.now) (compared_view compared)) }
 {
-    let sheet = sheet_of(alloc, keyed, key, history)?;
-    match move_table(alloc, history, other, &sheet) {
-        Ok(moved) => count_moved(alloc, other, &moved),
+    let sheets = sheets_of(alloc, keyed, key, epochs)?;
+    match move_tables(alloc, epochs, other, sheets.as_slice()) {
+        Ok(moved) => count_moved(alloc, other, moved.as_slice()),
         Err(MoveFault::LeaksDiffer(command)) => Ok(Compared::Differ(command)),
         Err(MoveFault::NoMemory) => Err(AllocError),
     }
 }
 
-/// What is counted of a history under a moved table.
-fn count_moved(alloc: Global, other: &History, moved: &Sheet) -> Result<Compared, AllocError>
-    requires accepted { size_refusal other.now.setup ≡ None }
-    requires numbered { length other.now.later + 1 < 2 ^ 32 }
-    ensures { IfOk result (λ compared. (t : Table) → IsSheetOf moved.now (run_words (run_of other.now)) (used.names at_first (run_of other.now)) t → compared_view compared ≡ LeakTheSame (sums t at_first (run_of other.now))) }
+/// What is counted of a history under moved tables.
+fn count_moved(alloc: Global, other: &Epochs, moved: &[Sheet]) -> Result<Compared, AllocError>
+    requires { (next_begins (epochs_in other.now)).command < 2 ^ 32 }
+    ensures { IfOk result (λ compared. (t : Table) → AreSheetsIn moved.now (epochs_in other.now) t → compared_view compared ≡ LeakTheSame (sums_in t (epochs_in other.now))) }
 {
     match count(alloc, other, moved) {
         Ok(counted) => Ok(Compared::Same(counted)),

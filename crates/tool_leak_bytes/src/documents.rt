@@ -1,8 +1,9 @@
 ghost use Rattle.std.specs.Prelude.{◌<◌, length};
 
 use crate::digits::{push_marked, push_number};
+use client_live_docs::{copy_doc, copy_docs};
 use client_registry::{Doc, Docs, HashKeys, Word};
-use leakage_history::{Command, copy_doc, copy_docs};
+use leakage_history::Command;
 use std::alloc::{AllocError, Global};
 
 /// Appends words, each in hexadecimal digits behind a blank.

@@ -1,72 +1,77 @@
-ghost use Rattle.std.specs.Prelude.{◌≡◌, ◌<◌, ◌+◌, ◌^◌, None, length};
-ghost use Rattle.client_registry.specs.Acceptance.{size_refusal};
+ghost use Rattle.std.specs.Prelude.{◌<◌, ◌^◌};
+ghost use Rattle.client_registry.specs.Epochs.{next_begins};
+ghost use Rattle.leakage_history.specs.HashedEpochs.{epochs_in};
 
 use crate::digits::{push_all_passing, push_draws};
 use crate::documents::{push_commands, push_documents};
-use crate::names::push_values;
 use crate::uses::push_uses;
+use crate::values::push_all_values;
 use keyed_fn::Keyed;
-use leakage_draws::draws;
+use leakage_draws::draws_of;
 use leakage_frames::{Draw, Leak, simulate};
-use leakage_history::History;
-use leakage_model::leak;
+use leakage_history::Epochs;
+use leakage_model::leak_epochs;
 use leakage_names::Sheet;
-use leakage_sheets::sheet_of;
+use leakage_sheets::sheets_of;
 use leakage_texts::leak_line;
-use leakage_values::used_names;
 use sse_frames::Items;
 use std::alloc::{AllocError, Global};
 use word_keys::MasterKey;
 
-/// Appends all that is told of a history under a key.
+/// Appends all that is told of a history, whose first epoch has this key.
 pub(crate) fn push_history<K: Keyed>(
     text: &mut String,
     alloc: Global,
     keyed: &K,
     key: &MasterKey,
-    history: &History,
+    epochs: &Epochs,
 ) -> Result<(), AllocError>
-    requires setup { size_refusal history.now.setup ≡ None }
-    requires numbered { length history.now.later + 1 < 2 ^ 32 }
+    requires numbered { (next_begins (epochs_in epochs.now)).command < 2 ^ 32 }
 {
-    push_documents(text, alloc, history.docs())?;
-    push_commands(text, alloc, history.commands())?;
-    let sheet = sheet_of(alloc, keyed, key, history)?;
-    let ended = push_under(text, alloc, history, &sheet);
-    drop(sheet);
+    push_all_held(text, alloc, epochs)?;
+    let sheets = sheets_of(alloc, keyed, key, epochs)?;
+    let ended = push_under(text, alloc, epochs, sheets.as_slice());
+    drop(sheets);
     ended
 }
 
-/// Appends what is told of a history under the values of a sheet.
+/// Appends the documents and the commands of each epoch.
+fn push_all_held(text: &mut String, alloc: Global, epochs: &Epochs) -> Result<(), AllocError> {
+    for number in 0..epochs.len() {
+        let history = epochs.epoch(number);
+        push_documents(text, alloc, history.docs())?;
+        push_commands(text, alloc, history.commands())?;
+    }
+    Ok(())
+}
+
+/// Appends what is told of a history under the values of sheets.
 fn push_under(
     text: &mut String,
     alloc: Global,
-    history: &History,
-    sheet: &Sheet,
+    epochs: &Epochs,
+    sheets: &[Sheet],
 ) -> Result<(), AllocError>
-    requires setup { size_refusal history.now.setup ≡ None }
-    requires numbered { length history.now.later + 1 < 2 ^ 32 }
+    requires numbered { (next_begins (epochs_in epochs.now)).command < 2 ^ 32 }
 {
-    let drawn = draws(alloc, history, sheet)?;
-    let ended = push_leaked(text, alloc, history, &drawn);
+    let drawn = draws_of(alloc, epochs, sheets)?;
+    let ended = push_leaked(text, alloc, epochs, &drawn);
     drop(drawn);
     ended?;
-    push_uses(text, alloc, history)?;
-    let names = used_names(alloc, history)?;
-    push_values(text, alloc, names.as_slice(), sheet)
+    push_uses(text, alloc, epochs)?;
+    push_all_values(text, alloc, epochs, sheets)
 }
 
 /// Appends what each command leaks and draws, and all that the simulator makes of both.
 fn push_leaked(
     text: &mut String,
     alloc: Global,
-    history: &History,
+    epochs: &Epochs,
     draws: &Items<Items<Draw>>,
 ) -> Result<(), AllocError>
-    requires setup { size_refusal history.now.setup ≡ None }
-    requires numbered { length history.now.later + 1 < 2 ^ 32 }
+    requires numbered { (next_begins (epochs_in epochs.now)).command < 2 ^ 32 }
 {
-    let leaks = leak(alloc, history)?;
+    let leaks = leak_epochs(alloc, epochs)?;
     let ended = push_both(text, alloc, &leaks, draws);
     drop(leaks);
     ended

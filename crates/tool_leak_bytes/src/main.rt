@@ -1,9 +1,10 @@
 //! A program for tests that prints what histories have, leak, draw and look up, and the values of their names, to
 //! compare with other models. Scripts come from standard input, separated by lines of four hyphens. Of a script it
-//! prints its setup's documents and its commands, of each command its leakage and its draws, and each simulated frame
-//! (`>`) and reply (`<`). Then come, for each command, what is drawn, the names of these values and the names looked
-//! up, and each name with its value. Of two scripts with a line `twin` between them it prints the counts of the first
-//! history, and those of the second with its moved values, or the first command that leaks something else. A script
+//! prints for each epoch its setup's documents and its commands, then of each command its leakage and its draws, and
+//! each simulated frame (`>`) and reply (`<`). Then come, for each command, what is drawn, the names of these values and
+//! the names looked up, and each name with its value; a name begins with the number of its epoch. Of two scripts with a
+//! line `twin` between them it prints the counts of the first history, and those of the second with its moved values,
+//! or the first command that leaks something else. Commands are numbered through all epochs, the setups included. A script
 //! without an accepted setup, or with a bad line, has no lines. It depends on `script_history`, `leakage_model`,
 //! `leakage_draws` and `leakage_frames`.
 //! Tested: against plain models, by `.ci/leakage` and `.ci/twin`. Only that it is safe and returns is proved.
@@ -18,6 +19,7 @@ mod pair_lines;
 mod printed_lines;
 mod read_stop;
 mod uses;
+mod values;
 
 use printed_lines::tell_all;
 use read_stop::read_stop;

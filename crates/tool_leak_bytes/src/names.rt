@@ -28,8 +28,10 @@ fn push_word(text: &mut String, alloc: Global, word: u32) -> Result<(), AllocErr
     push_number(text, alloc, u64::from(word))
 }
 
-/// Appends a name: its kind, its word and its number, with slashes between them.
+/// Appends a name: its epoch, its kind, its word and its number, with slashes between them.
 fn push_name(text: &mut String, alloc: Global, name: &Name) -> Result<(), AllocError> {
+    push_number(text, alloc, u64::from(name.epoch))?;
+    text.push_str("/")?;
     text.push_str(kind_text(name.kind))?;
     text.push_str("/")?;
     push_word(text, alloc, name.word)?;

@@ -1,14 +1,14 @@
-ghost use Rattle.std.specs.Prelude.{◌≡◌, ◌+◌, ◌<◌, ◌^◌, None, length};
-ghost use Rattle.client_registry.specs.Acceptance.{size_refusal};
+ghost use Rattle.std.specs.Prelude.{◌<◌, ◌^◌};
+ghost use Rattle.client_registry.specs.Epochs.{next_begins};
+ghost use Rattle.leakage_history.specs.HashedEpochs.{epochs_in};
 
 use crate::digits::push_number;
-use crate::names::push_values;
+use crate::values::push_all_values;
 use keyed_fn::Keyed;
-use leakage_draws::{Counted, MoveFault, count, move_table};
-use leakage_history::History;
+use leakage_draws::{Counted, MoveFault, count, move_tables};
+use leakage_history::Epochs;
 use leakage_names::Sheet;
-use leakage_sheets::sheet_of;
-use leakage_values::used_names;
+use leakage_sheets::sheets_of;
 use std::alloc::{AllocError, Global};
 use word_keys::MasterKey;
 
@@ -27,19 +27,17 @@ fn push_counted(
     text.push_str("\n")
 }
 
-/// Appends what is told of the second history under a moved table: what is counted, and each of its names with its value.
+/// Appends what is told of the second history under moved tables: what is counted, and each of its names with its value.
 fn push_moved(
     text: &mut String,
     alloc: Global,
-    other: &History,
-    moved: &Sheet,
+    other: &Epochs,
+    moved: &[Sheet],
 ) -> Result<(), AllocError>
-    requires accepted { size_refusal other.now.setup ≡ None }
-    requires numbered { length other.now.later + 1 < 2 ^ 32 }
+    requires numbered { (next_begins (epochs_in other.now)).command < 2 ^ 32 }
 {
     push_counted(text, alloc, "moved", count(alloc, other, moved)?)?;
-    let names = used_names(alloc, other)?;
-    push_values(text, alloc, names.as_slice(), moved)
+    push_all_values(text, alloc, other, moved)
 }
 
 /// Appends the first command at which two histories leak something else.
@@ -49,22 +47,20 @@ fn push_difference(text: &mut String, alloc: Global, command: u32) -> Result<(),
     text.push_str("\n")
 }
 
-/// Appends what comes of moving the table of the first history to the second.
+/// Appends what comes of moving the tables of the first history to the second.
 fn push_move(
     text: &mut String,
     alloc: Global,
-    one: &History,
-    other: &History,
-    sheet: &Sheet,
+    one: &Epochs,
+    other: &Epochs,
+    sheets: &[Sheet],
 ) -> Result<(), AllocError>
-    requires accepted { size_refusal one.now.setup ≡ None }
-    requires accepted_too { size_refusal other.now.setup ≡ None }
-    requires numbered { length one.now.later + 1 < 2 ^ 32 }
-    requires numbered_too { length other.now.later + 1 < 2 ^ 32 }
+    requires numbered { (next_begins (epochs_in one.now)).command < 2 ^ 32 }
+    requires numbered_too { (next_begins (epochs_in other.now)).command < 2 ^ 32 }
 {
-    match move_table(alloc, one, other, sheet) {
+    match move_tables(alloc, one, other, sheets) {
         Ok(moved) => {
-            let ended = push_moved(text, alloc, other, &moved);
+            let ended = push_moved(text, alloc, other, moved.as_slice());
             drop(moved);
             ended
         }
@@ -73,39 +69,35 @@ fn push_move(
     }
 }
 
-/// Appends what is told of two histories under the values of the first one's sheet.
+/// Appends what is told of two histories under the values of the first one's sheets.
 fn push_under(
     text: &mut String,
     alloc: Global,
-    one: &History,
-    other: &History,
-    sheet: &Sheet,
+    one: &Epochs,
+    other: &Epochs,
+    sheets: &[Sheet],
 ) -> Result<(), AllocError>
-    requires accepted { size_refusal one.now.setup ≡ None }
-    requires accepted_too { size_refusal other.now.setup ≡ None }
-    requires numbered { length one.now.later + 1 < 2 ^ 32 }
-    requires numbered_too { length other.now.later + 1 < 2 ^ 32 }
+    requires numbered { (next_begins (epochs_in one.now)).command < 2 ^ 32 }
+    requires numbered_too { (next_begins (epochs_in other.now)).command < 2 ^ 32 }
 {
-    push_counted(text, alloc, "own", count(alloc, one, sheet)?)?;
-    push_move(text, alloc, one, other, sheet)
+    push_counted(text, alloc, "own", count(alloc, one, sheets)?)?;
+    push_move(text, alloc, one, other, sheets)
 }
 
-/// Appends all that is told of two histories under a key.
+/// Appends all that is told of two histories, where the first one's first epoch has this key.
 pub(crate) fn push_pair<K: Keyed>(
     text: &mut String,
     alloc: Global,
     keyed: &K,
     key: &MasterKey,
-    one: &History,
-    other: &History,
+    one: &Epochs,
+    other: &Epochs,
 ) -> Result<(), AllocError>
-    requires accepted { size_refusal one.now.setup ≡ None }
-    requires accepted_too { size_refusal other.now.setup ≡ None }
-    requires numbered { length one.now.later + 1 < 2 ^ 32 }
-    requires numbered_too { length other.now.later + 1 < 2 ^ 32 }
+    requires numbered { (next_begins (epochs_in one.now)).command < 2 ^ 32 }
+    requires numbered_too { (next_begins (epochs_in other.now)).command < 2 ^ 32 }
 {
-    let sheet = sheet_of(alloc, keyed, key, one)?;
-    let ended = push_under(text, alloc, one, other, &sheet);
-    drop(sheet);
+    let sheets = sheets_of(alloc, keyed, key, one)?;
+    let ended = push_under(text, alloc, one, other, sheets.as_slice());
+    drop(sheets);
     ended
 }

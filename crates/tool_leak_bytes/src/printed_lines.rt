@@ -1,13 +1,13 @@
-ghost use Rattle.std.specs.Prelude.{◌≡◌, ◌≤◌, ◌+◌, ◌^◌, IfSome, true};
-ghost use Rattle.client_registry.specs.Sized.{IsSized};
-ghost use Rattle.leakage_history.specs.HashedRun.{run_of};
+ghost use Rattle.std.specs.Prelude.{◌≡◌, ◌≤◌, ◌+◌, ◌^◌, IfSome, Some, true};
+ghost use Rattle.leakage_history.specs.HashedEpochs.{epochs_in};
+ghost use Rattle.script_history.specs.Reads.{IsCountable};
 ghost use Rattle.sse_script.specs.TextLines.{bytes_to_come};
 
 use crate::history_lines::push_history;
 use crate::pair_lines::push_pair;
 use crate::read_stop::read_stop;
 use keyed_fn::{Keyed, Real};
-use script_history::{FirstScript, ReadScript, read_first, read_history};
+use script_history::{FirstScript, ReadScript, read_first, read_second};
 use script_run_texts::{Input, InputStop, StopCause};
 use sse_outside::{Sink, Source, SteadySink, SteadySource, print_all};
 use std::alloc::Global;
@@ -84,7 +84,7 @@ fn text_behind<K: Keyed, S: Source, W: Sink>(
     first: FirstScript,
 ) -> Result<String, StopCause>
     requires few { first.at_twin ≡ true → input.old.number + bytes_to_come input.old.pending (S.handed_out source.old) ≤ 2 ^ 63 }
-    requires sized { IfSome first.script.history (λ h. IsSized (run_of h)) }
+    requires counted { IfSome first.script.history (λ h. IsCountable (Some (epochs_in h))) }
 {
     let ended = if first.at_twin {
         text_of_two(alloc, keyed, source, refusals, input, &first.script)
@@ -97,7 +97,7 @@ fn text_behind<K: Keyed, S: Source, W: Sink>(
 
 /// What is told of a script that was read.
 fn text_of_one<K: Keyed>(alloc: Global, keyed: &K, read: &ReadScript) -> Result<String, StopCause>
-    requires { IfSome read.now.history (λ h. IsSized (run_of h)) }
+    requires { IfSome read.now.history (λ h. IsCountable (Some (epochs_in h))) }
 {
     let mut text = String::new(alloc);
     if let Some(history) = &read.history {
@@ -116,9 +116,9 @@ fn text_of_two<K: Keyed, S: Source, W: Sink>(
     first: &ReadScript,
 ) -> Result<String, StopCause>
     requires few { input.old.number + bytes_to_come input.old.pending (S.handed_out source.old) ≤ 2 ^ 63 }
-    requires sized { IfSome first.now.history (λ h. IsSized (run_of h)) }
+    requires counted { IfSome first.now.history (λ h. IsCountable (Some (epochs_in h))) }
 {
-    match read_history(alloc, keyed, source, refusals, input) {
+    match read_second(alloc, keyed, source, refusals, input) {
         Ok(second) => {
             let ended = text_of_both(alloc, keyed, first, &second);
             drop(second);
@@ -135,8 +135,8 @@ fn text_of_both<K: Keyed>(
     first: &ReadScript,
     second: &ReadScript,
 ) -> Result<String, StopCause>
-    requires sized { IfSome first.now.history (λ h. IsSized (run_of h)) }
-    requires sized_too { IfSome second.now.history (λ h. IsSized (run_of h)) }
+    requires counted { IfSome first.now.history (λ h. IsCountable (Some (epochs_in h))) }
+    requires counted_too { IfSome second.now.history (λ h. IsCountable (Some (epochs_in h))) }
 {
     let mut text = String::new(alloc);
     if let Some(one) = &first.history {

@@ -1,5 +1,6 @@
 use Rattle.std.proofs.Common.{◌≡◌, refl, subst, ◌∙◌, arith}
 use Rattle.std.specs.Prelude.{◌+◌, Ok}
+use Rattle.keyed_fn.specs.KeyedFn.{keyed_fn}
 use Rattle.sse_script.specs.TextLines.{bytes_to_come, lines_left}
 use Rattle.client_registry.specs.HashNumbers.{hash_numbers}
 use Rattle.script_history.specs.Stages.{keys_at}
@@ -16,7 +17,7 @@ lines-init g c = record {
   source = refl;
   sink = refl;
   shortages = omega arith;
-  there = λ place at. there-start place c.args.progress c.args.input.now.number _ _ at;
+  there = λ place at. there-start (keyed_fn g.K.Keyed.prf g.K.Keyed.pad) place c.args.progress c.args.input.now.number _ _ at;
   behind = refl;
   hashed = λ under. under;
 }
@@ -35,8 +36,8 @@ lines-preserved g c =
       shortages = omega (arith, c.lines.invariant.shortages, c.in_ok-next.ensures.sink.no_fewer);
       there = λ place at.
           let s = c.lines.invariant.there place at in
-          there-joined _ c.lines.progress c.lines.input.number _ _ s next c.take_turn.new.input.number left (g.W.Sink.written c.take_turn.new.sink)
-          (subst (λ (t : Turn). LeadsTo (moment s.place (c.lines.input.number + 1) (first_left (lines_left c.lines.input.pending (g.S.Source.remaining c.lines.source))) c.lines.progress.refused (g.W.Sink.written c.lines.sink)) c.take_turn.new.input.number left (g.W.Sink.written c.take_turn.new.sink) (Ok t)) is (c.in_ok-next.ensures.turns s.place s.at));
+          there-joined (keyed_fn g.K.Keyed.prf g.K.Keyed.pad) _ c.lines.progress c.lines.input.number _ _ s next c.take_turn.new.input.number left (g.W.Sink.written c.take_turn.new.sink)
+          (subst (λ (t : Turn). LeadsTo (keyed_fn g.K.Keyed.prf g.K.Keyed.pad) (moment s.place (c.lines.input.number + 1) (first_left (lines_left c.lines.input.pending (g.S.Source.remaining c.lines.source))) c.lines.progress.refused (g.W.Sink.written c.lines.sink)) c.take_turn.new.input.number left (g.W.Sink.written c.take_turn.new.sink) (Ok t)) is (c.in_ok-next.ensures.turns s.place s.at));
       behind =
           c.lines.invariant.behind
           ∙ subst (λ (t : Turn). PartsOn t (lines_left c.lines.input.pending (g.S.Source.remaining c.lines.source)) (lines_left c.take_turn.new.input.pending (g.S.Source.remaining c.take_turn.new.source)) (g.S.Source.remaining c.take_turn.new.source)) is c.in_ok-next.ensures.parts;
@@ -55,14 +56,14 @@ returns-in_err-next-clause-reads g c = λ place at.
     let stop = c.in_err-next.field-0.0 in
     let last = g.W.Sink.written c.take_turn.new.sink in
     end_at-stopped (moment place (c.args.input.now.number + 1) (first_left (lines_left c.args.input.now.pending (g.S.Source.remaining c.args.source.now))) c.args.progress.refused (g.W.Sink.written c.args.sink.now)) place.key c.take_turn.new.input.number last c.from_residual.result stop c.from_residual.ensures.1
-    (ends-stopped _ c.lines.progress c.lines.input.number _ _ s last stop (c.in_err-next.ensures.turns s.place s.at))
+    (ends-stopped (keyed_fn g.K.Keyed.prf g.K.Keyed.pad) _ c.lines.progress c.lines.input.number _ _ s last stop (c.in_err-next.ensures.turns s.place s.at))
 
 pub returns-in-End-clause-reads : goal.returns-in-End-clause-reads
 returns-in-End-clause-reads g c = λ place at.
     let s = c.lines.invariant.there place at in
     let last = g.W.Sink.written c.take_turn.new.sink in
-    ends-whole _ c.lines.progress c.lines.input.number _ _ s c.in-End.last.progress c.take_turn.new.input.number last
-    (subst (λ (t : Turn). LeadsTo (moment s.place (c.lines.input.number + 1) (first_left (lines_left c.lines.input.pending (g.S.Source.remaining c.lines.source))) c.lines.progress.refused (g.W.Sink.written c.lines.sink)) c.take_turn.new.input.number (first_left (lines_left c.take_turn.new.input.pending (g.S.Source.remaining c.take_turn.new.source))) last (Ok t)) c.in-End.is (c.in_ok-next.ensures.turns s.place s.at))
+    ends-whole (keyed_fn g.K.Keyed.prf g.K.Keyed.pad) _ c.lines.progress c.lines.input.number _ _ s c.in-End.last.progress c.take_turn.new.input.number last
+    (subst (λ (t : Turn). LeadsTo (keyed_fn g.K.Keyed.prf g.K.Keyed.pad) (moment s.place (c.lines.input.number + 1) (first_left (lines_left c.lines.input.pending (g.S.Source.remaining c.lines.source))) c.lines.progress.refused (g.W.Sink.written c.lines.sink)) c.take_turn.new.input.number (first_left (lines_left c.take_turn.new.input.pending (g.S.Source.remaining c.take_turn.new.source))) last (Ok t)) c.in-End.is (c.in_ok-next.ensures.turns s.place s.at))
 
 pub returns-in-End-clause-ended : goal.returns-in-End-clause-ended
 returns-in-End-clause-ended g c =

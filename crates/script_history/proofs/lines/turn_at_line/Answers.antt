@@ -1,4 +1,5 @@
 use Rattle.std.proofs.Common.{sym, subst, ◌∙◌}
+use Rattle.keyed_fn.specs.KeyedFn.{keyed_fn}
 use Rattle.script_run_texts.specs.Stops.{stop_cause}
 use Rattle.script_history.specs.Reads.{Stopped}
 use Rattle.script_history.specs.Turns.{IsThere, ReadsOn, moment}
@@ -10,7 +11,7 @@ pub returns-in-Ok-clause-leads : goal.returns-in-Ok-clause-leads
 returns-in-Ok-clause-leads g c = λ place behind at.
     let text = c.args.input.now.line in
     let number = c.args.input.now.number in
-    subst (λ left. IsThere (moment place number left c.args.progress.refused (g.W.Sink.written c.args.sink.now)) c.in-Ok.next number (first_left behind) (g.W.Sink.written c.take_read.new.sink))
+    subst (λ left. IsThere (keyed_fn g.K.Keyed.prf g.K.Keyed.pad) (moment place number left c.args.progress.refused (g.W.Sink.written c.args.sink.now)) c.in-Ok.next number (first_left behind) (g.W.Sink.written c.take_read.new.sink))
     (sym (first-next text behind (sym c.is_twin.ensures ∙ c.if-is_twin.false))) (c.in-Ok.ensures.leads place (first_left behind) at)
 
 pub returns-in-Err-clause-leads : goal.returns-in-Err-clause-leads

@@ -3,7 +3,7 @@ use Rattle.std.specs.Option.{option_and_then}
 use Rattle.bool_search.specs.LineRefusals.{query_refused}
 use Rattle.client_registry.specs.WordBytes.{word_bytes}
 use Rattle.def_script_meaning.proofs.QueryWords.{words_some}
-use Rattle.leakage_history.specs.HashedRun.{run_of}
+use Rattle.leakage_history.specs.HashedEpochs.{epochs_in}
 use Rattle.script_history.proofs.LinesTaken.{query_says}
 use Rattle.script_history.specs.Stages.{read_query_refusal}
 use Rattle.script_history.proofs.taken_line.query.Goals as goal
@@ -17,4 +17,4 @@ push_searches-requires c = record {
 
 pub returns-in-Err-clause-found : goal.returns-in-Err-clause-found
 returns-in-Err-clause-found c =
-    c.refusal_of.ensures.says (read_query_refusal (run_of c.args.history.now) c.args.fields) (query_says c.from.result c.in-Err.fault c.args.fields _ c.from.ensures c.in-Err.ensures.refused)
+    c.refusal_of.ensures.says (read_query_refusal (epochs_in c.args.history.now) c.args.fields) (query_says c.from.result c.in-Err.fault c.args.fields _ c.from.ensures c.in-Err.ensures.refused)

@@ -1,19 +1,11 @@
-use Rattle.std.proofs.Common.{◌≡◌, Some, sym, subst}
-use Rattle.std.specs.Prelude.{IfOk, OnErr}
-use Rattle.def_script_meaning.specs.Lines as requests
-use Rattle.def_script_meaning.specs.Lines.{Request}
-use Rattle.script_history.specs.LinesHere.{line_taken}
+use Rattle.keyed_fn.specs.KeyedFn.{keyed_fn}
 use Rattle.sse_script.specs.Views.{line_view}
-use Rattle.script_history.specs.Stages.{MayStop, Takes}
-use Rattle.script_history.specs.declared.stage.Stage.{Stage}
+use Rattle.script_history.proofs.UsedKeysLaws.{carried-out, leaves_key, not_rebuild}
 use Rattle.script_history.proofs.taken_line.take_line.Goals as goal
 
-pub returns-in-Built-clause-takes : goal.returns-in-Built-clause-takes
-returns-in-Built-clause-takes c =
-    subst (λ (s : Stage). IfOk c.after_setup.result (λ done. (request : Request) → line_taken (line_view c.args.line) ≡ Some (requests.Command request) → Takes s request done.0 done.1)) (sym c.in-Built.is) c.after_setup.ensures.takes
+pub take_plain-requires : goal.take_plain-requires
+take_plain-requires g c = record { words = c.requires.words; keeps = not_rebuild c.args.line c.in_default.not-Rebuild }
 
-pub returns-in-Built-clause-may_stop : goal.returns-in-Built-clause-may_stop
-returns-in-Built-clause-may_stop c = subst (λ (s : Stage). OnErr c.after_setup.result (MayStop s (line_view c.args.line))) (sym c.in-Built.is) c.after_setup.ensures.may_stop
-
-pub returns-in-Collecting-clause-may_stop : goal.returns-in-Collecting-clause-may_stop
-returns-in-Collecting-clause-may_stop c = subst (λ (s : Stage). OnErr c.before_setup.result (MayStop s (line_view c.args.line))) (sym c.in-Collecting.is) c.before_setup.ensures.may_stop
+pub returns-in_ok-stage-in_default-clause-takes : goal.returns-in_ok-stage-in_default-clause-takes
+returns-in_ok-stage-in_default-clause-takes g c = λ request e.
+    carried-out (keyed_fn g.K.Keyed.prf g.K.Keyed.pad) c.args.standing request c.in_ok-stage-in_default.stage c.in_ok-stage-in_default.found (leaves_key (line_view c.args.line) (not_rebuild c.args.line c.in_default.not-Rebuild) request e) (c.in_ok-stage-in_default.ensures.takes request e)

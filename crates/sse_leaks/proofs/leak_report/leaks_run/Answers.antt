@@ -1,4 +1,5 @@
 use Rattle.std.proofs.Common.{ap, subst, ◌∙◌, arith}
+use Rattle.keyed_fn.specs.KeyedFn.{keyed_fn}
 use Rattle.script_run_texts.specs.Causes.{SinkCause, SourceCause}
 use Rattle.script_run_texts.specs.Stops.{stop_cause, stop_status}
 use Rattle.sse_outside.specs.Causes.{Rose}
@@ -13,7 +14,7 @@ returns-in-Err-clause-tells g c =
     let sink = c.args.sink.now in
     let mid = c.tell_script.new.sink in
     let last = c.finish.new.sink in
-    has_told (g.S.Source.remaining c.args.source.now) (g.W.Sink.written sink) (g.W.Sink.written mid) (g.W.Sink.written last) (g.W.Sink.faults sink) (g.W.Sink.faults last) (g.W.Sink.shortages sink) (g.W.Sink.shortages last) (stop_for (stop_cause stop)) c.finish.result
+    has_told (keyed_fn g.K.Keyed.prf g.K.Keyed.pad) (g.S.Source.remaining c.args.source.now) (g.W.Sink.written sink) (g.W.Sink.written mid) (g.W.Sink.written last) (g.W.Sink.faults sink) (g.W.Sink.faults last) (g.W.Sink.shortages sink) (g.W.Sink.shortages last) (stop_for (stop_cause stop)) c.finish.result
     c.in-Err.ensures.tells
     (ends_told stop (g.W.Sink.written sink) (g.W.Sink.written mid) (g.W.Sink.written last) (g.W.Sink.faults sink) (g.W.Sink.faults mid) (g.W.Sink.faults last) (g.W.Sink.shortages sink) (g.W.Sink.shortages mid) (g.W.Sink.shortages last) c.finish.ensures.line c.in-Err.ensures.sink.cause c.tell_script.ensures.sink.no_fewer)
     (status_told stop c.finish.result c.finish.ensures.status)

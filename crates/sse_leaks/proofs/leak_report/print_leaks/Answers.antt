@@ -1,5 +1,5 @@
 use Rattle.std.proofs.Common.{refl, subst, ◌∙◌}
-use Rattle.leakage_history.specs.HashedRun.{run_of}
+use Rattle.leakage_history.specs.HashedEpochs.{epochs_in}
 use Rattle.script_run_texts.specs.Stops.{stop_of_sink}
 use Rattle.script_run_texts.specs.declared.stop_cause.StopCause.TheVariants as stops
 use Rattle.sse_outside.specs.Fronts.{TookFront}
@@ -10,7 +10,7 @@ use Rattle.sse_leaks.proofs.leak_report.print_leaks.Goals as goal
 
 pub returns-in_err-text-clause-stops : goal.returns-in_err-text-clause-stops
 returns-in_err-text-clause-stops g c =
-    IfErr-from c.from_residual.result stops.Memory _ c.from_residual.ensures.1 (none_told (run_of c.args.history.now) (g.W.Sink.written c.args.sink.now) _ refl)
+    IfErr-from c.from_residual.result stops.Memory _ c.from_residual.ensures.1 (none_told (epochs_in c.args.epochs.now) (g.W.Sink.written c.args.sink.now) _ refl)
 
 pub returns-in_err-print_all-clause-stops : goal.returns-in_err-print_all-clause-stops
 returns-in_err-print_all-clause-stops g c =
