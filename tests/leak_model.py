@@ -287,14 +287,14 @@ class Epoch:
     later: tuple = ()
 
 
-def accepted(script, takes_rebuilds=True):
+def accepted(script, compares_keys=True):
     """Each line of a script with what it brings: the key, a document of the setup, a setup, commands after it or a renewal; nothing if it
     is empty or refused, or if the script stops at it or before it."""
-    store, is_stopped = script_model.Store(), False
+    store, is_stopped = script_model.Store(compares_keys=compares_keys), False
     for line in script_model.lines_of(script):
         found = []
         try:
-            command = None if is_stopped else script_model.command_in(line, takes_rebuilds)
+            command = None if is_stopped else script_model.command_in(line)
             if command and (command[0] == "key") != (not store.keys):
                 raise script_model.BadLine
             if command and command[0] == "key":
@@ -345,10 +345,10 @@ def key_in(script):
     return next((what for _, found in accepted(script) for what in found if isinstance(what, bytes)), None)
 
 
-def history_in(script, takes_rebuilds=True):
-    """The epochs of a script; none where it has no setup."""
+def history_in(script, compares_keys=True):
+    """The epochs of a script; none where it has no setup. Where new keys aren't compared with those so far, none is refused."""
     epochs, key = [], key_in(script)
-    for _, found in accepted(script, takes_rebuilds):
+    for _, found in accepted(script, compares_keys):
         for what in found:
             epochs = longer(epochs, key, what)
     return epochs
@@ -748,11 +748,11 @@ def leak_lines(leaks):
 
 def leaks_answer(script):
     """What the program sse_leaks prints of a script, and its status: the refusals, as a run prints them, then the lines of what is
-    leaked, or the line of a stop; a script without a setup lacks a line behind its last, and a line `rebuild` is a bad one."""
-    printed, status = script_model.answer(script, takes_rebuilds=False)
+    leaked, or the line of a stop; a script without a setup lacks a line behind its last."""
+    printed, status = script_model.answer(script)
     lines = printed.decode().splitlines()
     told = [line for line in lines if line.startswith("refused: ")]
-    history = history_in(script, takes_rebuilds=False)
+    history = history_in(script)
     if status == 2:
         told.append(lines[-1])
     elif not history:

@@ -1,6 +1,8 @@
 """Made pairs of scripts with a line `twin` between them, the same for the same seed: a history and another one that was changed step by
-step, each step keeping what a server learns, so that both leak the same; or one that was changed once more, so that they don't."""
+step, each step keeping what a server learns, so that both leak the same; or one that was changed once more, so that they don't. Every
+third may have rebuilds."""
 import random
+from dataclasses import dataclass
 
 import leak_model as model
 import script_model
@@ -13,6 +15,14 @@ STEPS = 60
 # refused before a setup, and behind one
 REFUSED_BEFORE = [b"find a", b"del 1", b"doc 0 a", b"setup 0 1", b"setup 1 257", b"setup 1 1 3", b"doc 6 a a"]
 REFUSED_BEHIND = [b"doc 1 a", b"setup 1 1", b"add 0 a", b"del 11", b"find " + b"x" * 65, b"add 12 b b"]
+# the key of the scripts that are only tried
+TRIED_KEY = bytes(32)
+
+
+@dataclass(frozen=True)
+class Rebuild:
+    """What is live, set up again under another key."""
+    key: bytes
 
 
 def fields(name, *values):
@@ -28,27 +38,38 @@ def lines_of(setup, later):
             lines.append(fields(b"add", command.id, *command.words))
         elif isinstance(command, model.Delete):
             lines.append(fields(b"del", command.id))
+        elif isinstance(command, Rebuild):
+            lines.append(key_line(b"rebuild", command.key))
         else:
             lines.append(fields(b"find", command.word))
     return lines
 
 
+def key_line(name, key):
+    return fields(name, key.hex().encode())
+
+
+def tried(setup, later):
+    return b"\n".join([key_line(b"key", TRIED_KEY), *lines_of(setup, later)])
+
+
 def leak_of(setup, later):
-    """What a history leaks, whatever its key is."""
-    return model.leak([model.Epoch(b"", setup, tuple(later))])
+    """What a history leaks, whatever its keys are."""
+    return model.leak(model.history_in(tried(setup, later)))
 
 
 def is_history(setup, later):
     """Whether no line of it is refused."""
-    script = b"\n".join([b"key " + b"0" * 64, *lines_of(setup, later)])
-    return script_model.answer(script)[1] == 0
+    return script_model.answer(tried(setup, later))[1] == 0
 
 
 def some(draw, items, most):
     return tuple(draw.sample(items, draw.randint(0, min(most, len(items)))))
 
 
-def made_command(draw, words, ids):
+def made_command(draw, words, ids, rebuilds=0.0):
+    if draw.random() < rebuilds:
+        return Rebuild(draw.randbytes(32))
     way = draw.random()
     if way < 0.4:
         return model.Search(draw.choice(words))
@@ -62,23 +83,23 @@ def made_history(draw):
         setup = model.Setup(documents, *draw.choice(SHAPES), draw.choice(PADS))
         if is_history(setup, []):
             break
-    later = []
+    later, rebuilds = [], draw.choice([0.0, 0.0, 0.25])
     for _ in range(draw.choice([0, 3, 8, 14])):
-        command = made_command(draw, words, ids)
+        command = made_command(draw, words, ids, rebuilds)
         if is_history(setup, [*later, command]):
             later.append(command)
     return setup, later
 
 
 def renamed(commands, word, number):
-    """These commands with other words and other identifiers."""
+    """These commands with other words and other identifiers; rebuilds keep their keys."""
     found = []
     for command in commands:
         if isinstance(command, model.Add):
             command = model.Add(number(command.id), tuple(map(word, command.words)))
         elif isinstance(command, model.Delete):
             command = model.Delete(number(command.id))
-        else:
+        elif isinstance(command, model.Search):
             command = model.Search(word(command.word))
         found.append(command)
     return found
@@ -89,8 +110,8 @@ def exchanged(one, other):
 
 
 def changed(draw, setup, later):
-    """Another history: words or identifiers that change places from some command on, another document, or another Q."""
-    documents, way = list(setup.documents), draw.randrange(6)
+    """Another history: words or identifiers that change places from some command on, another document, another Q, or other keys."""
+    documents, way = list(setup.documents), draw.randrange(7)
     words, ids, start = {}, {}, draw.randrange(len(later) + 1)
     if way == 0:
         words = exchanged(*draw.sample(WORDS, 2))
@@ -103,8 +124,10 @@ def changed(draw, setup, later):
     elif way == 4 and documents:
         at = draw.randrange(len(documents))
         documents[at] = (draw.choice([documents[at][0], draw.choice(IDENTIFIERS)]), some(draw, WORDS, 4))
-    else:
+    elif way == 5:
         draw.shuffle(documents)
+    else:
+        later = [Rebuild(draw.randbytes(32)) if isinstance(command, Rebuild) else command for command in later]
     if way < 2 and draw.random() < 0.5:
         start = 0
         documents = [(ids.get(id, id), tuple(words.get(word, word) for word in own)) for id, own in documents]
@@ -126,7 +149,7 @@ def same_looking(draw, setup, later):
 def other_looking(draw, setup, later):
     """One that doesn't: a command is left out, put in or replaced, or the setup is another one."""
     while True:
-        now, command = list(later), made_command(draw, WORDS[:6], IDENTIFIERS[:6])
+        now, command = list(later), made_command(draw, WORDS[:6], IDENTIFIERS[:6], 0.1)
         at, way, start = draw.randint(0, len(now)), draw.randrange(4), setup
         if way == 0 and at < len(now):
             del now[at]
@@ -142,7 +165,7 @@ def other_looking(draw, setup, later):
 
 def script_of(draw, setup, later, is_spoilt):
     """The lines of a script of this history, with some that are refused where it is spoilt."""
-    lines, is_set_up = [b""] * draw.choice([0, 0, 1]) + [b"key " + draw.randbytes(32).hex().encode()], False
+    lines, is_set_up = [b""] * draw.choice([0, 0, 1]) + [key_line(b"key", draw.randbytes(32))], False
     for line in lines_of(setup, later):
         if is_spoilt and draw.random() < 0.3:
             lines.append(draw.choice(REFUSED_BEHIND if is_set_up else REFUSED_BEFORE))

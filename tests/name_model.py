@@ -1,4 +1,4 @@
-"""What the program tool_leak_bytes prints of a history or of two, as a plain model: what the history has, which names its values have, in
+"""What the program tool_leak_bytes prints of a history or of two, as a plain model: what each epoch has, which names its values have, in
 which order they are drawn and looked up, and these values, own or moved. crates/tool_leak_bytes/src/main.rt has the lines in words."""
 import leak_model as model
 import twin_model as twin
@@ -11,7 +11,7 @@ KINDS = {
 DUMMY_KINDS = {model.DUMMY: ("DummyLabel", "DummyTag"), model.DUMMY_PAD: ("DummyCell", "DummyBlock")}
 
 
-# What a history has.
+# What an epoch has.
 
 
 def digits(words):
@@ -38,7 +38,7 @@ def commands_line(later):
 
 
 def named(s, later):
-    """The words that a history names, as often as it does, from the setup's on."""
+    """The words that an epoch names, as often as it does, from the setup's on."""
     yield from model.setup_words(s)
     for command in later:
         if isinstance(command, model.Add):
@@ -48,38 +48,39 @@ def named(s, later):
 
 
 def word_numbers(s, later):
-    """The number of each word of a history: its place among the different ones, by first appearance."""
+    """The number of each word of an epoch: its place among the different ones, by first appearance."""
     return {word: number for number, word in enumerate(dict.fromkeys(named(s, later)))}
 
 
-def name_text(name, numbers):
+def name_text(name, epoch, numbers):
+    """A name of the epoch of this number, whose words have these numbers."""
     if name.word == model.NO_WORD:
         of_block, number = divmod(name.number, model.FIRST_DUMMY_BLOCK)
-        return f"{DUMMY_KINDS[name.part][of_block]}/-/{number}"
-    return f"{KINDS[name.part]}/{numbers[name.word]}/{name.number}"
+        return f"{epoch}/{DUMMY_KINDS[name.part][of_block]}/-/{number}"
+    return f"{epoch}/{KINDS[name.part]}/{numbers[name.word]}/{name.number}"
 
 
-def drawing_texts(uses, numbers):
+def drawing_texts(uses, *names):
     """What values are drawn for: a pad stands with the label or the tag before it."""
     texts = []
     for name, text in uses:
         if text is None:
-            texts.append(name_text(name, numbers))
+            texts.append(name_text(name, *names))
         else:
-            texts[-1] += "+" + name_text(name, numbers)
+            texts[-1] += "+" + name_text(name, *names)
     return texts
 
 
-def uses_lines(s, later, ranks):
-    """Three lines for each command: what its values are drawn for, the names of these, and those that are looked up for it."""
-    numbers = word_numbers(s, later)
+def uses_lines(s, later, ranks, first, *names):
+    """Three lines for each command, the setup having the number `first`: what its values are drawn for, the names of these, and those that
+    are looked up for it."""
     drawn = [twin.uses_of_setup(s, ranks), *model.over(lambda past, command: twin.uses_by(s, past, command), later)]
     probed = [[], *model.over(lambda past, command: twin.looked_up_by(s, past, command), later)]
     for what, parts in (
-            ("drawings", [drawing_texts(uses, numbers) for uses in drawn]),
-            ("drawn", [[name_text(name, numbers) for name, _ in uses] for uses in drawn]),
-            ("probed", [[name_text(name, numbers) for name, _ in uses] for uses in probed])):
-        for command, texts in enumerate(parts):
+            ("drawings", [drawing_texts(uses, *names) for uses in drawn]),
+            ("drawn", [[name_text(name, *names) for name, _ in uses] for uses in drawn]),
+            ("probed", [[name_text(name, *names) for name, _ in uses] for uses in probed])):
+        for command, texts in enumerate(parts, first):
             yield " ".join([str(command), what, *texts])
 
 
@@ -91,8 +92,14 @@ def own_values(epoch):
     return values
 
 
-def value_lines(values, numbers):
-    return [f"{name_text(name, numbers)}={value.hex()}" for name, value in values.items()]
+def value_lines(values, *names):
+    return [f"{name_text(name, *names)}={value.hex()}" for name, value in values.items()]
+
+
+def all_value_lines(history, values):
+    """The names of a history with these values, those of each epoch."""
+    return [line for number, (epoch, own) in enumerate(zip(history, values, strict=True))
+            for line in value_lines(own, number, word_numbers(epoch.setup, epoch.later))]
 
 
 # A history.
@@ -116,17 +123,33 @@ def leaked_lines(history):
         yield f"{way} {text.hex()}"
 
 
+def has_lines(history):
+    """What each epoch has."""
+    return [line for epoch in history for line in (documents_line(epoch.setup), commands_line(epoch.later))]
+
+
+def all_uses_lines(history):
+    """Which names the values of a history have, by command; the commands are numbered through all epochs."""
+    lines, first = [], 0
+    for number, epoch in enumerate(history):
+        ranks = model.ranks_of(model.block_tags(epoch.key, epoch.setup))
+        lines += uses_lines(epoch.setup, epoch.later, ranks, first, number, word_numbers(epoch.setup, epoch.later))
+        first += 1 + len(epoch.later)
+    return lines
+
+
+def names_and_values(history):
+    """Which names the values of a history have, and these values."""
+    return [*all_uses_lines(history), *all_value_lines(history, map(own_values, history))]
+
+
 def named_lines(history):
-    """What a history has, which names its values have, and these values."""
-    (epoch,) = history
-    ranks = model.ranks_of(model.block_tags(epoch.key, epoch.setup))
-    return [documents_line(epoch.setup), commands_line(epoch.later), *uses_lines(epoch.setup, epoch.later, ranks),
-            *value_lines(own_values(epoch), word_numbers(epoch.setup, epoch.later))]
+    """All but the leakage and the draws."""
+    return [*has_lines(history), *names_and_values(history)]
 
 
 def history_lines(history):
-    has, named_so = named_lines(history)[:2], named_lines(history)[2:]
-    return [*has, *leaked_lines(history), *named_so]
+    return [*has_lines(history), *leaked_lines(history), *names_and_values(history)]
 
 
 # Two histories.
@@ -144,8 +167,7 @@ def pair_lines(history, other):
     values = twin.moved(history, other)
     if isinstance(values, int):
         return [*lines, f"differ {values}"]
-    (moved,), (epoch,) = values, other
-    return [*lines, counted("moved", history, values), *value_lines(moved, word_numbers(epoch.setup, epoch.later))]
+    return [*lines, counted("moved", history, values), *all_value_lines(other, values)]
 
 
 # Scripts.
@@ -158,5 +180,5 @@ def answer(script):
     _, bad, history = twin.part_answer(lines[:at], 1)
     if at is None:
         return [] if bad is not None else history_lines(history)
-    _, bad_behind, other = twin.part_answer(lines[at + 1:], at + 2)
+    _, bad_behind, other = twin.part_answer(lines[at + 1:], at + 2, compares_keys=False)
     return [] if bad is not None or bad_behind is not None else pair_lines(history, other)

@@ -33,14 +33,14 @@ def number_in(field):
     return int(field)
 
 
-def command_in(line, takes_rebuilds=True):
+def command_in(line):
     """A line without its end as its name, its numbers and its words, or its key in place of words; None where it is empty."""
     if len(line) > LINE_BYTES:
         raise BadLine
     name, *fields = [field for field in line.split(b" ") if field] or [None]
     if name is None:
         return None
-    if (name == b"key" or name == b"rebuild" and takes_rebuilds) and len(fields) == 1 and KEY.fullmatch(fields[0]):
+    if name in (b"key", b"rebuild") and len(fields) == 1 and KEY.fullmatch(fields[0]):
         return name.decode(), [], [bytes.fromhex(fields[0].decode())]
     if name in (b"doc", b"add") and fields:
         return name.decode(), [number_in(fields[0])], fields[1:]
@@ -170,11 +170,11 @@ def padded(Q, count):
 
 class Store:
     """The documents: before a setup those that were collected, behind it those that are live. `keys` are those that were used, the first
-    epoch's first, and `sizes` are b, B and Q."""
+    epoch's first, `compares_keys` whether a new one may be none of them, and `sizes` are b, B and Q."""
 
-    def __init__(self, keys=()):
+    def __init__(self, keys=(), compares_keys=True):
         self.is_set_up = False
-        self.keys, self.sizes = list(keys), None
+        self.keys, self.compares_keys, self.sizes = list(keys), compares_keys, None
         self.live = {}  # the words of each document, by identifier
         self.holders = {}  # the identifiers with each word, words in the order in which they came first
         self.pairs = 0
@@ -249,7 +249,7 @@ class Store:
 
     def rebuild(self, key):
         """The live documents by rising identifier, set up again under another key."""
-        if key in self.keys:
+        if self.compares_keys and key in self.keys:
             raise Refused(f"key of epoch {self.keys.index(key)}")
         pairs = sum(map(len, self.live.values()))
         if len(self.live) > SETUP_DOCUMENTS:
@@ -264,13 +264,12 @@ class Store:
         return f"rebuilt {counts}"
 
 
-def printed(lines, takes_rebuilds=True):
-    """The printed lines of a script's lines, given without their ends; what is returned is the status. Where rebuilds aren't taken, such a line
-    is a bad one."""
-    store, number, was_refused = Store(), 0, False
+def printed(lines, compares_keys=True):
+    """The printed lines of a script's lines, given without their ends; what is returned is the status."""
+    store, number, was_refused = Store(compares_keys=compares_keys), 0, False
     for number, line in enumerate(lines, 1):
         try:
-            command = command_in(line, takes_rebuilds)
+            command = command_in(line)
             if command is None:
                 continue
             if (command[0] == "key") == bool(store.keys):
@@ -300,9 +299,9 @@ def lines_of(script):
     return lines[:-1] if lines[-1] == b"" else lines
 
 
-def answer(script, takes_rebuilds=True):
+def answer(script, compares_keys=True):
     """The printed bytes and the status."""
-    text, run = [], printed(lines_of(script), takes_rebuilds)
+    text, run = [], printed(lines_of(script), compares_keys)
     while True:
         try:
             text.append(next(run) + "\n")

@@ -145,14 +145,14 @@ def is_twin(line):
     return len(line) <= script_model.LINE_BYTES and [field for field in line.split(b" ") if field] == [b"twin"]
 
 
-def part_answer(lines, first):
+def part_answer(lines, first, compares_keys=True):
     """The refusals of the lines of a script, of which the first has this number; the number of its bad line, which is that behind the
-    last where there is no setup, or None; and its history. A line `rebuild` is a bad one."""
+    last where there is no setup, or None; and its history."""
     script = b"".join(line + b"\n" for line in lines)
-    printed, status = script_model.answer(script, takes_rebuilds=False)
+    printed, status = script_model.answer(script, compares_keys)
     told = printed.decode().splitlines()
     refusals = [line for line in told if line.startswith("refused: ")]
-    history = model.history_in(script, takes_rebuilds=False)
+    history = model.history_in(script, compares_keys)
     bad = None
     if status == 2:
         bad = first - 1 + int(told[-1].rpartition(" ")[2])
@@ -162,14 +162,14 @@ def part_answer(lines, first):
 
 
 def answer(script):
-    """What the program prints of two scripts, and its status."""
+    """What the program prints of two scripts, and its status. The keys of the second one's epochs give no value, so none is refused."""
     lines = script_model.lines_of(script)
     at = next((k for k, line in enumerate(lines) if is_twin(line)), None)
     told, bad, history = part_answer(lines[:at], 1)
     if bad is None and at is None:
         bad = len(lines) + 1
     if bad is None:
-        more, bad, other = part_answer(lines[at + 1:], at + 2)
+        more, bad, other = part_answer(lines[at + 1:], at + 2, compares_keys=False)
         told += more
     status = 2
     if bad is not None:
