@@ -1,0 +1,9 @@
+pub mod Lists
+pub mod Base
+pub mod Held
+pub mod Stops
+pub mod Delivers
+pub mod Sends
+pub mod Runs
+pub mod Given
+pub mod Rows

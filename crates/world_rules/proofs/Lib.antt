@@ -1,0 +1,11 @@
+pub mod Numbered
+pub mod Accepted
+pub mod Answered
+pub mod Partly
+pub mod Pads
+pub mod Texts
+pub mod Kept
+pub mod Rows
+pub mod LastFrames
+pub mod Commands
+pub mod Taken
