@@ -1,0 +1,5 @@
+pub mod Answering
+pub mod Clients
+pub mod Commanding
+pub mod Histories
+pub mod Starting

@@ -1,0 +1,25 @@
+//! A client of a world, with its journal on a disk in memory that may stop inside a call: its commands and renewals, its
+//! start, what it sends and what it makes of an answer. It depends on `client_core` and `client_journal` for the client, and on
+//! `world_disks` for the disk and its stop. After a stop inside the append of a renewal's record either of two keys may be the
+//! last, so a start tries both.
+//! Proved: over a history of epochs and in the phases of `world_model`, a command is refused for its fault, or recorded
+//! before its frames are owed; the client that starts is that of the records that the disk gave; it sends the history's
+//! frame of its number; and an answer leads to the phase that it gives, or ends the client.
+//! Not here: the server (`world_server`), and the pages of an answer to a search.
+//! Side: client.
+#![tactic(auto)]
+
+mod answers;
+mod commanded;
+mod commands;
+mod records;
+mod sends;
+mod starts;
+mod state;
+
+pub use answers::{acknowledged, answered, greeted};
+pub use commanded::Commanded;
+pub use commands::{add, delete, renew, set_up};
+pub use sends::next_frame;
+pub use starts::start_client;
+pub use state::{Gone, State};

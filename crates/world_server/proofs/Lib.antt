@@ -1,0 +1,6 @@
+pub mod Serving
+pub mod Steps
+pub mod Handling
+pub mod Sides
+pub mod Refusals
+pub mod Leading
