@@ -1,0 +1,4 @@
+pub mod Grown
+pub mod GrownEpochs
+pub mod TheoremA
+pub mod TurnsTell
