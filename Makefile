@@ -1,4 +1,4 @@
-# make        proves the crates, then builds the programs into bin/: sse_local, sse_leaks, sse_served, sse_net, vault_served and sse_vault
+# make        proves the crates, then builds the programs into bin/: sse_local, sse_leaks, sse_served, sse_net, vault_served and sse_vault (CPU=x86-64-v3: for newer processors)
 # make try    runs a script, SCRIPT=examples/first.sse, in a minute, without any proof; keeps nothing
 # make demo   builds only bin/sse_local, runs examples/first.sse, and searches a folder of letters
 # make check  the whole gate: every proof, test, must-fail edit and end-to-end check
@@ -23,6 +23,8 @@ status_vault_served = 2
 status_sse_net = 2
 status_sse_vault = 2
 LAST = bin/.seconds
+# the processor to build for; without a name x86-64-v2
+CPU =
 # what make try runs
 SCRIPT = examples/first.sse
 
@@ -47,7 +49,7 @@ bin/%: FORCE
 	@start=$$(date +%s); \
 	rm -f crates/$*/out/$*; \
 	.ci/below $*; \
-	(cd crates/$* && rt run -- $(words_$*) < ../../examples/first.sse > ../../bin/$*.log 2>&1) || [ $$? = "$(status_$*)" ] || { cat bin/$*.log; exit 1; }; \
+	(cd crates/$* && rt run $(CPU:%=--cpu %) -- $(words_$*) < ../../examples/first.sse > ../../bin/$*.log 2>&1) || [ $$? = "$(status_$*)" ] || { cat bin/$*.log; exit 1; }; \
 	cp crates/$*/out/$* bin/$* && \
 	echo $$(( $$(date +%s) - start )) > $(LAST)
 
