@@ -3,6 +3,7 @@ records of a client"). It is only read here."""
 from __future__ import annotations
 
 import bisect
+import hashlib
 import mmap
 import os
 import re
@@ -226,28 +227,22 @@ class Journal(Records):
 
     # As a script.
 
-    def scripts(self, searches: Sequence[Tuple[int, str]]) -> Iterator[List[str]]:
-        """The lines of a script for each epoch that the records give, with the searches among them; without key lines. A rebuild is the setup of what is
-        live then."""
-        live: Dict[int, str] = {}  # the words of each document, as they stand on a line
-        script, setup, left, content = [], "", list(reversed(searches)), self.content
+    def script(self, searches: Sequence[Tuple[int, str]]) -> List[str]:
+        """The lines of a script with these records and the searches among them; without a key line. A rebuild has a key made of its mark,
+        which is all that its record has of its own."""
+        lines, left, content = [], list(reversed(searches)), self.content
         for number, (begin, end) in enumerate(payloads(content)):
             kind = content[begin]
             if kind == REBUILD:
-                yield script
-                script = [*(f"doc {identifier}{words}" for identifier, words in sorted(live.items())), setup]
+                lines.append(f"rebuild {hashlib.sha256(content[begin + 1 : begin + 1 + MARK_BYTES]).hexdigest()}")
             elif kind == DELETION:
-                identifier = int.from_bytes(content[begin + 1 : end], "big")
-                live.pop(identifier, None)
-                script.append(f"del {identifier}")
+                lines.append(f"del {int.from_bytes(content[begin + 1 : end], 'big')}")
             else:
                 for identifier, count, place, _ in documents(content, begin, end):
-                    live[identifier] = "".join(f" {word}" for word in words_at(content, place, count))
-                    script.append(f"{'add' if kind == ADDITION else 'doc'} {identifier}{live[identifier]}")
+                    lines.append(" ".join(["add" if kind == ADDITION else "doc", str(identifier), *words_at(content, place, count)]))
             if kind in SETUPS:
                 sizes = [int.from_bytes(content[place : place + 2], "big") for place in range(begin + 17, begin + SETUPS[kind], 2)]
-                setup = " ".join(["setup", *map(str, sizes)])
-                script.append(setup)
+                lines.append(" ".join(["setup", *map(str, sizes)]))
             while left and left[-1][0] <= number + 1:
-                script.append(f"find {left.pop()[1]}")
-        yield script
+                lines.append(f"find {left.pop()[1]}")
+        return lines

@@ -1,8 +1,6 @@
 """`archive status` and `archive leaks`: what is indexed, and what the server has learned."""
 from __future__ import annotations
 
-import re
-
 from . import programs, vault
 from .folder import SEARCHES
 from .opened import Opened
@@ -11,9 +9,6 @@ from .report import nearer, on_a_line
 from .state import Standing, trouble
 from .statuses import WORDS, Trouble
 from .texts_file import names_lost
-
-# the number that a line of sse_leaks begins with, and those of the commands that it names
-COMMAND_NUMBERS = re.compile(r"^\d+|(?<=command )\d+")
 
 
 def status(archive: Opened, is_offline: bool, progress: Progress) -> int:
@@ -64,19 +59,15 @@ def tell_vault(archive: Opened, is_offline: bool) -> None:
 
 
 def leaks(archive: Opened, progress: Progress) -> int:
-    """Prints what the server has learned, a line for each command; commands are counted on through all epochs. Returns the status."""
+    """Prints what the server has learned, a line for each command. Returns the status."""
     journal = archive.journal()
     if not journal.records:
         archive.texts()
         raise Trouble(WORDS, "nothing was indexed yet, so the server has learned nothing")
     progress.show("the history of {:,} records is looked through", journal.records)
-    key_line, told, ended = f"key {archive.key()}", 0, 0
-    for script in journal.scripts(archive.folder.searches()):
-        lines, ended = programs.run("\n".join([key_line, *script]).encode() + b"\n", "sse_leaks")
-        progress.end()
-        for line in lines:
-            print(COMMAND_NUMBERS.sub(lambda number, before=told: str(int(number[0]) + before), line))
-        if ended:
-            break
-        told += len(lines)
+    script = [f"key {archive.key()}", *journal.script(archive.folder.searches())]
+    lines, ended = programs.run("\n".join(script).encode() + b"\n", "sse_leaks")
+    progress.end()
+    for line in lines:
+        print(line)
     return ended
