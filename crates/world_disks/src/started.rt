@@ -1,4 +1,5 @@
-ghost use Rattle.std.specs.Prelude.{ℕ, List, Bool, IfSome};
+ghost use Rattle.std.specs.Prelude.{◌≡◌, ◌-◌, ℕ, List, Bool, IfSome, OnOk};
+ghost use Rattle.outside_memory_disk.specs.MemDisk.{next_call_of};
 ghost use Rattle.world_model.specs.World.{Disk as Model};
 ghost use Rattle.world_model.specs.Events.{left};
 ghost use Rattle.world_disks.specs.Disks.{IsDiskOf, Holds, IsStarted};
@@ -18,13 +19,14 @@ pub enum Unstarted {
     Broken,
 }
 
-// Promise P306, also here; clauses: made, disk
+// Promise P306, also here; clauses: made, disk, counted
 /// Starts the journal of a disk from which starting gives records, and counts the calls of the disk; nothing if it isn't
 /// started.
 pub fn start_counted(alloc: Global, disk: &mut MemDisk) -> (Option<Journal>, u64)
     requires gives { (model : Model (List ℕ)) × IsDiskOf model disk.old }
     ensures made { IfSome result.0 (λ journal. (model : Model (List ℕ)) → IsDiskOf model disk.old → (there : Bool) × Holds (left there model).records journal disk.new) }
     ensures disk { (model : Model (List ℕ)) → IsDiskOf model disk.old → IsDiskOf model disk.new }
+    ensures counted { result.1 ≡ next_call_of disk.new - next_call_of disk.old }
 {
     let before = disk.calls();
     let started = Journal::start(alloc, disk);
@@ -35,7 +37,7 @@ pub fn start_counted(alloc: Global, disk: &mut MemDisk) -> (Option<Journal>, u64
     }
 }
 
-// Promise P306, also here; clauses: started
+// Promise P306, also here; clauses: started, counted
 /// Starts the journal on a disk that may stop inside a call, and counts the calls of the disk.
 pub fn start(
     alloc: Global,
@@ -44,6 +46,7 @@ pub fn start(
 ) -> (Result<Journal, Unstarted>, u64)
     requires gives { (model : Model (List ℕ)) × IsDiskOf model disk.old }
     ensures started { (model : Model (List ℕ)) → IsDiskOf model disk.old → IsStarted model stop result.0 result.1 disk.new }
+    ensures counted { OnOk result.0 (result.1 ≡ next_call_of disk.new - next_call_of disk.old) }
 {
     let (started, calls) = start_counted(alloc, disk);
     match stop_if_met(disk, stop, calls) {
