@@ -16,6 +16,7 @@ use Rattle.world_rules.specs.Changes.{Change}
 use Rattle.world_rules.specs.Promises.{StoreWorld}
 use Rattle.world_rules.specs.Rules.{store_rules}
 use Rattle.world_server.proofs.Leading.{delivered_leads, missing_leads}
+use Rattle.world_server.specs.Replies.{CanWrite}
 use Rattle.world_server.specs.Sides.{ServerPart, IsServer, Runs, Delivers}
 use Rattle.world_server.specs.Waiting.{frame_of, IsMessage, IsKept, Waits, outcome_of, server_part, with_server}
 use Rattle.world_server.specs.declared.replies.Replies.{Replies}
@@ -55,7 +56,7 @@ frame_sent message bytes is = record { frame = frame_of message; grammar = is.gr
 
 -- The reply that waits.
 
-module _ (rules : Rules Change FrameText (List ℕ) (List ReplyText)) (reply : Reply (List ReplyText)) (replies : Replies) (is_kept : IsKept reply replies) where
+module _ (rules : Rules Change FrameText (List ℕ) (List ReplyText)) (reply : Reply (List ReplyText)) (replies : Replies) (is_kept : IsKept reply replies × CanWrite replies) where
   kept_by : (b : Bool) → IsWaiting (if b then Some reply else None) (if (b && true) && true then Some replies else None)
   kept_by true = is_kept
   kept_by false = tt
@@ -92,12 +93,12 @@ module _ (f : KeyedFn) (key : List ℕ) (w : StoreWorld) (place : ℕ) (store' :
     abbrev leaves : (now : Option (Reply (List ReplyText))) × Waits f (store_rules f key) w place d now × Leads (store_rules f key) w (Deliver place) (outcome_of d) (with_server w came.0 now)
     leaves = delivered_leads f (store_rules f key) (server_rules f key) w place message d came.0 at is.kind is.grammar (running_taken (server_part w) store disk stop server) server.to_come came.1
 
-    pub after_reply : (kept : Replies) (waits is_last : Bool) → d ≡ Replied kept → waits ≡ waits_in w.client → is_last ≡ (place + 1 == length sent) → IsAfter d (kept_reply waiting kept (waits && is_last))
-    after_reply kept waits is_last e waiting_is last_is =
+    pub after_reply : (kept : Replies) (waits is_last : Bool) → CanWrite kept → d ≡ Replied kept → waits ≡ waits_in w.client → is_last ≡ (place + 1 == length sent) → IsAfter d (kept_reply waiting kept (waits && is_last))
+    after_reply kept waits is_last can e waiting_is last_is =
         let now = leaves.0 in
         let replied : Waits f (store_rules f key) w place (Replied kept) now = subst (λ x. Waits f (store_rules f key) w place x now) e leaves.1 in
         let last : is_last ≡ (place + 1 == length w.sent) = last_is ∙ ap (λ n. place + 1 == n) (sym (as_many w.sent sent link.messages)) in
-        let kept_is = waiting_kept (store_rules f key) replied.0 kept replied.1 is_last waits w.client w.waiting waiting waiting_is link.waits in (
+        let kept_is = waiting_kept (store_rules f key) replied.0 kept (replied.1, can) is_last waits w.client w.waiting waiting waiting_is link.waits in (
           with_server w came.0 now,
           leaves.2,
           refl,

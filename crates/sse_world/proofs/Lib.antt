@@ -1,3 +1,4 @@
 pub mod Rules
+pub mod Counting
 pub mod Delivering
 pub mod Reached

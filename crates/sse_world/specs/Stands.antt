@@ -6,6 +6,11 @@ use Rattle.world_model.specs.World.{Client, Message, Reply}
 use Rattle.world_model.specs.Events as model
 use Rattle.world_rules.specs.Changes.{Change}
 use Rattle.world_rules.specs.Promises.{StoreWorld}
+use Rattle.outside_memory_disk.specs.declared.mem_disk.MemDisk.{MemDisk}
+use Rattle.sse_server.specs.StoreView.{StoreView}
+use Rattle.world_disks.specs.declared.stop.Stop as code
+use Rattle.world_server.specs.Replies.{CanWrite}
+use Rattle.world_server.specs.Sides.{IsLeftOf}
 use Rattle.world_server.specs.Waiting.{IsMessage, IsKept, server_part, with_server}
 use Rattle.world_server.specs.declared.replies.Replies.{Replies}
 use Rattle.sse_world.specs.declared.event.Outcome.{Outcome}
@@ -18,12 +23,12 @@ AreMessages [] (bytes ∷ sent) = ⊥
 AreMessages (message ∷ messages) [] = ⊥
 AreMessages (message ∷ messages) (bytes ∷ sent) = IsMessage message bytes × AreMessages messages sent
 
--- this reply waits
+-- this reply waits, and can be written
 abbrev pub IsWaiting : Option (Reply (List ReplyText)) → Option Replies → Type 0
 IsWaiting None None = Unit {0}
 IsWaiting None (Some replies) = ⊥
 IsWaiting (Some reply) None = ⊥
-IsWaiting (Some reply) (Some replies) = IsKept reply replies
+IsWaiting (Some reply) (Some replies) = IsKept reply replies × CanWrite replies
 
 -- what was sent, and what waits
 pub record IsLink (w : StoreWorld) (sent : List (List ℕ)) (waiting : Option Replies) : Type 0 where
@@ -48,3 +53,10 @@ outcome_in NoMemory = model.NoMemory
 -- from one world to the other nothing has changed but the server and the reply that waits
 abbrev pub IsServersWork : (w v : StoreWorld) → Type 0
 IsServersWork w v = v ≡ with_server w (server_part v) v.waiting
+
+-- A server that runs after a frame has what is left of its stop after the calls of its disk; so it is too if it ran out of memory inside
+-- one, and runs no more.
+abbrev pub IsCountedIn : Outcome → Option StoreView → (before : MemDisk) → Option code.Stop → (after : MemDisk) → Option code.Stop → Type 0
+IsCountedIn Done (Some store) before stop after now = IsLeftOf before stop after now
+IsCountedIn NoMemory None before stop after now = IsLeftOf before stop after now
+IsCountedIn _ store before stop after now = Unit {0}

@@ -8,8 +8,10 @@
 
 mod event;
 mod link;
+mod sent;
 mod server_events;
 
 pub use event::Outcome;
 pub use link::Link;
+pub use sent::Sent;
 pub use server_events::{deliver, start_server, stop_server};

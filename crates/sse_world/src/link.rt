@@ -1,6 +1,6 @@
 ghost use Rattle.std.specs.Prelude.{◌≡◌, [], None};
 
-use sse_frames::Items;
+use crate::sent::Sent;
 use std::alloc::Global;
 use world_server::Replies;
 
@@ -8,18 +8,18 @@ use world_server::Replies;
 /// one, where the client waits for it.
 #[derive(Drop)]
 pub struct Link {
-    pub sent: Items<Items<u8>>,
+    pub sent: Sent,
     pub waiting: Option<Replies>,
 }
 
 impl Link {
     /// A link over which nothing was sent.
     pub fn new(alloc: Global) -> Link
-        ensures sent { result.sent ≡ [] }
+        ensures sent { result.sent.frames ≡ [] }
         ensures waiting { result.waiting ≡ None }
     {
         Link {
-            sent: Items::new(alloc),
+            sent: Sent::new(alloc),
             waiting: None,
         }
     }

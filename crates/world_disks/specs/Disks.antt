@@ -3,7 +3,8 @@ use Rattle.std.specs.Prelude.{◌≡◌, ◌⊎◌, ℕ, ◌<◌, ◌≤◌, Boo
 use Rattle.sse_journal.specs.Files.{Gives}
 use Rattle.sse_journal.specs.JournalView.{broken_by, IsJournalOf}
 use Rattle.sse_journal.specs.declared.journal.Journal.{Journal}
-use Rattle.outside_memory_disk.specs.MemDisk.{file_of, images_of}
+use Rattle.outside_memory_disk.specs.MemDisk.{began_of, changes_on, fails_of, fail_more_of, file_of, images_of}
+use Rattle.outside_memory_disk.specs.Picked.{image_picked}
 use Rattle.outside_memory_disk.specs.declared.mem_disk.MemDisk.{MemDisk}
 use Rattle.world_model.specs.World.{Disk}
 use Rattle.world_model.specs.Events.{left, in_doubt, settled}
@@ -16,6 +17,13 @@ use Rattle.world_disks.specs.declared.started.Unstarted.TheVariants as unstarted
 -- from each file that a crash may leave, starting gives the records, and the one in doubt or not
 abbrev pub IsDiskOf : Disk (List ℕ) → MemDisk → Type 0
 IsDiskOf model disk = (image : List ℕ) → images_of disk image → (there : Bool) × Gives (left there model).records image
+
+-- a disk that begins as the image of this number that a crash of the old one leaves; it has made no change, and none of its calls is to fail
+pub record IsImageOf (pick : ℕ) (old new : MemDisk) : Type 0 where
+  pub began : began_of new ≡ image_picked pick (began_of old) (changes_on old)
+  pub none : changes_on new ≡ []
+  pub fails : fails_of new ≡ []
+  pub fail_more : fail_more_of new ≡ None
 
 -- the journal of these records, which takes more
 pub record Holds (payloads : List (List ℕ)) (journal : Journal) (disk : MemDisk) : Type 0 where

@@ -1,10 +1,9 @@
-ghost use Rattle.std.specs.Prelude.{◌≡◌, ◌+◌, ◌-◌, ◌^◌, ◌≤◌, ℕ, List, min, Some, OnOk, OnErr, Bool};
-ghost use Rattle.outside_memory_disk.specs.MemDisk.{began_of, changes_on, next_call_of, fail_more_of};
-ghost use Rattle.outside_memory_disk.specs.Picked.{image_picked};
+ghost use Rattle.std.specs.Prelude.{◌≡◌, ◌+◌, ◌-◌, ◌^◌, ◌≤◌, ℕ, List, min, Some, IfSome, OnOk, OnErr, Bool};
+ghost use Rattle.outside_memory_disk.specs.MemDisk.{next_call_of, fail_more_of};
 ghost use Rattle.sse_journal.specs.declared.journal.Journal.{Journal};
 ghost use Rattle.world_model.specs.World.{Disk as Model};
 ghost use Rattle.world_model.specs.Events.{left};
-ghost use Rattle.world_disks.specs.Disks.{IsDiskOf, Holds, IsMet, IsUnmet};
+ghost use Rattle.world_disks.specs.Disks.{IsDiskOf, IsImageOf, Holds, IsMet, IsUnmet};
 
 use outside_memory_disk::MemDisk;
 use std::alloc::AllocError;
@@ -31,7 +30,7 @@ pub enum Met {
 // Promise P305, also here; clauses: image, settles, err
 /// The disk becomes the image of this number that a crash now may leave. Without memory it stays.
 pub fn crash(disk: &mut MemDisk, pick: u64) -> Result<(), AllocError>
-    ensures image { OnOk result (began_of disk.new ≡ image_picked pick (began_of disk.old) (changes_on disk.old)) }
+    ensures image { OnOk result (IsImageOf pick disk.old disk.new) }
     ensures settles { OnOk result ((model : Model (List ℕ)) → IsDiskOf model disk.old → (there : Bool) × IsDiskOf (left there model) disk.new) }
     ensures err { OnErr result (disk.new ≡ disk.old) }
 {
@@ -54,11 +53,12 @@ pub fn plan_stop(disk: &mut MemDisk, stop: Stop)
 }
 
 // Promise P305 (caller): A stop comes exactly if its number is among the disk's calls; the disk then becomes the chosen image of a crash.
-//   clauses: yes, no, no_memory; assumes: earlier calls
+//   clauses: yes, image, no, no_memory; assumes: earlier calls
 /// Whether a stop is among so many calls of a disk. Then the disk becomes the image that the stop leaves, if there is
 /// memory for it; else the disk stays.
 pub fn stop_if_met(disk: &mut MemDisk, stop: Option<Stop>, calls: u64) -> Met
     ensures yes { result ≡ Met.Yes → IsMet stop calls × ((model : Model (List ℕ)) → IsDiskOf model disk.old → (there : Bool) × IsDiskOf (left there model) disk.new) }
+    ensures image { result ≡ Met.Yes → IfSome stop (λ s. IsImageOf s.pick disk.old disk.new) }
     ensures no { result ≡ Met.No → IsUnmet stop calls × (disk.new ≡ disk.old) }
     ensures no_memory { result ≡ Met.NoMemory → IsMet stop calls × (disk.new ≡ disk.old) }
 {

@@ -15,11 +15,11 @@ use Rattle.world_model.specs.World.{Message, Hello, Update, Search, Reply, Next,
 use Rattle.world_model.specs.Events as model
 use Rattle.world_model.specs.Events.{Deliver, StartServer, StopServer, End, Made, Crashes, Lacks, Breaks, Leads, happens, delivered, handled, kept, calls_disk, takes_message, EndsAs, EndsCalling, CanEnd, waiting_with, stop_behind, stop_before}
 use Rattle.world_server.proofs.Handling.{refused_replies}
-use Rattle.world_server.proofs.Refusals.{refusal_is, untaken_refused, expected_first}
+use Rattle.world_server.proofs.Refusals.{refusal_is, untaken_refused, expected_first, of_search}
 use Rattle.world_server.proofs.Sides.{later_none}
 use Rattle.world_server.specs.Replies.{replies_in}
 use Rattle.world_server.specs.Sides.{ServerPart, Delivers, Takes, Stays, Starts, IsAnsweredBy, IsUntaken, IsEndOf, taking, starting, stopping}
-use Rattle.world_server.specs.Waiting.{frame_of, IsOfKind, IsKept, AreServerRules, Waits, outcome_of, outcome_of_start, server_part, with_server}
+use Rattle.world_server.specs.Waiting.{frame_of, IsOfKind, IsKept, IsOfSearch, AreServerRules, Waits, outcome_of, outcome_of_start, server_part, with_server}
 use Rattle.world_server.specs.declared.replies.Replies.{Replies}
 use Rattle.world_server.specs.declared.server_side.Delivered.{Delivered}
 use Rattle.world_server.specs.declared.server_side.Delivered.TheVariants.{Nothing, Replied, NoMemory}
@@ -167,7 +167,9 @@ module _ {C W : Type 0} (f : KeyedFn) (rules : Rules C FrameText W (List ReplyTe
       (refused.0, replied ∙ sym (refused_replies f (taken_all at_first taken) frame refused.0 refused.1), refusal_is (taken_all at_first taken) frame refused.0 refused.1) comes
       (λ old. ap (λ b. if b then model.kept rules old place taken frame (Made true) else model.replied rules old place Refused) takes)
   replied_to w place taken (Search frame) server sent are comes kind grammar not all replied =
-      stays_replied w place taken (Search frame) server sent refl (Shown (rules.answer taken frame)) all (replied ∙ sym (laws.answer taken frame)) comes (λ old. refl)
+      let answer = laws.answer taken frame in
+      let of = subst (λ x. IsOfSearch (step f (taken_all at_first taken) x).1) (sym kind.1) (of_search f (taken_all at_first taken) kind.0) in
+      stays_replied w place taken (Search frame) server sent refl (Shown (rules.answer taken frame)) all (replied ∙ sym answer, subst IsOfSearch (sym answer) of) comes (λ old. refl)
 
   took_message : (w : StoreWorld) (place : ℕ) (taken : List FrameText) (message : Message FrameText) (d : Delivered) (new : ServerPart) → w.server ≡ Some taken → slice_get w.sent place ≡ Some message
       → IsOfKind message → Takes (server_part w) taken (frame_of message) d new → Leaves w place d new

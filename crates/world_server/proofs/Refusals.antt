@@ -1,13 +1,18 @@
 -- Why a server doesn't take an update frame, and the number of the frame that it expects.
-use Rattle.std.proofs.Common.{◌≡◌, ℕ, ◌+◌, Bool, true, false, List, [], ◌∷◌, length, refl, subst, arith}
+use Rattle.std.proofs.Common.{◌≡◌, ℕ, ◌+◌, Bool, true, false, List, [], ◌∷◌, length, inl, inr, refl, subst, arith}
 use Rattle.std.specs.Prelude.{Option, Some, None, IsSome, if◌then◌else◌}
+use Rattle.std.specs.Option.{option_map_or}
+use Rattle.keyed_fn.specs.KeyedFn.{KeyedFn}
 use Rattle.sse_frames.specs.Frames.{FrameText, InGrammar, Hello, SetupBegin, SetupDict, SetupArray, SetupEnd, AddFrame, DeleteFrame, SearchFrame, update_number}
-use Rattle.sse_frames.specs.Replies.{ReplyText, Number, Clash, OutOfPlace}
+use Rattle.sse_frames.specs.Replies.{ReplyText, Number, Clash, BadList, OutOfPlace}
+use Rattle.sse_frames.specs.SentParts.{pages}
+use Rattle.search_token.specs.TokenKeys.{keys_of_bytes}
 use Rattle.server_core.specs.Refusal.{refusal, in_place, is_next, clash, clash_at, first_of_two}
-use Rattle.server_core.specs.State.{ServerState, at_first}
-use Rattle.server_core.specs.Step.{taken}
+use Rattle.server_core.specs.Search.{search_result}
+use Rattle.server_core.specs.State.{ServerState, at_first, is_ready}
+use Rattle.server_core.specs.Step.{taken, step}
 use Rattle.sse_server.specs.Taken.{IsTaken, AreTaken, taken_all}
-use Rattle.world_server.specs.Waiting.{IsRefusal}
+use Rattle.world_server.specs.Waiting.{IsRefusal, IsOfSearch}
 
 none_is : (r : ReplyText) → None ≡ Some r → IsRefusal r
 none_is r e = cc
@@ -64,3 +69,20 @@ expected s (x ∷ xs) are = omega (arith, expected (taken s x) xs are.1, taken_n
 
 pub expected_first : (frames : List FrameText) → AreTaken at_first frames → (taken_all at_first frames).next ≡ length frames
 expected_first frames are = omega (arith, expected at_first frames are)
+
+-- Searches.
+
+replies_when : ServerState → (ready : Bool) → (found : Option (List ℕ)) → List ReplyText
+replies_when s ready found =
+    let came : ServerState × List ReplyText = option_map_or (λ reply. (s, reply ∷ [])) (if ready then None else Some OutOfPlace) (s, option_map_or pages found (BadList ∷ [])) in came.1
+
+of_search_when : (s : ServerState) (ready : Bool) (found : Option (List ℕ)) → IsOfSearch (replies_when s ready found)
+unfolding replies_when
+of_search_when s false found = inr (inr refl)
+of_search_when s true None = inr (inl refl)
+of_search_when s true (Some ids) = inl (ids, refl)
+
+-- what a server replies to a search is the pages of an answer, or why there is none
+pub of_search : (f : KeyedFn) (s : ServerState) (token : List ℕ) → IsOfSearch (step f s (SearchFrame token)).1
+unfolding replies_when
+of_search f s token = of_search_when s (is_ready s.stage) (search_result f s (keys_of_bytes token))

@@ -3,6 +3,7 @@ use Rattle.std.proofs.Common.{◌≡◌, ◌⊎◌, ℕ, zero, suc, Bool, true, 
 use Rattle.std.specs.Prelude.{Option, Some, None, is_some, IsSome, IfSome, ◌<◌, ◌-◌, nat_lt, if◌then◌else◌, not, Result, Ok, Err, OnOk, OnErr}
 use Rattle.std.proofs.lemmas.List.{append-nil}
 use Rattle.keyed_fn.specs.KeyedFn.{KeyedFn}
+use Rattle.outside_memory_disk.specs.MemDisk.{next_call_of}
 use Rattle.outside_memory_disk.specs.declared.mem_disk.MemDisk.{MemDisk}
 use Rattle.sse_frames.specs.Frames.{FrameText, InGrammar, update_number}
 use Rattle.sse_frames.specs.Replies.{ReplyText}
@@ -24,7 +25,7 @@ use Rattle.world_server.proofs.Steps.{refused_untaken}
 use Rattle.world_server.specs.Handling.{IsHandled}
 use Rattle.world_server.specs.Opening.{IsOpened}
 use Rattle.world_server.specs.Serving.{Serves, IsDiskOfFrames, spelled}
-use Rattle.world_server.specs.Sides.{ServerPart, IsServer, Runs, Delivers, Starts, IsAnsweredBy, IsUntaken, taking, starting, halted, stopping, stop_in}
+use Rattle.world_server.specs.Sides.{ServerPart, IsServer, Runs, Delivers, Starts, IsAnsweredBy, IsLeftOf, IsUntaken, taking, starting, halted, stopping, stop_in}
 use Rattle.world_server.specs.declared.handled.Handled.TheVariants as handled
 use Rattle.world_server.specs.declared.server_side.Delivered.{Delivered}
 use Rattle.world_server.specs.declared.server_side.Delivered.TheVariants.{Stopped, NoMemory, Broken}
@@ -128,6 +129,16 @@ later_none (Some s) comes = by s.call s.pick comes
 
     by : (call pick : ℕ) → 0 < call → later 0 (Some (record { call = call; pick = pick })) ≡ Some (record { call = call; pick = pick })
     by call pick some = kept call pick (nat_lt 0 call) (let e : nat_lt 0 call ≡ true = grind (arith, some) in e)
+
+-- what is left of a stop that is to come, after no call of the disk, and after calls that were counted
+pub left_same : (before after : MemDisk) (stop : Option code.Stop) → after ≡ before → IfSome (stop_in stop) (λ s. 0 < s.call) → IsLeftOf before stop after stop
+left_same before after stop same comes =
+    let count = ap next_call_of same in
+    let none : next_call_of after - next_call_of before ≡ 0 = omega (arith, count) in
+    sym (later_none (stop_in stop) comes) ∙ sym (ap (λ n. later n (stop_in stop)) none)
+
+pub left_counted : (before after : MemDisk) (stop now : Option code.Stop) (calls : ℕ) → calls ≡ next_call_of after - next_call_of before → stop_in now ≡ later calls (stop_in stop) → IsLeftOf before stop after now
+left_counted before after stop now calls counted is = is ∙ ap (λ n. later n (stop_in stop)) counted
 
 -- Frames.
 

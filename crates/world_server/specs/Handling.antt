@@ -3,6 +3,8 @@ use Rattle.std.specs.Prelude.{◌≡◌, ◌⊎◌, ℕ, Bool, List, [], ◌∷�
 use Rattle.keyed_fn.specs.KeyedFn.{KeyedFn}
 use Rattle.outside_memory_disk.specs.declared.mem_disk.MemDisk.{MemDisk}
 use Rattle.sse_frames.specs.Frames.{FrameText, update_number}
+use Rattle.sse_frames.specs.Replies as replies
+use Rattle.sse_frames.specs.Replies.{InReplies}
 use Rattle.sse_journal.specs.JournalView.{broken_by}
 use Rattle.server_core.specs.State.{at_first}
 use Rattle.server_core.specs.Step.{step}
@@ -20,8 +22,8 @@ use Rattle.world_server.specs.declared.handled.Handled.TheVariants.{Took, Replie
 abbrev pub IsHandled : KeyedFn → List FrameText → FrameText → Option Stop → Handled → (calls : ℕ) → StoreView → MemDisk → Type 0
 IsHandled f frames frame stop (Took q) calls store disk =
     IsUnmet stop calls × IsTaken (taken_all at_first frames) frame × (update_number frame ≡ Some q) × Serves (frames ++ frame ∷ []) store disk
-IsHandled f frames frame stop (Replied replies) calls store disk =
-    (IsTaken (taken_all at_first frames) frame → ⊥) × (replies_in replies ≡ (step f (taken_all at_first frames) frame).1) × Serves frames store disk
+IsHandled f frames frame stop (Replied all) calls store disk =
+    (IsTaken (taken_all at_first frames) frame → ⊥) × (replies_in all ≡ (step f (taken_all at_first frames) frame).1) × Serves frames store disk
 IsHandled f frames frame stop Stopped calls store disk =
     IsMet stop calls × IsTaken (taken_all at_first frames) frame × (there : Bool) × IsDiskOfFrames (left there (in_doubt (settled frames) frame)) disk
 IsHandled f frames frame stop NoMemory calls store disk = Serves frames store disk
@@ -30,5 +32,17 @@ IsHandled f frames frame stop Broken calls store disk =
 
 -- its replies can be written
 abbrev pub CanReply : Handled → Type 0
-CanReply (Replied replies) = CanWrite replies
+CanReply (Took q) = InReplies (replies.Took q)
+CanReply (Replied all) = CanWrite all
 CanReply _ = Unit {0}
+
+-- it took the frame, or a call of its disk failed without a stop: then the disk is as the calls left it
+abbrev pub HasCalled : Handled → Type 0
+HasCalled (Took q) = Unit {0}
+HasCalled Broken = Unit {0}
+HasCalled other = ⊥
+
+-- it replied, and took nothing
+abbrev pub HasReplied : Handled → Type 0
+HasReplied (Replied all) = Unit {0}
+HasReplied other = ⊥

@@ -1,6 +1,7 @@
 -- The server's part of a world, and what its events make of it.
-use Rattle.std.specs.Prelude.{◌≡◌, ◌⊎◌, ◌<◌, ℕ, zero, suc, Bool, List, [], ◌∷◌, ◌++◌, Option, None, Some, IfSome, Result, Ok, Err}
+use Rattle.std.specs.Prelude.{◌≡◌, ◌⊎◌, ◌<◌, ◌-◌, ℕ, zero, suc, Bool, List, [], ◌∷◌, ◌++◌, Option, None, Some, IfSome, IsSome, Result, Ok, Err}
 use Rattle.keyed_fn.specs.KeyedFn.{KeyedFn}
+use Rattle.outside_memory_disk.specs.MemDisk.{next_call_of}
 use Rattle.outside_memory_disk.specs.declared.mem_disk.MemDisk.{MemDisk}
 use Rattle.sse_frames.specs.Frames.{FrameText, update_number}
 use Rattle.sse_frames.specs.Replies as replies
@@ -12,8 +13,8 @@ use Rattle.world_disks.specs.declared.started.Unstarted.{Unstarted}
 use Rattle.world_disks.specs.declared.started.Unstarted.TheVariants as unstarted
 use Rattle.world_disks.specs.declared.stop.Stop as code
 use Rattle.world_model.specs.World.{Disk, Stop}
-use Rattle.world_model.specs.Events.{End, Made, Crashes, Lacks, Breaks, left, in_doubt, settled, stop_behind, stop_before, EndsCalling}
-use Rattle.world_server.specs.Replies.{replies_in}
+use Rattle.world_model.specs.Events.{End, Made, Crashes, Lacks, Breaks, left, in_doubt, settled, later, stop_behind, stop_before, EndsCalling}
+use Rattle.world_server.specs.Replies.{replies_in, CanWrite}
 use Rattle.world_server.specs.Serving.{Serves, IsDiskOfFrames}
 use Rattle.world_server.specs.declared.replies.Replies.{Replies}
 use Rattle.world_server.specs.declared.server_side.Delivered.{Delivered}
@@ -115,3 +116,21 @@ pub record Starts (old : ServerPart) (result : Result (Unit {0}) Unstarted) (new
 abbrev pub stopping : ServerPart → (call pick : ℕ) → (there : Bool) → ServerPart
 stopping part zero pick there = record { disk = left there part.disk; taken = None; stop = None }
 stopping part (suc call) pick there = record part { stop = Some (record { call = suc call; pick = pick }) }
+
+-- a stop is what is left of one after the calls that were made of the disk since
+abbrev pub IsLeftOf : (before : MemDisk) → Option code.Stop → (after : MemDisk) → Option code.Stop → Type 0
+IsLeftOf before stop after now = stop_in now ≡ later (next_call_of after - next_call_of before) (stop_in stop)
+
+-- so it is of a server that replied, or that a call of its disk failed without a stop; if it has stopped, no store is there, and without
+-- memory it stays
+abbrev pub IsCountedBy : Delivered → Option StoreView → (before : MemDisk) → Option code.Stop → (after : MemDisk) → Option code.Stop → Type 0
+IsCountedBy Nothing store before stop after now = Unit {0}
+IsCountedBy (Replied kept) store before stop after now = IsLeftOf before stop after now
+IsCountedBy Stopped store before stop after now = store ≡ None
+IsCountedBy NoMemory store before stop after now = IsSome store
+IsCountedBy Broken store before stop after now = IsLeftOf before stop after now
+
+-- the replies can be written
+abbrev pub CanDeliver : Delivered → Type 0
+CanDeliver (Replied kept) = CanWrite kept
+CanDeliver other = Unit {0}

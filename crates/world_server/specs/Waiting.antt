@@ -1,10 +1,11 @@
 -- What passes between a client and the server of a world: messages as frames, and the replies that wait.
-use Rattle.std.specs.Prelude.{◌≡◌, ℕ, ◌+◌, ◌==◌, true, false, List, [], ◌∷◌, length, IsSome, Option, Some, Result, Ok, Err}
+use Rattle.std.specs.Prelude.{◌≡◌, ◌⊎◌, ℕ, ◌+◌, ◌==◌, true, false, List, [], ◌∷◌, length, IsSome, Option, Some, Result, Ok, Err}
 use Rattle.keyed_fn.specs.KeyedFn.{KeyedFn}
 use Rattle.sse_frames.specs.Frames as frames
 use Rattle.sse_frames.specs.Frames.{FrameText, InGrammar, SearchFrame, update_number, frame_bytes}
 use Rattle.sse_frames.specs.Replies as replies
 use Rattle.sse_frames.specs.Replies.{ReplyText}
+use Rattle.sse_frames.specs.SentParts.{pages}
 use Rattle.server_core.specs.State.{at_first}
 use Rattle.server_core.specs.Step.{step}
 use Rattle.sse_server.specs.Taken.{IsTaken, taken_all}
@@ -45,11 +46,15 @@ IsRefusal (replies.Clash what place) = Unit {0}
 IsRefusal replies.OutOfPlace = Unit {0}
 IsRefusal reply = ⊥
 
+-- replies to a search: the pages of an answer, or the cause why there is none
+abbrev pub IsOfSearch : List ReplyText → Type 0
+IsOfSearch all = ((ids : List ℕ) × (all ≡ pages ids)) ⊎ (all ≡ replies.BadList ∷ []) ⊎ (all ≡ replies.OutOfPlace ∷ [])
+
 -- what the server replied is this reply of the model
 abbrev pub IsKept : Reply (List ReplyText) → Replies → Type 0
 IsKept (Next n) kept = replies_in kept ≡ replies.Next n ∷ []
 IsKept (Took n) kept = replies_in kept ≡ replies.Took n ∷ []
-IsKept (Shown all) kept = replies_in kept ≡ all
+IsKept (Shown all) kept = (replies_in kept ≡ all) × IsOfSearch all
 IsKept Refused kept = (reply : ReplyText) × (replies_in kept ≡ reply ∷ []) × IsRefusal reply
 
 -- what a frame comes to that came to the server

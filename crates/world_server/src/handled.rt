@@ -1,9 +1,9 @@
-ghost use Rattle.std.specs.Prelude.{◌≡◌, ◌-◌, ◌<◌, ℕ, List, length};
+ghost use Rattle.std.specs.Prelude.{◌≡◌, ◌-◌, ◌<◌, List, length};
 ghost use Rattle.keyed_fn.specs.KeyedFn.{keyed_fn};
 ghost use Rattle.outside_memory_disk.specs.MemDisk.{next_call_of};
 ghost use Rattle.sse_frames.specs.Frames.{FrameText, IsFrame};
 ghost use Rattle.world_server.specs.Serving.{Serves};
-ghost use Rattle.world_server.specs.Handling.{IsHandled, CanReply};
+ghost use Rattle.world_server.specs.Handling.{IsHandled, CanReply, HasCalled, HasReplied};
 
 use crate::Replies;
 use crate::question::question;
@@ -33,7 +33,7 @@ pub enum Handled {
 }
 
 // Promise P307 (caller): A server that may stop acknowledges an update only if it took it without a stop; else it replies by its step, or has stopped.
-//   clauses: handled, counted, can; assumes: earlier calls
+//   clauses: handled, counted, quiet, can; assumes: earlier calls
 /// A server that takes more handles the bytes of a frame on a disk that may stop inside a call, and counts the calls of the
 /// disk. The page has place for some identifiers.
 pub fn handle<K: Keyed, T: Tables>(
@@ -50,7 +50,8 @@ pub fn handle<K: Keyed, T: Tables>(
     requires page { 0 < length page.old }
     ensures handled { (frames : List FrameText) → Serves frames store.old disk.old → (sent : IsFrame bytes.now) →
         IsHandled (keyed_fn K.prf K.pad) frames sent.frame stop result.0 result.1 store.new disk.new }
-    ensures counted { (q : ℕ) → result.0 ≡ Handled.Took q → result.1 ≡ next_call_of disk.new - next_call_of disk.old }
+    ensures counted { HasCalled result.0 → result.1 ≡ next_call_of disk.new - next_call_of disk.old }
+    ensures quiet { HasReplied result.0 → disk.new ≡ disk.old }
     ensures can { CanReply result.0 }
     ensures long { length page.new ≡ length page.old }
 {

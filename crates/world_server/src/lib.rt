@@ -19,4 +19,4 @@ mod whole_frame;
 pub use handled::{Handled, handle};
 pub use opened::open;
 pub use replies::Replies;
-pub use server_side::{Delivered, ServerSide};
+pub use server_side::{Delivered, ServerSide, after_failure, later};

@@ -1,4 +1,4 @@
-ghost use Rattle.std.specs.Prelude.{◌≡◌, ◌-◌, Bool, IfSome, OnOk};
+ghost use Rattle.std.specs.Prelude.{◌≡◌, ◌-◌, Bool, Err, IfSome};
 ghost use Rattle.sse_frames.specs.Frames.{FrameText};
 ghost use Rattle.sse_server.specs.Taken.{AreTaken};
 ghost use Rattle.server_core.specs.State.{at_first};
@@ -46,7 +46,7 @@ pub fn open<T: Tables>(
     requires empty { T.contents tables ≡ no_contents }
     ensures opened { (model : Model FrameText) → ((there : Bool) → AreTaken at_first (left there model).records) → IsDiskOfFrames model disk.old →
         IsOpened model stop result.0 result.1 disk.new }
-    ensures counted { OnOk result.0 (result.1 ≡ next_call_of disk.new - next_call_of disk.old) }
+    ensures counted { (result.0 ≡ Err Unstarted.Stopped → ⊥) → result.1 ≡ next_call_of disk.new - next_call_of disk.old }
 {
     let (store, calls) = open_counted(alloc, tables, disk);
     match stop_if_met(disk, stop, calls) {

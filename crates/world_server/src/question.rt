@@ -8,7 +8,7 @@ ghost use Rattle.server_core.specs.Step.{step};
 ghost use Rattle.server_core.specs.Views.{answer_replies, HasRange};
 ghost use Rattle.server_core.specs.State.{ServerState};
 ghost use Rattle.world_server.specs.Serving.{Serves};
-ghost use Rattle.world_server.specs.Replies.{replies_in, CanWrite};
+ghost use Rattle.world_server.specs.Replies.{replies_in, CanWrite, IsNoPage};
 
 use crate::Replies;
 use crate::gather::gather;
@@ -37,6 +37,7 @@ pub fn question<K: Keyed, T: Tables>(
     ensures replies { IfSome result (λ replies. replies_in replies ≡ (step (keyed_fn K.prf K.pad) store.old.state (frame_view frame.now)).1) }
     ensures can { IfSome result (λ replies. CanWrite replies) }
     ensures stays { (frames : List FrameText) → Serves frames store.old disk.old → Serves frames store.new disk.new }
+    ensures disk { disk.new ≡ disk.old }
     ensures long { length page.new ≡ length page.old }
 {
     match store.handle(keyed, disk, frame, page) {
@@ -59,7 +60,7 @@ pub fn question<K: Keyed, T: Tables>(
 pub fn single(answer: Answer) -> Option<Reply<'static>>
     requires { HasRange answer }
     ensures replies { IfSome result (λ reply. (f : KeyedFn) (s : ServerState) (page : List ℕ) → answer_replies f s answer page ≡ reply_view reply ∷ []) }
-    ensures can { IfSome result (λ reply. InReplies (reply_view reply) × HasReplySizes reply) }
+    ensures can { IfSome result (λ reply. InReplies (reply_view reply) × HasReplySizes reply × IsNoPage (reply_view reply)) }
     ensures other { IfSome result (λ reply. (q : ℕ) → reply_view reply ≢ Took q) }
     ensures memory { IfSome result (λ _. answer ≢ Answer.NoMemory) }
 {

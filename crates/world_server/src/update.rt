@@ -5,7 +5,7 @@ ghost use Rattle.sse_frames.specs.FrameViews.{frame_view};
 ghost use Rattle.sse_frames.specs.Sizes.{HasSizes};
 ghost use Rattle.world_model.specs.Events.{in_doubt, settled};
 ghost use Rattle.world_server.specs.Serving.{Serves, IsDiskOfFrames};
-ghost use Rattle.world_server.specs.Updates.{IsEnded};
+ghost use Rattle.world_server.specs.Updates.{IsEnded, IsRefused};
 
 use crate::question::single;
 use keyed_fn::Keyed;
@@ -43,6 +43,7 @@ pub fn update<K: Keyed, T: Tables>(
     ensures ended { (frames : List FrameText) → Serves frames store.old disk.old → IsEnded frames (frame_view frame.now) result.0 store.new disk.new }
     ensures disk { (frames : List FrameText) → Serves frames store.old disk.old → IsDiskOfFrames (in_doubt (settled frames) (frame_view frame.now)) disk.new }
     ensures counted { result.1 ≡ next_call_of disk.new - next_call_of disk.old }
+    ensures quiet { IsRefused result.0 → disk.new ≡ disk.old }
     ensures long { length page.new ≡ length page.old }
 {
     let before = disk.calls();

@@ -1,4 +1,4 @@
-use Rattle.std.proofs.Common.{inl, inr, refl, sym, ap, ◌∙◌}
+use Rattle.std.proofs.Common.{inl, inr, refl, sym, ap, ◌∙◌, subst}
 use Rattle.keyed_fn.specs.KeyedFn.{keyed_fn}
 use Rattle.sse_frames.specs.FrameViews.{frame_view, reply_view}
 use Rattle.sse_frames.specs.Frames.{update_number}
@@ -10,6 +10,7 @@ use Rattle.world_model.specs.Events.{in_doubt, settled}
 use Rattle.world_server.proofs.Handling.{ended_as, doubt_as, refused_replies, none_by}
 use Rattle.world_server.proofs.Serving.{left_frames}
 use Rattle.world_server.proofs.Steps.{refused_untaken}
+use Rattle.world_server.specs.Updates.{IsEnded}
 use Rattle.world_server.specs.declared.update.Ended.TheVariants as ended
 use Rattle.world_server.proofs.handled.handle.Goals as goal
 
@@ -30,7 +31,12 @@ pub returns-in-No-clause-handled : goal.returns-in-No-clause-handled
 returns-in-No-clause-handled g c = λ frames s sent.
     let met = c.stop_if_met.ensures.no c.in-No.is in
     let e = ended_as frames (frame_view c.in-Some.frame) sent.frame c.update-calls.result.0 (ended.Took c.in-Took.q) c.update-calls.new.store c.update-calls.new.disk c.stop_if_met.new.disk (c.in-Some.ensures.frame sent) c.in-Took.is met.1 (c.update-calls.ensures.ended frames s) in
-    (met.0, e.0, e.1, e.2)
+    (met.0, e.0, e.1, e.3)
+
+pub returns-in-No-clause-can : goal.returns-in-No-clause-can
+returns-in-No-clause-can g c =
+    let frames = c.requires.serves.0 in
+    (subst (λ x. IsEnded frames (frame_view c.in-Some.frame) x c.update-calls.new.store c.update-calls.new.disk) c.in-Took.is (c.update-calls.ensures.ended frames c.requires.serves.1)).2
 
 pub returns-in-Yes-clause-handled : goal.returns-in-Yes-clause-handled
 returns-in-Yes-clause-handled g c = λ frames s sent.
@@ -55,7 +61,7 @@ returns-in-Refused-clause-handled g c = λ frames s sent.
     let state = taken_all at_first frames in
     let reply = reply_view c.in-Refused.reply in
     let e = ended_as frames (frame_view c.in-Some.frame) sent.frame c.update-calls.result.0 (ended.Refused c.in-Refused.reply) c.update-calls.new.store c.update-calls.new.disk c.update-calls.new.disk (c.in-Some.ensures.frame sent) c.in-Refused.is refl (c.update-calls.ensures.ended frames s) in
-    (refused_untaken state sent.frame reply e.0, refused_replies f state sent.frame reply e.0, e.3)
+    (refused_untaken state sent.frame reply e.0, refused_replies f state sent.frame reply e.0, e.4)
 
 -- one at which the disk failed
 pub returns-in-No-stop_if_met-clause-handled : goal.returns-in-No-stop_if_met-clause-handled

@@ -19,5 +19,6 @@ returns-in-Some g c =
       can = c.in-Some.ensures.can;
       stays = λ frames serves. serves_same frames c.args.store.now c.handle.new.self c.args.disk.now c.handle.new.disk same.0 same.1
           (h.state (λ e. untaken (h.no_memory e).1) (λ e. untaken (h.store_fault e).1) ∙ step_stays f s frame c.requires.question) serves;
+      disk = same.0;
       long = h.long;
     }

@@ -1,11 +1,11 @@
 use Rattle.std.proofs.Common.{inr, sym, subst, refl}
-use Rattle.std.specs.Prelude.{Some, None}
+use Rattle.std.specs.Prelude.{Some, None, IfSome, ◌<◌}
 use Rattle.keyed_fn.specs.KeyedFn.{keyed_fn}
 use Rattle.server_core.specs.State.{at_first}
 use Rattle.sse_frames.specs.declared.reply.Reply.TheVariants as reply
 use Rattle.sse_server.specs.Taken.{taken_all}
-use Rattle.world_server.proofs.Sides.{running, took, replied, stopped, no_memory, broken, taken_or_not}
-use Rattle.world_server.specs.Handling.{IsHandled}
+use Rattle.world_server.proofs.Sides.{running, took, replied, stopped, no_memory, broken, taken_or_not, left_same, left_counted}
+use Rattle.world_server.specs.Handling.{IsHandled, HasCalled, HasReplied}
 use Rattle.world_server.specs.Sides.{ServerPart, IsServer, Delivers}
 use Rattle.world_server.specs.declared.replies.Replies.TheVariants.{Single}
 use Rattle.world_server.specs.declared.server_side.Delivered.TheVariants.{Replied, Stopped, NoMemory, Broken}
@@ -62,3 +62,22 @@ returns-in-Broken-clause-delivers g c = λ part is sent.
     subst (λ store. (new : ServerPart) × Delivers f part part.taken sent.frame Broken new × IsServer new store h.new.disk c.later-self-in-Broken.result) (sym c.take.ensures.after)
     (subst (λ p. (new : ServerPart) × Delivers f p p.taken sent.frame Broken new × IsServer new None h.new.disk c.later-self-in-Broken.result) (sym r.part_is)
     (broken f r.frames sent.frame old.stop c.later-self-in-Broken.result h.result.1 h.new.store h.new.disk r.serves.is.are_taken ended c.later-self-in-Broken.ensures))
+
+pub returns-in-Took-clause-counted : goal.returns-in-Took-clause-counted
+returns-in-Took-clause-counted g c =
+    let h = c.handle-handled in
+    let old = c.args.self.now in
+    left_counted old.disk h.new.disk old.stop c.later-self.result h.result.1 (h.ensures.counted (subst HasCalled (sym c.in-Took.is) tt)) c.later-self.ensures
+
+pub returns-in-Broken-clause-counted : goal.returns-in-Broken-clause-counted
+returns-in-Broken-clause-counted g c =
+    let h = c.handle-handled in
+    let old = c.args.self.now in
+    left_counted old.disk h.new.disk old.stop c.later-self-in-Broken.result h.result.1 (h.ensures.counted (subst HasCalled (sym c.in-Broken.is) tt)) c.later-self-in-Broken.ensures
+
+pub returns-in-Replied-clause-counted : goal.returns-in-Replied-clause-counted
+returns-in-Replied-clause-counted g c =
+    let h = c.handle-handled in
+    let old = c.args.self.now in
+    let is = c.requires.server.1 in
+    left_same old.disk h.new.disk old.stop (h.ensures.quiet (subst HasReplied (sym c.in-Replied.is) tt)) (subst (λ s. IfSome s (λ s. 0 < s.call)) is.stop_is is.to_come)
