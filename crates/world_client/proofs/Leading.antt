@@ -4,7 +4,7 @@ use Rattle.std.specs.Prelude.{Option, Some, None, is_some, ◌&&◌, if◌then�
 use Rattle.std.specs.Option.{option_map_or, unwrap_or}
 use Rattle.world_model.specs.Rules.{Rules}
 use Rattle.world_model.specs.World.{Client, Reply, World}
-use Rattle.world_model.specs.Events.{Command, Find, Send, StopClient, StartClient, End, Made, Crashes, Lacks, Breaks, Outcome, Happened, Nothing, NoMemory, Leads, happens, commanded, planned, takes_command, is_free, rests, greets, asked_for, asking, sent_on, acting, answered, sends_on, client_gone, calls_disk, client_started, client_stops, EndsAs, EndsCalling, stop_behind, stop_before}
+use Rattle.world_model.specs.Events.{Command, Find, Send, LoseReply, StopClient, StartClient, End, Made, Crashes, Lacks, Breaks, Outcome, Happened, Nothing, NoMemory, Leads, happens, commanded, planned, takes_command, is_free, rests, greets, asked_for, asking, sent_on, acting, lost, answered, sends_on, client_gone, calls_disk, client_started, client_stops, EndsAs, EndsCalling, stop_behind, stop_before}
 
 -- what an event that makes calls of its disk comes to, by its end
 abbrev pub outcome_of : End → Outcome
@@ -136,6 +136,23 @@ module _ {C F W A : Type 0} (rules : Rules C F W A) (w : World C F W A) where
       comes_to = refl;
       is = sym (ap (λ x. unwrap_or (sent_on rules w x Breaks) w) client);
     }
+
+  -- The answer that waits is lost, and the client stops; nothing happens if none waits.
+
+  loses : (waiting : Option (Reply A)) → w.waiting ≡ waiting → happens rules w LoseReply 0 (Made true) ≡ lost rules w waiting
+  loses waiting same = ap (lost rules w) same
+
+  pub lose_leads : (reply : Reply A) → w.waiting ≡ Some reply → Leads rules w LoseReply Happened (client_gone rules w w.client_disk)
+  lose_leads reply waiting = record {
+    calls = 0;
+    end = Made true;
+    possible = (refl, tt);
+    comes_to = sym (ap outcome_by (loses (Some reply) waiting));
+    is = sym (ap (λ o. unwrap_or o w) (loses (Some reply) waiting));
+  }
+
+  pub lose_none : w.waiting ≡ None → Leads rules w LoseReply Nothing w
+  lose_none waiting = record { calls = 0; end = Made true; possible = (refl, tt); comes_to = sym (ap outcome_by (loses None waiting)); is = sym (ap (λ o. unwrap_or o w) (loses None waiting)) }
 
   -- Starts and stops.
 

@@ -1,4 +1,6 @@
 pub mod GoingOn
+pub mod Taking
+pub mod Hearing
 pub mod Histories
 pub mod Leading
 pub mod Recording

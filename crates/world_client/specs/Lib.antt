@@ -1,5 +1,6 @@
 pub mod Answering
 pub mod Clients
 pub mod Commanding
+pub mod Hearing
 pub mod Histories
 pub mod Starting
