@@ -18,4 +18,5 @@ mod owners;
 pub use count::count_of;
 pub use disk_mode::{DiskMode, disk_mode_of};
 pub use local_mode::{LocalMode, local_mode_of};
+pub use number::number_within;
 pub use owners::{owner_of, owners_of};

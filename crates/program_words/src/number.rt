@@ -1,11 +1,12 @@
-ghost use Rattle.std.specs.Prelude.{◌≡◌, ◌==◌, ◌||◌, length, nat_lt, slice_index};
+ghost use Rattle.std.specs.Prelude.{◌≡◌, ◌≤◌, ◌==◌, ◌||◌, length, nat_lt, slice_index, IfSome};
 ghost use Rattle.std.specs.Char.{is_ascii_digit};
 ghost use Rattle.std.specs.List.{list_all};
 ghost use Rattle.program_words.specs.Numbers as numbers;
 
 /// The number that a word writes, where it is one from `low` to `high`: decimal, with no sign and no leading zero.
-pub(crate) fn number_within(word: &str, low: u32, high: u32) -> Option<u32>
-    ensures { result ≡ numbers.number_within low high word.now }
+pub fn number_within(word: &str, low: u32, high: u32) -> Option<u32>
+    ensures number { result ≡ numbers.number_within low high word.now }
+    ensures most { IfSome result (λ n. n ≤ high) }
 {
     match number_of(word) {
         Some(n) => within(n, low, high),
@@ -15,7 +16,8 @@ pub(crate) fn number_within(word: &str, low: u32, high: u32) -> Option<u32>
 
 /// The number, where it is one from `low` to `high`.
 fn within(n: u32, low: u32, high: u32) -> Option<u32>
-    ensures { result ≡ numbers.within low high n }
+    ensures number { result ≡ numbers.within low high n }
+    ensures most { IfSome result (λ n. n ≤ high) }
 {
     if low <= n && n <= high { Some(n) } else { None }
 }

@@ -1,0 +1,3 @@
+pub mod Apart
+mod Commands
+pub mod Grammar

@@ -1,0 +1,4 @@
+pub mod Facts
+pub mod Sends
+pub mod Sides
+pub mod Came
