@@ -1,0 +1,5 @@
+mod SumLaws
+mod Refusals
+mod SinkLaws
+pub mod RisingLaws
+pub mod RuleRuns

@@ -1,0 +1,7 @@
+pub mod Views
+pub mod Side
+pub mod Passing
+pub mod Game
+pub mod Played
+pub mod Rule
+pub mod Runs
