@@ -1,6 +1,7 @@
 ghost use Rattle.std.specs.Prelude.{◌≡◌, false, IfOk};
 
 use crate::StreamLink;
+use buffered_source::BufferedSource;
 use sse_outside::{StdSink, StdSource};
 use std::io;
 use std::net::TcpStream;
@@ -10,7 +11,7 @@ use std::time::Duration;
 const TIMEOUT: u64 = 60;
 
 /// A link over a socket.
-pub type TcpLink = StreamLink<StdSource<TcpStream>, StdSink<TcpStream>>;
+pub type TcpLink = StreamLink<BufferedSource<StdSource<TcpStream>>, StdSink<TcpStream>>;
 
 /// A link over both directions of a connection, each a handle of its own. A frame goes out at once, however short it is, and a
 /// read or a write that waits 60 seconds fails, so that a server that is silent, or that doesn't read, cuts the link.
@@ -25,5 +26,5 @@ pub fn tcp_link(stream: TcpStream) -> io::Result<TcpLink>
     stream.set_read_timeout(Some(Duration::from_secs(TIMEOUT)))?;
     stream.set_write_timeout(Some(Duration::from_secs(TIMEOUT)))?;
     let sink = StdSink::new(stream.try_clone()?);
-    Ok(StreamLink::new(StdSource::new(stream), sink))
+    Ok(StreamLink::new(BufferedSource::new(StdSource::new(stream)), sink))
 }

@@ -1,6 +1,7 @@
 ghost use Rattle.std.specs.Prelude.{◌≡◌, false, IfOk};
 
 use crate::VaultStream;
+use buffered_source::BufferedSource;
 use sse_outside::{StdSink, StdSource};
 use std::io;
 use std::net::TcpStream;
@@ -10,7 +11,7 @@ use std::time::Duration;
 const TIMEOUT: u64 = 60;
 
 /// A link to a vault over a socket.
-pub type TcpVault = VaultStream<StdSource<TcpStream>, StdSink<TcpStream>>;
+pub type TcpVault = VaultStream<BufferedSource<StdSource<TcpStream>>, StdSink<TcpStream>>;
 
 /// A link over both directions of a connection, each a handle of its own. A frame goes out at once, however short it is, and a
 /// read or a write that waits 60 seconds fails, so that a server that is silent, or that doesn't read, cuts the link.
@@ -24,5 +25,5 @@ pub fn tcp_vault(stream: TcpStream) -> io::Result<TcpVault>
     stream.set_read_timeout(Some(Duration::from_secs(TIMEOUT)))?;
     stream.set_write_timeout(Some(Duration::from_secs(TIMEOUT)))?;
     let sink = StdSink::new(stream.try_clone()?);
-    Ok(VaultStream::new(StdSource::new(stream), sink))
+    Ok(VaultStream::new(BufferedSource::new(StdSource::new(stream)), sink))
 }
