@@ -4,13 +4,20 @@ ghost use Rattle.chacha_stream.specs.Xored.{xored};
 use crate::keyed::Keyed;
 use chacha_stream::xor;
 
+/// The bytes that most texts have at most: the identifier of an addition, or a small cell.
+const SMALL: usize = 128;
+
 /// XORs pad number `n` under the key into a text of at most 2,048 bytes, which encrypts it, or decrypts
 /// what it encrypted. No memory is taken.
 pub fn xor_pad<K: Keyed>(keyed: &K, key: &[u8; 32], n: u64, text: &mut [u8])
     requires { length text.old ≤ 2048 }
     ensures { text.new ≡ xored text.old (K.pad key.now n (length text.old)) }
 {
-    xor_by::<K, 2048>(keyed, key, n, text);
+    if text.len() <= SMALL {
+        xor_by::<K, SMALL>(keyed, key, n, text);
+    } else {
+        xor_by::<K, 2048>(keyed, key, n, text);
+    }
 }
 
 /// [`xor_pad`] for a text of at most 65,536 bytes.
