@@ -1,4 +1,5 @@
 ghost use Rattle.std.specs.Prelude.{◌≡◌, ◌≢◌, ◌≤◌, ◌<◌, ◌++◌, [], true, false, not, length, take, IfOk, OnOk, OnErr, MatchOption, Some, None, IsSome, slice_index};
+ghost use Rattle.std.specs.FinMap as map;
 ghost use Rattle.std.specs.FinSet as set;
 ghost use Rattle.keyed_fn.specs.KeyedFn.{keyed_fn};
 ghost use Rattle.keyed_fn.specs.KeyFormulas.{revocation};
@@ -12,7 +13,7 @@ use crate::group::{Group, MOST};
 use crate::places::next;
 use crate::spot::Spot;
 use keyed_fn::Keyed;
-use search_token::{Revocations, Token};
+use search_token::{PlusLabels, Revocations, Token};
 use server_tables::Tables;
 
 /// Whether an identifier is shown: its revocation number isn't in the tables. `numbers` is `None` only where the tables
@@ -96,7 +97,7 @@ pub fn fill_from<K: Keyed, T: Tables>(
     ensures long { length out.new ≡ length out.old }
     ensures no_list { OnErr result (coming (keyed_fn K.prf K.pad) token.now (T.contents tables.now) from within ≡ None) }
 {
-    let labels = token.plus_labels(keyed);
+    let labels = plus_labels(tables, keyed, token);
     let numbers = revocations(tables, keyed, token);
     let mut group = Group::new();
     let mut ids = [0u64; MOST];
@@ -150,7 +151,7 @@ pub fn check_from<K: Keyed, T: Tables>(
     ensures list { OnOk result (IsSome (ids_from (keyed_fn K.prf K.pad) token.now (T.contents tables.now) from)) }
     ensures no_list { OnErr result (ids_from (keyed_fn K.prf K.pad) token.now (T.contents tables.now) from ≡ None) }
 {
-    let labels = token.plus_labels(keyed);
+    let labels = plus_labels(tables, keyed, token);
     let mut group = Group::new();
     let mut ids = [0u64; MOST];
     let mut spot = from;
@@ -158,6 +159,17 @@ pub fn check_from<K: Keyed, T: Tables>(
         spot = place.behind;
     }
     Ok(())
+}
+
+/// The labels of the word's additions, prepared; `None` where the tables have none.
+fn plus_labels<K: Keyed, T: Tables>(tables: &T, keyed: &K, token: &Token) -> Option<PlusLabels<K>>
+    ensures { MatchOption result (map.len (T.contents tables.now).additions ≡ 0) (λ key. key ≡ token.now.plus_label_key) }
+{
+    if tables.plus_len() == 0 {
+        None
+    } else {
+        Some(token.plus_labels(keyed))
+    }
 }
 
 /// The word's revocation numbers, prepared; `None` where the tables have none.

@@ -1,5 +1,6 @@
 ghost use Rattle.std.specs.Prelude.{◌≡◌, ◌≤◌, [], take, IfOk, OnErr, MatchOption, Some, None};
 ghost use Rattle.keyed_fn.specs.KeyedFn.{keyed_fn};
+ghost use Rattle.std.specs.FinMap as map;
 ghost use Rattle.server_core.specs.Holds.{IsHeld};
 ghost use Rattle.server_core.specs.SearchState.{ids_from, InRange};
 ghost use Rattle.server_core.specs.OpenedStep.{IsKept, IsPlace};
@@ -23,13 +24,13 @@ pub fn next<K: Keyed, T: Tables>(
     tables: &T,
     keyed: &K,
     token: &Token,
-    labels: &PlusLabels<K>,
+    labels: &Option<PlusLabels<K>>,
     group: &mut Group,
     spot: Spot,
     ids: &mut [u64; MOST],
 ) -> Result<Option<IdsRead>, NoList>
     requires held { IsHeld (T.contents tables.now) }
-    requires labels { labels.now ≡ token.now.plus_label_key }
+    requires labels { MatchOption labels.now (map.len (T.contents tables.now).additions ≡ 0) (λ key. key ≡ token.now.plus_label_key) }
     requires range { InRange spot }
     requires kept { IsKept (keyed_fn K.prf K.pad) token.now (T.contents tables.now) group.old }
     ensures kept { IsKept (keyed_fn K.prf K.pad) token.now (T.contents tables.now) group.new }
@@ -132,8 +133,27 @@ fn next_block<K: Keyed, T: Tables>(
     })
 }
 
-/// The identifier of an addition; `None` where its label is missing.
+/// The identifier of an addition; `None` where its label is missing, or there is no addition.
 fn next_added<K: Keyed, T: Tables>(
+    tables: &T,
+    keyed: &K,
+    token: &Token,
+    labels: &Option<PlusLabels<K>>,
+    c: u64,
+    ids: &mut [u64; MOST],
+) -> Result<Option<IdsRead>, NoList>
+    requires labels { MatchOption labels.now (map.len (T.contents tables.now).additions ≡ 0) (λ key. key ≡ token.now.plus_label_key) }
+    ensures place { IfOk result (λ next. MatchOption next (ids_from (keyed_fn K.prf K.pad) token.now (T.contents tables.now) (Spot.Added c) ≡ Some []) (λ place. (place.count ≤ 256) × IsPlace (keyed_fn K.prf K.pad) token.now (T.contents tables.now) (Spot.Added c) (take place.count ids.new) place.behind)) }
+    ensures no_list { OnErr result (ids_from (keyed_fn K.prf K.pad) token.now (T.contents tables.now) (Spot.Added c) ≡ None) }
+{
+    match labels {
+        Some(labels) => added_at(tables, keyed, token, labels, c, ids),
+        None => Ok(None),
+    }
+}
+
+/// The identifier of an addition; `None` where its label is missing.
+fn added_at<K: Keyed, T: Tables>(
     tables: &T,
     keyed: &K,
     token: &Token,

@@ -1,4 +1,5 @@
 use Rattle.std.proofs.Common.{◌≡◌}
+use Rattle.std.specs.Prelude.{MatchOption}
 use Rattle.std.specs.FinMap as map
 use Rattle.std.specs.Option.{is_some}
 use Rattle.keyed_fn.specs.KeyedFn.{keyed_fn}
@@ -13,6 +14,7 @@ invariant-loop-labels g l =
     let held = g.T.Tables.contents l.tables in
     record {
       same : is_some (ids_from f l.token held l.fn.from) ≡ is_some (ids_from f l.token held l.spot);
+      labels : MatchOption l.labels (map.len (g.T.Tables.contents l.tables).additions ≡ 0) (λ key. key ≡ l.token.plus_label_key);
       range : InRange l.spot;
       kept : IsKept f l.token held l.group;
     }

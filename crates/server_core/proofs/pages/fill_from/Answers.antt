@@ -87,6 +87,7 @@ loop-numbers-preserved g c =
       room = omega (arith, c.hand_out-passed.ensures.room, c.hand_out-passed.ensures.long);
       long = c.hand_out-passed.ensures.long ∙ c.loop-numbers.invariant.long;
       numbers = c.loop-numbers.invariant.numbers;
+      labels = c.loop-numbers.invariant.labels;
       range = place.1.in_range;
       kept = c.in_ok-place.ensures.kept;
     }

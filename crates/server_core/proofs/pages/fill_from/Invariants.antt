@@ -18,6 +18,7 @@ invariant-loop-numbers g l =
       room : l.count ≤ length l.out;
       long : length l.out ≡ length l.initial.out;
       numbers : MatchOption l.numbers ((g.T.Tables.contents l.tables).revoked ≡ set.empty) (λ key. key ≡ l.token.revocation_key);
+      labels : MatchOption l.labels (map.len (g.T.Tables.contents l.tables).additions ≡ 0) (λ key. key ≡ l.token.plus_label_key);
       range : InRange l.spot;
       kept : IsKept f l.token held l.group;
     }

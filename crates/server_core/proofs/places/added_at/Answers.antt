@@ -8,7 +8,7 @@ use Rattle.two_level.specs.Opened.{joined}
 use Rattle.server_core.specs.Search.{added_from}
 use Rattle.server_core.proofs.SearchLemmas.{added-more, added-zero, joined-nothing}
 use Rattle.server_core.proofs.PlaceLemmas.{front_of_one}
-use Rattle.server_core.proofs.places.next_added.Goals as goal
+use Rattle.server_core.proofs.places.added_at.Goals as goal
 
 -- an addition that is 0: there is no list
 pub returns-then-id-eq0-clause-no_list : goal.returns-then-id-eq0-clause-no_list
