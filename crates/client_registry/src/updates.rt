@@ -20,6 +20,9 @@ use crate::word_table::{clear_counts, count_new, number_all};
 use arrayvec::ArrayVec;
 use std::alloc::AllocError;
 
+/// The words that most documents have at most.
+const FEW: usize = 256;
+
 impl Registry {
     // Promise P59, also here; clauses: keys
     // Promise P61, also here; clauses: room, facts
@@ -33,7 +36,8 @@ impl Registry {
         ensures room { OnOk result (HasRoom self.new doc.now) }
         ensures succeeds { HasRoom self.old doc.now → IsOk result }
     {
-        let mut numbers = ArrayVec::new();
+        prove!(doc.words().len() <= MAX_WORDS);
+        let mut numbers: ArrayVec<u32, MAX_WORDS> = ArrayVec::new();
         self.reserve_for(doc, &mut numbers)
     }
 
@@ -50,11 +54,11 @@ impl Registry {
         ensures numbers { IfOk result (λ numbers. words_by_number (known_words self.new) numbers.items ≡ doc.now.words) }
         ensures within { IfOk result (λ numbers. All (λ n. n < length (known_words self.new)) numbers.items) }
     {
-        let mut numbers = ArrayVec::new();
-        self.reserve_for(doc, &mut numbers)?;
-        let mut copy = Vec::new(*self.words.allocator());
-        copy.extend_from_slice(numbers.as_slice())?;
-        Ok(copy)
+        if doc.words().len() <= FEW {
+            self.reserve_at_most::<FEW>(doc)
+        } else {
+            self.reserve_at_most::<MAX_WORDS>(doc)
+        }
     }
 
     // Promise P59, also here; clauses: keys
@@ -80,7 +84,8 @@ impl Registry {
         if self.is_live(doc.id()) {
             return Err(AddFault::AlreadyLive(doc.id().get()));
         }
-        let mut numbers = ArrayVec::new();
+        prove!(doc.words().len() <= MAX_WORDS);
+        let mut numbers: ArrayVec<u32, MAX_WORDS> = ArrayVec::new();
         self.reserve_for(&doc, &mut numbers)?;
         self.add_numbered(&doc, numbers.as_slice());
         Ok(())
@@ -141,13 +146,33 @@ impl Registry {
         forget_dead(&mut self.documents);
     }
 
+    /// [`Registry::reserve_numbered`] of a document of at most `N` words, by so many numbers on the stack.
+    fn reserve_at_most<const N: usize>(&mut self, doc: &Doc) -> Result<Vec<u32>, AllocError>
+        requires most { length doc.now.words ≤ N }
+        requires small { N ≤ MAX_WORDS }
+        ensures facts { facts self.new ≡ facts self.old }
+        ensures words { KeepsNumbers self.old self.new }
+        ensures keys { self.new.keys ≡ self.old.keys }
+        ensures room { OnOk result (HasRoom self.new doc.now) }
+        ensures numbers { IfOk result (λ numbers. words_by_number (known_words self.new) numbers.items ≡ doc.now.words) }
+        ensures within { IfOk result (λ numbers. All (λ n. n < length (known_words self.new)) numbers.items) }
+    {
+        let mut numbers: ArrayVec<u32, N> = ArrayVec::new();
+        self.reserve_for(doc, &mut numbers)?;
+        let mut copy = Vec::new(*self.words.allocator());
+        copy.extend_from_slice(numbers.as_slice())?;
+        Ok(copy)
+    }
+
     /// Takes the memory of an addition of this document, and appends the number of each of its words.
-    fn reserve_for(
+    fn reserve_for<const N: usize>(
         &mut self,
         doc: &Doc,
-        numbers: &mut ArrayVec<u32, MAX_WORDS>,
+        numbers: &mut ArrayVec<u32, N>,
     ) -> Result<(), AllocError>
-        requires { numbers.old.items ≡ [] }
+        requires most { length doc.now.words ≤ N }
+        requires small { N ≤ MAX_WORDS }
+        requires empty { numbers.old.items ≡ [] }
         ensures facts { facts self.new ≡ facts self.old }
         ensures words { KeepsNumbers self.old self.new }
         ensures keys { self.new.keys ≡ self.old.keys }
@@ -162,12 +187,13 @@ impl Registry {
     }
 
     /// Gives each of these words a number, and appends it.
-    fn number_words(
+    fn number_words<const N: usize>(
         &mut self,
         words: &[Word],
-        numbers: &mut ArrayVec<u32, MAX_WORDS>,
+        numbers: &mut ArrayVec<u32, N>,
     ) -> Result<(), AllocError>
-        requires most { length words.now ≤ MAX_WORDS }
+        requires most { length words.now ≤ N }
+        requires small { N ≤ MAX_WORDS }
         requires empty { numbers.old.items ≡ [] }
         ensures facts { facts self.new ≡ facts self.old }
         ensures words { KeepsNumbers self.old self.new }

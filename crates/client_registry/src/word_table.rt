@@ -9,7 +9,6 @@ ghost use Rattle.client_registry.specs.WordBytes.{word_bytes};
 ghost use Rattle.client_registry.specs.WordTable.{table_words, GivesNumbers};
 
 use crate::hash_keys::HashKeys;
-use crate::limits::MAX_WORDS;
 use crate::listed::is_among;
 use crate::word::Word;
 use arrayvec::ArrayVec;
@@ -34,13 +33,14 @@ pub(crate) fn clear_counts(words: &mut Words)
 /// Gives each of these words a number, where it has none, and appends the numbers of all: new words go last, with the
 /// count 0. Error: `NoMemory` where there is no memory for them, or no number of 32 bits; some of them may have a number
 /// then.
-pub(crate) fn number_all(
+pub(crate) fn number_all<const N: usize>(
     words: &mut Words,
     of: &[Word],
-    numbers: &mut ArrayVec<u32, MAX_WORDS>,
+    numbers: &mut ArrayVec<u32, N>,
 ) -> Result<(), AllocError>
     requires few { length words.old.entries < 2 ^ 32 }
-    requires most { length of.now ≤ MAX_WORDS }
+    requires most { length of.now ≤ N }
+    requires small { N ≤ 4096 }
     requires empty { numbers.old.items ≡ [] }
     ensures few { length words.new.entries < 2 ^ 32 }
     ensures more { GivesNumbers (counts_of words.old.entries) (counts_of words.new.entries) }

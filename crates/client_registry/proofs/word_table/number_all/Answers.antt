@@ -16,11 +16,11 @@ use Rattle.client_registry.proofs.TableLaws.{numbered_at, table_given, table_num
 use Rattle.client_registry.proofs.word_table.number_all.Goals as goal
 
 pub returns-in_err-number-clause-more : goal.returns-in_err-number-clause-more
-returns-in_err-number-clause-more c =
+returns-in_err-number-clause-more g c =
     GivesNumbers-trans (counts_of c.args.words.now.entries) (counts_of c.loop-word.words.entries) (counts_of c.number.new.words.entries) c.loop-word.invariant.more c.number.ensures.more
 
 pub returns-in_err-number-clause-succeeds : goal.returns-in_err-number-clause-succeeds
-returns-in_err-number-clause-succeeds c =
+returns-in_err-number-clause-succeeds g c =
     λ all.
     let word = c.word-item.result in
     let known = numbered_at word_bytes c.args.of.now (table_words c.args.words.now.entries) c.loop-word.word-index word c.loop-word-test.true c.word-item.is all in
@@ -29,7 +29,7 @@ returns-in_err-number-clause-succeeds c =
     absurd (true≢false (sym ok ∙ ap is_ok c.in_err-number.was))
 
 pub loop-word-preserved : goal.loop-word-preserved
-loop-word-preserved c =
+loop-word-preserved g c =
     let es = c.loop-word.words.entries in
     let fs = c.number.new.words.entries in
     let of = c.args.of.now in
@@ -66,9 +66,9 @@ loop-word-preserved c =
     }
 
 pub returns-clause-numbered : goal.returns-clause-numbered
-returns-clause-numbered c =
+returns-clause-numbered g c =
     subst (λ of. All (λ w. list_any (bytes_eq w) (table_words c.loop-word.words.entries) ≡ true) (map word_bytes of))
     (take_all c.loop-word.word-index c.args.of.now c.loop-word-test.false) c.loop-word.invariant.numbered
 
 pub returns-clause-numbers : goal.returns-clause-numbers
-returns-clause-numbers c = c.loop-word.invariant.numbers ∙ ap (map word_bytes) (take_all c.loop-word.word-index c.args.of.now c.loop-word-test.false)
+returns-clause-numbers g c = c.loop-word.invariant.numbers ∙ ap (map word_bytes) (take_all c.loop-word.word-index c.args.of.now c.loop-word-test.false)

@@ -10,7 +10,7 @@ use Rattle.client_registry.specs.WordTable.{table_words, GivesNumbers}
 use Rattle.client_registry.proofs.word_table.number_all.Given as goal
 
 abbrev pub invariant-loop-word : goal.invariant-loop-word
-invariant-loop-word l = record {
+invariant-loop-word g l = record {
   few : length l.words.entries < 2 ^ 32;
   more : GivesNumbers (counts_of l.initial.words.entries) (counts_of l.words.entries);
   differ : IsDistinct bytes_eq (table_words l.initial.words.entries) → IsDistinct bytes_eq (table_words l.words.entries);

@@ -12,22 +12,19 @@ use Rattle.client_registry.specs.WordBytes.{word_bytes}
 use Rattle.client_registry.proofs.RegistryLaws.{facts_by}
 use Rattle.client_registry.proofs.registry.Registry.reserve_for.Goals as goal
 
-pub number_words-requires-clause-most : goal.number_words-requires-clause-most
-number_words-requires-clause-most c = omega (arith, length-map c.words.result.now word_bytes, ap length c.words.ensures.words, c.words.ensures.few)
-
 pub returns-in_err-number_words-clause-succeeds : goal.returns-in_err-number_words-clause-succeeds
-returns-in_err-number_words-clause-succeeds c =
+returns-in_err-number_words-clause-succeeds g c =
     λ room.
     let numbered = subst (All (λ word. list_any (bytes_eq word) (known_words c.args.self.now) ≡ true)) (sym c.words.ensures.words) room.numbered in
     let ok : is_ok c.number_words.result ≡ true = c.number_words.ensures.succeeds numbered in
     absurd (true≢false (sym ok ∙ ap is_ok c.in_err-number_words.was))
 
 pub returns-clause-facts : goal.returns-clause-facts
-returns-clause-facts c =
+returns-clause-facts g c =
     facts_by c.make_room.new.self c.make_entry.new.self c.make_room.ensures.counts c.make_room.ensures.kept ∙ c.make_entry.ensures.facts ∙ c.number_words.ensures.facts
 
 pub returns-clause-room : goal.returns-clause-room
-returns-clause-room c =
+returns-clause-room g c =
     let doc = c.args.doc.now in
     let id = id_number c.id.result in
     let entry = c.in_ok-kept.ensures.entry in
@@ -40,7 +37,7 @@ returns-clause-room c =
     }) c.make_room.ensures.room
 
 pub returns-clause-numbers : goal.returns-clause-numbers
-returns-clause-numbers c =
+returns-clause-numbers g c =
     let ns = c.number_words.new.numbers.items in
     let counts = c.make_room.ensures.counts ∙ c.make_entry.ensures.counts in
     on_ok_weaker c.make_room.result
@@ -48,7 +45,7 @@ returns-clause-numbers c =
     c.make_room.ensures.room
 
 pub returns-clause-within : goal.returns-clause-within
-returns-clause-within c =
+returns-clause-within g c =
     let ns = c.number_words.new.numbers.items in
     let counts = c.make_room.ensures.counts ∙ c.make_entry.ensures.counts in
     on_ok_weaker c.make_room.result
