@@ -1,4 +1,5 @@
 pub mod Blocks
+pub mod FirstBlocks
 pub mod Streams
 pub mod Rows
 pub mod Laws

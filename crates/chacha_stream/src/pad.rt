@@ -3,6 +3,7 @@ ghost use Rattle.rand_chacha.specs.ChaCha.{key_of};
 ghost use Rattle.chacha_stream.specs.Pad.{chacha_pad};
 ghost use Rattle.chacha_stream.specs.Xored.{xored};
 
+use crate::first_block::first_block;
 use rand_chacha::ChaCha20Rng;
 use rand_core::utils::NextWord;
 use rand_core::{Rng, SeedableRng};
@@ -14,6 +15,19 @@ use rand_core::{Rng, SeedableRng};
 ///
 /// At most 2^38 bytes, which are the 2^32 blocks of 64 bytes that the counter of the standard can number.
 pub fn pad_into(key: &[u8; 32], n: u64, out: &mut [u8])
+    requires { length out.old ≤ 2 ^ 38 }
+    ensures { out.new ≡ chacha_pad key.now n (length out.old) }
+{
+    if out.len() <= 64 {
+        let block = first_block(key, n);
+        out.copy_from_slice(&block[..out.len()]);
+    } else {
+        fill_out(key, n, out);
+    }
+}
+
+/// The same by the generator.
+fn fill_out(key: &[u8; 32], n: u64, out: &mut [u8])
     requires { length out.old ≤ 2 ^ 38 }
     ensures { out.new ≡ chacha_pad key.now n (length out.old) }
 {
