@@ -1,6 +1,7 @@
-use Rattle.std.proofs.Common.{◌≡◌, ℕ, suc, ◌+◌, Bool, true, false, not, cond, ◌||◌, ◌&&◌, inl, inr, List, [], ◌∷◌, length, Option, None, Some, is_some, nat_lt, position, map, ap, refl, sym, ◌∙◌, arith}
+use Rattle.std.proofs.Common.{◌≡◌, ℕ, suc, ◌+◌, Bool, true, false, not, cond, ◌||◌, ◌&&◌, inl, inr, List, [], ◌∷◌, length, Option, None, Some, is_some, nat_lt, position, find, map, ap, refl, sym, ◌∙◌, arith}
 use Rattle.std.specs.List.{list_all, list_any, position_or_len, prefix_len}
 use Rattle.std.specs.Option.{option_map}
+use Rattle.std.specs.Prelude.{option_and_then, slice_get}
 use Rattle.std.proofs.lemmas.List.{length-map}
 use Rattle.std.proofs.lemmas.Bool.{lt-ltb, le-ltb, cases_lt}
 
@@ -56,6 +57,16 @@ position-cons p y ys = by (p y)
           | inl lt ↦ ap (λ b. at b (1 + n)) (lt-ltb (1 + n) (suc (length ys)) (omega arith)) ∙ ap (λ k. at true k) next ∙ sym (ap (λ b. option_map (λ k. suc k) (at b n)) (lt-ltb n (length ys) lt))
           | inr ge ↦ ap (λ b. at b (1 + n)) (le-ltb (1 + n) (suc (length ys)) (omega arith)) ∙ sym (ap (λ b. option_map (λ k. suc k) (at b n)) (le-ltb n (length ys) ge))
         ]
+
+-- the first element that passes is the one at the first place that does
+pub found_at_place : {X : Type 0} (p : X → Bool) (xs : List X) → find p xs ≡ option_and_then (slice_get xs) (position p xs)
+found_at_place p [] = refl
+found_at_place p (y ∷ ys) = by (p y) (position p ys) (found_at_place p ys) ∙ sym (ap (option_and_then (slice_get (y ∷ ys))) (position-cons p y ys))
+  where
+    by : (b : Bool) (o : Option ℕ) → find p ys ≡ option_and_then (slice_get ys) o → cond b (Some y) (find p ys) ≡ option_and_then (slice_get (y ∷ ys)) (cond b (Some 0) (option_map (λ n. suc n) o))
+    by true o h = refl
+    by false None h = h
+    by false (Some n) h = h
 
 -- where no element fails a test, all pass it
 pub all_pass : {X : Type 0} (p : X → Bool) (xs : List X) → position (λ x. not (p x)) xs ≡ None → list_all p xs ≡ true

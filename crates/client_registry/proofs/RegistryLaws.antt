@@ -61,6 +61,12 @@ module _ (r : Inside) where
       ∙ sym (position-map (bytes_eq bs) (λ e. word_bytes e.0) r.words.entries)
       ∙ ap (position (bytes_eq bs)) (sym known_table)
 
+  -- the place of an identifier's entry is its place among what is kept
+  pub entry_place : (id : ℕ) → position (λ k. nat_eq id (id_number k)) (keys_of r.documents.entries) ≡ position (λ (k : Kept). nat_eq id k.id) (registered_of r).kept
+  entry_place id =
+      position-map (λ k. nat_eq id (id_number k)) (λ e. e.0) r.documents.entries
+      ∙ sym (position-map (λ (k : Kept). nat_eq id k.id) kept_entry r.documents.entries)
+
   module _ (id : ℕ) (found : Option Listed) (at : found ≡ lookup (λ k. nat_eq id (id_number k)) r.documents.entries) where
     pub kept_found : kept_of (registered_of r) id ≡ option_map (kept_as id) found
     kept_found = find-kept id r.documents.entries ∙ ap (option_map (kept_as id)) (sym at)

@@ -164,8 +164,24 @@ impl Registry {
         requires { number < length (known_words self.now) }
         ensures { result ≡ (facts self.now).listed (slice_index_or (known_words self.now) number []) (id_number id) }
     {
-        match self.documents.get(&id) {
-            Some(listed) => listed.has(number),
+        self.is_pair_at(number, id, self.place_of(id))
+    }
+
+    /// The place of an identifier's entry, from 0, where it has one.
+    pub fn place_of(&self, id: DocId) -> Option<usize>
+        ensures { result ≡ position (λ k. nat_eq (id_number id) k.id) self.now.kept }
+    {
+        self.documents.get_index_of(&id)
+    }
+
+    /// [`Registry::is_pair`] of an identifier whose entry stands at this place, so that it isn't looked up again.
+    pub fn is_pair_at(&self, number: u32, _id: DocId, entry: Option<usize>) -> bool
+        requires number { number < length (known_words self.now) }
+        requires entry { entry ≡ position (λ k. nat_eq (id_number _id) k.id) self.now.kept }
+        ensures { result ≡ (facts self.now).listed (slice_index_or (known_words self.now) number []) (id_number _id) }
+    {
+        match entry {
+            Some(place) => self.documents.get_index(place).unwrap().1.has(number),
             None => false,
         }
     }

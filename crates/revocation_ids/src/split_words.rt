@@ -26,12 +26,13 @@ pub fn split(
 {
     let mut fresh = Vec::new(alloc);
     let mut listed = Vec::new(alloc);
+    let entry = registry.place_of(id);
     for (i, number) in numbers.iter().enumerate() {
         let place = NumberedWord {
             position: i as u32,
             number: *number,
         };
-        if registry.is_pair(*number, id) {
+        if registry.is_pair_at(*number, id, entry) {
             listed.push(place)?;
         } else {
             fresh.push(place)?;
