@@ -4,8 +4,8 @@ ghost use Rattle.chacha_stream.specs.Xored.{xored};
 use crate::keyed::Keyed;
 use chacha_stream::xor;
 
-/// The bytes that most texts have at most: the identifier of an addition, or a small cell.
-const SMALL: usize = 128;
+/// The bytes of a block of the pad: the identifier of an addition has fewer.
+const SMALL: usize = 64;
 
 /// XORs pad number `n` under the key into a text of at most 2,048 bytes, which encrypts it, or decrypts
 /// what it encrypted. No memory is taken.
