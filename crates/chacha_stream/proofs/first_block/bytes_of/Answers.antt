@@ -9,12 +9,11 @@ pub loop-k-init : goal.loop-k-init
 loop-k-init c = (refl, refl)
 
 pub loop-k-preserved : goal.loop-k-preserved
-loop-k-preserved c =
-    (
-      search (rules, overwrites),
-      word_written c.loop-k.bytes c.copy_from_slice.new.self c.args.words.now c.loop-k.k _ c.loop-k.invariant.1 (omega arith) (omega arith)
-          (c.copy_from_slice.ensures.after ∙ c.to_le_bytes.ensures),
-    )
+loop-k-preserved c = (
+  search (rules, overwrites),
+  word_written c.loop-k.bytes c.copy_from_slice.new.self c.args.words.now c.loop-k.k _ c.loop-k.invariant.1 (omega arith) (omega arith)
+      (c.copy_from_slice.ensures.after ∙ c.to_le_bytes.ensures),
+)
 
 pub returns : goal.returns
 returns c =
