@@ -226,6 +226,7 @@ module _ (id : DocId) (empty : Listed) where
       next = had.next;
       again = had.again;
       hashers = same ∙ had.hashers;
+      bound = had.bound;
     }
 
     -- the identifier has the new entry, where it had none

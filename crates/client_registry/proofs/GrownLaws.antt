@@ -21,6 +21,7 @@ use Rattle.client_registry.specs.declared.hash_keys.HashKeys.{HashKeys}
 use Rattle.client_registry.specs.declared.listed.Listed.{Listed}
 use Rattle.client_registry.specs.declared.registry.Registry.TheInside.{Inside}
 use Rattle.client_registry.specs.declared.word.Word.{Word}
+use Rattle.client_registry.proofs.BoundLaws.{AtMost, bound-grown}
 use Rattle.client_registry.proofs.NumberLaws.{words_by_number-grown}
 use Rattle.client_registry.proofs.RegistryLaws.{kept_sound, known_table, listed_found, live_found}
 use Rattle.client_registry.proofs.TableLaws.{table_given}
@@ -102,4 +103,5 @@ module _ (r : Inside) (sound : IsSound r) (words : IndexMap Word ℕ HashKeys) (
     next = sound.next;
     again = sound.again;
     hashers = sound.hashers ∙ sym same;
+    bound = λ free. subst (λ es. AtMost es r.most) (sym given.1) (bound-grown (counts_of r.words.entries) given.0 r.most (sound.bound free));
   }

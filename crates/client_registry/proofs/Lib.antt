@@ -1,4 +1,5 @@
 pub mod Positions
+pub mod BoundLaws
 pub mod FirstClashLaws
 pub mod SeenWords
 pub mod DocumentLaws

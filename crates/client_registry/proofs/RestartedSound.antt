@@ -15,6 +15,7 @@ use Rattle.client_registry.specs.WordBytes.{word_bytes}
 use Rattle.client_registry.specs.WordTable.{table_words}
 use Rattle.client_registry.specs.declared.registry.Registry.TheInside.{Inside}
 use Rattle.client_registry.specs.declared.word.Word.{Word}
+use Rattle.client_registry.proofs.BoundLaws.{bound-zeros}
 use Rattle.indexmap.specs.IndexMap.{hasher_of}
 
 take-again : (n : ℕ) (xs : List ℕ) → take n (take n xs) ≡ take n xs
@@ -61,8 +62,9 @@ all_restarted words (k ∷ ks) all =
     All-cons (IsKept words) (kept_restarted k) (map kept_restarted ks) (kept_sound_restarted words k (All-head (IsKept words) k ks all)) (all_restarted words ks (All-tail (IsKept words) k ks all))
 
 pub sound_restarted : (old new : Inside) → IsSound old → table_words new.words.entries ≡ table_words old.words.entries
-    → map kept_entry new.documents.entries ≡ map kept_restarted (map kept_entry old.documents.entries) → new.next.items ≡ [] → new.again.items ≡ [] → hasher_of new.documents ≡ hasher_of new.words → IsSound new
-sound_restarted old new had words kept next again hashers = record {
+    → map kept_entry new.documents.entries ≡ map kept_restarted (map kept_entry old.documents.entries) → new.next.items ≡ [] → new.again.items ≡ [] → hasher_of new.documents ≡ hasher_of new.words
+    → All (λ e. e.1 ≡ 0) new.words.entries → IsSound new
+sound_restarted old new had words kept next again hashers zeros = record {
   words_differ = subst (IsDistinct bytes_eq) (sym words) had.words_differ;
   kept =
       all_of_mapped (IsKept (table_words new.words.entries)) kept_entry new.documents.entries
@@ -73,6 +75,7 @@ sound_restarted old new had words kept next again hashers = record {
   next = next;
   again = again;
   hashers = hashers;
+  bound = λ free. bound-zeros new.words.entries new.most zeros;
 }
 
 -- all counts are 0

@@ -30,6 +30,7 @@ use Rattle.client_registry.specs.declared.doc_id.DocId.{DocId}
 use Rattle.client_registry.specs.declared.listed.Listed.{Listed}
 use Rattle.client_registry.specs.declared.registry.Registry.TheInside.{Inside}
 use Rattle.client_registry.specs.declared.word.Word.{Word}
+use Rattle.client_registry.proofs.BoundLaws.{bound-zeros}
 use Rattle.client_registry.proofs.DistinctLaws.{IsDistinct-first_seen}
 use Rattle.client_registry.proofs.IndexedLaws.{counted_words, words_within}
 use Rattle.client_registry.proofs.RegistryLaws.{known_table}
@@ -150,4 +151,5 @@ module _ (docs : Collected) (indexed : IsIndexed docs) (r : Inside) (same_docume
     next = next;
     again = again;
     hashers = hashers;
+    bound = λ free. bound-zeros r.words.entries r.most cleared;
   }

@@ -1,5 +1,5 @@
 -- The meaning of the fields of a registry.
-use Rattle.std.specs.Prelude.{◌≡◌, ◌<◌, ◌≤◌, ◌^◌, ℕ, List, [], All, length, map, take, drop, min, unwrap_or, vec_capacity, Some, bytes_eq}
+use Rattle.std.specs.Prelude.{◌≡◌, ◌<◌, ◌≤◌, ◌-◌, ◌^◌, ℕ, List, [], All, length, map, take, drop, min, unwrap_or, vec_capacity, slice_index, Some, bytes_eq}
 use Rattle.std.specs.List.{IsDistinct}
 use Rattle.std.specs.List.Sorted.{IsNonDecreasing}
 use Rattle.indexmap.specs.IndexMap.{hasher_of}
@@ -38,7 +38,7 @@ pub record IsKept (words : List (List ℕ)) (k : Kept) : Type 0 where
   -- and the live document keeps the limits of a document
   pub valid : (n : ℕ) → k.live ≡ Some n → IsDocument (record { id = k.id; words = words_by_number words (take n k.numbers) })
 
--- words stand once, what is kept of each identifier is sound, and identifiers are hashed as words are
+-- words stand once, what is kept of each identifier is sound, identifiers are hashed as words are, and counters are bounded
 pub record IsSound (r : Inside) : Type 0 where
   pub words_differ : IsDistinct bytes_eq (table_words r.words.entries)
   pub kept : All (λ e. IsKept (table_words r.words.entries) (kept_entry e)) r.documents.entries
@@ -46,3 +46,5 @@ pub record IsSound (r : Inside) : Type 0 where
   pub next : r.next.items ≡ []
   pub again : r.again.items ≡ []
   pub hashers : hasher_of r.documents ≡ hasher_of r.words
+  -- and no counter is more than `most`, unless that is 2 ^ 32 - 1
+  pub bound : r.most < 2 ^ 32 - 1 → (n : ℕ) → slice_index (map (λ e. e.1) (counts_of r.words.entries)) n ≤ r.most

@@ -24,6 +24,8 @@ pub struct Registry {
     /// Memory for the numbers of the next document: as its words are given, and again in order.
     pub(crate) next: Vec<u32>,
     pub(crate) again: Vec<u32>,
+    /// No counter is more than this, unless it is 2^32-1: how many documents were added.
+    pub(crate) most: u32,
 }
 
 impl Model for Registry {
@@ -71,6 +73,7 @@ impl Registry {
             words,
             next: Vec::new(alloc),
             again: Vec::new(alloc),
+            most: 0,
         }
     }
 
@@ -218,6 +221,9 @@ impl Registry {
     fn is_full(&self, word: &Word, id: DocId) -> bool
         ensures { result ≡ not (has_counter (facts self.now) (id_number id) (word_bytes word.now)) }
     {
+        if self.most < u32::MAX {
+            return false;
+        }
         if self.counter(word) < u32::MAX {
             return false;
         }

@@ -112,6 +112,7 @@ impl Registry {
         let listed = &mut self.documents[place];
         count_new(&mut self.words, &self.next, &listed.numbers);
         listed.revive(&mut self.next, &mut self.again);
+        self.most = self.most.saturating_add(1);
     }
 
     // Promise P59, also here; clauses: keys
@@ -144,6 +145,7 @@ impl Registry {
     {
         clear_counts(&mut self.words);
         forget_dead(&mut self.documents);
+        self.most = 0;
     }
 
     /// [`Registry::reserve_numbered`] of a document of at most `N` words, by so many numbers on the stack.

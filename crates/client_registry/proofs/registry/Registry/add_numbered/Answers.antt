@@ -1,4 +1,4 @@
-use Rattle.std.proofs.Common.{◌≡◌, ℕ, List, ◌++◌, ◌+◌, ◌-◌, ◌<◌, ◌^◌, Some, false, length, get_or, nat_eq, vec_capacity, refl, sym, ap, subst, ◌∙◌, arith}
+use Rattle.std.proofs.Common.{◌≡◌, ℕ, Bool, not, ◌&&◌, if◌then◌else◌, true, List, ◌++◌, ◌+◌, ◌-◌, ◌<◌, ◌≤◌, ◌^◌, Some, false, length, get_or, nat_eq, vec_capacity, refl, sym, ap, subst, ◌∙◌, arith}
 use Rattle.std.specs.Prelude.{All, slice_index}
 use Rattle.std.specs.List.{list_any, IsDistinct}
 use Rattle.std.specs.List.Sorted.{IsNonDecreasing}
@@ -22,12 +22,18 @@ use Rattle.client_registry.specs.WordTable.{table_words}
 use Rattle.client_registry.specs.declared.doc_id.DocId.{DocId}
 use Rattle.client_registry.specs.declared.listed.Listed.{Listed}
 use Rattle.client_registry.specs.declared.registry.Registry.TheInside.{Inside}
+use Rattle.client_registry.proofs.BoundLaws.{values_counts}
 use Rattle.client_registry.proofs.EntryLaws.{All_replaced}
 use Rattle.client_registry.proofs.FactsLaws.{facts-add}
 use Rattle.client_registry.proofs.PutLaws.{counters_free, differing, facts-put, kept_put, rising}
 use Rattle.client_registry.proofs.RegistryLaws.{has_kept, kept_found, known_table}
 use Rattle.client_registry.proofs.TableLaws.{rise}
 use Rattle.client_registry.proofs.registry.Registry.add_numbered.Goals as goal
+
+-- what is counted up is at most one more
+one_more : (b : Bool) → (if b then 1 else 0) ≤ 1
+one_more true = omega arith
+one_more false = omega arith
 
 -- the numbers that are given, as they stand in the table
 given : (r : Inside) (known : List (List ℕ)) (ns ms : List ℕ) (words : List (List ℕ)) → known ≡ table_words r.words.entries → ns ≡ ms → words_by_number known ms ≡ words → All (λ n. n < length known) ms
@@ -138,15 +144,22 @@ invariant_of-self c =
       next = c.revive.ensures.next;
       again = c.revive.ensures.again;
       hashers = c.self.invariant.hashers ∙ sym c.count_new.ensures.hasher;
+      bound = λ free n.
+          let before = c.self.invariant.bound (omega (arith, free, c.saturating_add-self-inside.ensures)) n in
+          let was = ap (λ xs. slice_index xs n) (values_counts r.words.entries) in
+          let is = ap (λ xs. slice_index xs n) (values_counts c.count_new.new.words.entries) in
+          let one = one_more (list_any (nat_eq n) c.deref.result.now && not (list_any (nat_eq n) c.deref-2.result.now)) in
+          omega (arith, free, before, was, is, one, c.count_new.ensures.counts n, c.saturating_add-self-inside.ensures);
     }
 
 -- the registry after the addition
-abbrev after : goal.After-self-1 → Inside
+abbrev after : goal.After-self-2-1 → Inside
 after c = record {
   documents = with_value_at c.self.inside.documents c.unwrap-place.result c.revive.new.self;
   words = c.count_new.new.words;
   next = c.revive.new.next;
   again = c.revive.new.again;
+  most = c.saturating_add-self-inside.result;
 }
 
 pub returns-clause-facts : goal.returns-clause-facts

@@ -36,6 +36,7 @@ invariant_of-self c =
       next = had.next;
       again = had.again;
       hashers = had.hashers;
+      bound = had.bound;
     }
 
 pub returns-clause-ok : goal.returns-clause-ok

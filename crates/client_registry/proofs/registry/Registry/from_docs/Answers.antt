@@ -9,7 +9,7 @@ use Rattle.client_registry.proofs.registry.Registry.from_docs.Goals as goal
 
 -- the registry of the documents
 abbrev made : goal.After-new-2 → Inside
-made c = record { documents = c.docs.inside.documents; words = c.clear_counts.new.words; next = c.new.result; again = c.new-2.result }
+made c = record { documents = c.docs.inside.documents; words = c.clear_counts.new.words; next = c.new.result; again = c.new-2.result; most = 0 }
 
 pub invariant_of-result : goal.invariant_of-result
 invariant_of-result c = sound_setup c.docs.inside c.docs.invariant (made c) refl c.clear_counts.ensures.words c.clear_counts.ensures.counts c.new.ensures.items c.new-2.ensures.items (c.docs.invariant.hashers ∙ sym c.clear_counts.ensures.hasher)

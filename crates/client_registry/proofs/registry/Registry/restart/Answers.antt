@@ -8,8 +8,8 @@ use Rattle.client_registry.proofs.registry.Registry.restart.Goals as goal
 pub invariant_of-self : goal.invariant_of-self
 invariant_of-self c =
     let had = c.self.invariant in
-    sound_restarted c.self.inside (record { documents = c.forget_dead.new.documents; words = c.clear_counts.new.words; next = c.self.inside.next; again = c.self.inside.again }) had
-    c.clear_counts.ensures.words c.forget_dead.ensures.kept had.next had.again (c.forget_dead.ensures.hasher ∙ had.hashers ∙ sym c.clear_counts.ensures.hasher)
+    sound_restarted c.self.inside (record { documents = c.forget_dead.new.documents; words = c.clear_counts.new.words; next = c.self.inside.next; again = c.self.inside.again; most = 0 }) had
+    c.clear_counts.ensures.words c.forget_dead.ensures.kept had.next had.again (c.forget_dead.ensures.hasher ∙ had.hashers ∙ sym c.clear_counts.ensures.hasher) c.clear_counts.ensures.counts
 
 pub returns : goal.returns
 returns c =
