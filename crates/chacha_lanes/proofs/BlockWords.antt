@@ -1,29 +1,15 @@
 -- Words of a block, and the bytes that they are written as.
-use Rattle.std.proofs.Common.{◌≡◌, ℕ, ◌+◌, ◌*◌, ◌/◌, ◌%◌, ◌^◌, ◌<◌, ◌≤◌, List, [], ◌∷◌, ◌++◌, length, take, get_or, map, flat_map, slice_index, refl, sym, ap, ◌∙◌, arith}
+use Rattle.std.proofs.Common.{◌≡◌, ℕ, ◌+◌, ◌*◌, ◌/◌, ◌%◌, ◌^◌, ◌<◌, List, length, get_or, map, flat_map, slice_index, refl, sym, ap, ◌∙◌, arith}
 use Rattle.std.specs.List.{range_with_len}
 use Rattle.std.specs.Int.{w32, to_le_bytes}
-use Rattle.std.proofs.lemmas.List.{flat_map_more, take_more}
 use Rattle.std.proofs.lemmas.List.Folds.{flat_map-map}
 use Rattle.std.proofs.lemmas.List.FromFn.{fill_by_all, get_or-map-range_with_len, length-map-range_with_len}
-use Rattle.std.proofs.lemmas.Slice.{take-put_mid}
 use Rattle.rand_chacha.specs.Block.{add32, double_rounds, initial_state, block_word as kit_block_word}
 use Rattle.rand_chacha.specs.ChaCha.{key_of}
 use Rattle.chacha_stream.specs.Rfc8439.{block, block_word, key_stream_byte}
 use Rattle.chacha_stream.specs.Pad.{pad_nonce}
 use Rattle.chacha_stream.proofs.Blocks.{same_word}
 use Rattle.chacha_lanes.specs.Pads.{pad_block, pad_words}
-use borrow.Rule.Slice.PartMut.{put_mid}
-
--- one more word, written behind the bytes of those before it
-pub word_written : (out ys words : List ℕ) (k m : ℕ) → take (4 * k) out ≡ flat_map (to_le_bytes w32) (take k words) → 4 * k ≤ length out → k < length words
-    → ys ≡ to_le_bytes w32 (slice_index words k) → take (4 * (k + 1)) (put_mid (4 * k) m out ys) ≡ flat_map (to_le_bytes w32) (take (k + 1) words)
-word_written out ys words k m held fits within wrote =
-    let four : length ys ≡ 4 = rw wrote refl in
-    let front : take (4 * (k + 1)) (put_mid (4 * k) m out ys) ≡ take (4 * k) out ++ ys = take-put_mid (4 * k) m out ys (4 * (k + 1)) (omega (arith, four)) fits in
-    let more : flat_map (to_le_bytes w32) (take k words) ++ to_le_bytes w32 (slice_index words k) ≡ flat_map (to_le_bytes w32) (take k words ++ slice_index words k ∷ []) =
-    flat_map_more (to_le_bytes w32) [] (take k words) (slice_index words k) in
-    front ∙ ap (λ (xs : List ℕ). xs ++ ys) held ∙ ap (λ (xs : List ℕ). flat_map (to_le_bytes w32) (take k words) ++ xs) wrote
-    ∙ more ∙ ap (flat_map (to_le_bytes w32)) (sym (take_more words k 0 within))
 
 -- the state behind the rounds, and the one before them added, are the words of a block
 pub words_are : (key : List ℕ) (n counter : ℕ) (last first : List ℕ) → counter < 2 ^ 32 → n < 2 ^ 64

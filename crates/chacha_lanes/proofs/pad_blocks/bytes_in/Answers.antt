@@ -4,7 +4,7 @@ use Rattle.std.proofs.lemmas.List.{take_all}
 use Rattle.std.proofs.lemmas.Slice.{overwrites}
 use Rattle.rand_chacha.specs.Lanes.{lane}
 use Rattle.rand_chacha.proofs.LaneLemmas.{slice_index-lane}
-use Rattle.chacha_lanes.proofs.BlockWords.{word_written}
+use Rattle.chacha_stream.proofs.FirstBlocks.{word_written}
 use Rattle.chacha_lanes.proofs.pad_blocks.bytes_in.Goals as goal
 
 pub loop-k-init : goal.loop-k-init
