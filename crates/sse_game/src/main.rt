@@ -4,7 +4,7 @@
 //! the rule and the lines. `main` only reads the command line and names the output.
 //! Proved: at each turn the chooser of `play_duel` was shown exactly what passes for the left history, which tells nothing
 //! but its leakage; and `run_program` prints the counts of the duel of the rule, or why it stopped.
-//! Tested: tests/duels.txt and made duels, against a plain model.
+//! Tested: tests/duels.txt and made duels, against a plain model; and a chooser whose additions leak something else, which no row reaches.
 //! Side: client.
 #![tactic(auto)]
 
@@ -20,6 +20,8 @@ mod played;
 mod run;
 mod shown;
 mod side;
+#[cfg(test)]
+mod unlike_sides;
 
 use outside_words::command_line;
 use run::run_program;

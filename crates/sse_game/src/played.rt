@@ -45,7 +45,7 @@ fn last_text(texts: &[Items<u8>]) -> &[u8]
 }
 
 /// A choice as a pair of commands.
-fn pair_by(alloc: Global, keys: HashKeys, choice: GameChoice) -> Result<Pair, AllocError>
+pub(crate) fn pair_by(alloc: Global, keys: HashKeys, choice: GameChoice) -> Result<Pair, AllocError>
     requires { HasIdentifier choice }
     ensures { IfOk result (λ pair. pair_view pair ≡ rules.pair_by choice) }
 {
