@@ -58,22 +58,20 @@ next-renews es key = (omega arith, omega arith)
 -- What it draws.
 
 module _ (f : KeyedFn) (key : List ℕ) where
-  draws-does : (es : Epochs) (c : Command) → (own : List Draw) × (draws_in f key (Some (with_commands (c ∷ []) es)) ≡ draws_in f key (Some es) ++ own ∷ [])
-  draws-does es c =
-      let own = key_now key es in
-      let o = begins es in
-      let run = last_run es in (
-        map (draw (table_at f own run) (ranks_in (table_at f own run) o.epoch run.setup)) (drawings_by o.epoch run.setup run.later c),
-        joined-longer (λ own o run. draws (table_at f own run) o run)
-            (λ own o run cs. map (map (draw (table_at f own run) (ranks_in (table_at f own run) o.epoch run.setup))) (over (drawings_by o.epoch run.setup) run.later cs))
-            (λ own o run cs. draws-append (table_at f own run) o run cs) key es (c ∷ []),
-      )
+  -- by a command after the setup, under the key of the last epoch
+  pub draws-next : (es : Epochs) (c : Command) → draws_in f key (Some (with_commands (c ∷ []) es))
+      ≡ draws_in f key (Some es)
+      ++ map (draw (table_at f (key_now key es) (last_run es)) (ranks_in (table_at f (key_now key es) (last_run es)) (begins es).epoch (last_run es).setup)) (drawings_by (begins es).epoch (last_run es).setup (last_run es).later c) ∷ []
+  draws-next es c =
+      joined-longer (λ own o run. draws (table_at f own run) o run)
+      (λ own o run cs. map (map (draw (table_at f own run) (ranks_in (table_at f own run) o.epoch run.setup))) (over (drawings_by o.epoch run.setup) run.later cs))
+      (λ own o run cs. draws-append (table_at f own run) o run cs) key es (c ∷ [])
 
   pub draws-grown : (h : History) (c : Choice) → accepts_choice h c ≡ true → (own : List Draw) × (draws_in f key (grown h c) ≡ draws_in f key h ++ own ∷ [])
   draws-grown None (SetsUp s) ok = (_, refl)
   draws-grown None (Goes step) ok = absurd (true≢false (sym ok))
   draws-grown (Some es) (SetsUp s) ok = absurd (true≢false (sym ok))
-  draws-grown (Some es) (Goes (Does c)) ok = draws-does es c
+  draws-grown (Some es) (Goes (Does c)) ok = (_, draws-next es c)
   draws-grown (Some es) (Goes (Renews own)) ok = (_, refl)
 
   -- those of the last epoch come last

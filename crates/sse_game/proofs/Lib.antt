@@ -1,3 +1,4 @@
+pub mod DrawnLaws
 pub mod Passing
 pub mod Growing
 pub mod Unequal

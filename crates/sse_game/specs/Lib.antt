@@ -1,5 +1,6 @@
 pub mod Views
 pub mod Side
+pub mod Drawn
 pub mod Passing
 pub mod Game
 pub mod Played

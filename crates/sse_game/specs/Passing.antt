@@ -1,5 +1,5 @@
 -- All that passes for a history, made command by command.
-use Rattle.std.specs.Prelude.{◌≡◌, ◌≢◌, ℕ, List, [], ◌∷◌, ◌++◌, length, None, Some}
+use Rattle.std.specs.Prelude.{◌≡◌, ◌≢◌, ℕ, List, [], ◌∷◌, ◌++◌, length, map, Option, None, Some, IfSome}
 use Rattle.client_registry.specs.Epochs.{Does, Renews, joined}
 use Rattle.client_registry.specs.Run.{History, Epochs}
 use Rattle.def_duel.specs.Choices.{Choice, SetsUp, Goes}
@@ -8,6 +8,8 @@ use Rattle.keyed_fn.specs.KeyFormulas.{mark_of}
 use Rattle.keyed_fn.specs.KeyedFn.{KeyedFn}
 use Rattle.leakage_frames.specs.MadeFrames.{HasRun}
 use Rattle.leakage_frames.specs.Steps.{step}
+use Rattle.leakage_frames.specs.Views.{draw_view}
+use Rattle.leakage_frames.specs.declared.leak.Draw.{Draw as Drawn}
 use Rattle.sse_simulator.specs.Leaks.{Draw, Leak}
 use Rattle.sse_game.specs.declared.shown.Shown.{Shown}
 
@@ -31,6 +33,10 @@ pub record IsNext (f : KeyedFn) (key : List ℕ) (before : History) (es : Epochs
   pub passed : HasPassed f key before shown
   pub leaks : leak_in (Some es) ≡ leak_in before ++ leak ∷ []
   pub drawn : (own : List Draw) × (draws_in f key (Some es) ≡ draws_in f key before ++ own ∷ [])
+
+-- the last command of a history draws this, if it is known
+abbrev pub DrawsLast : KeyedFn → (key : List ℕ) → (before after : History) → Option (List Drawn) → Type 0
+DrawsLast f key before after drawn = IfSome drawn (λ own. draws_in f key after ≡ draws_in f key before ++ map draw_view own ∷ [])
 
 -- the marks of the keys of epochs
 abbrev pub marks_in : KeyedFn → (key : List ℕ) → Epochs → List (List ℕ)

@@ -15,9 +15,10 @@ ghost use Rattle.sse_game.specs.declared.fault.DuelFault.TheVariants as faults;
 use crate::acceptance::can_take;
 use crate::choice::{Choice, Pair};
 use crate::chooser::Chooser;
+use crate::drawn::next_draws;
 use crate::fault::DuelFault;
 use crate::marks::{add_mark, has_new_mark};
-use crate::shown::{Shown, show_last};
+use crate::shown::{Shown, show_next};
 use crate::side::{Side, take};
 use keyed_fn::Keyed;
 use leakage_frames::{Leak, same_leak};
@@ -117,10 +118,19 @@ fn play_taken<K: Keyed>(
 {
     let Pair { left, right } = pair;
     add_mark(keyed, &mut game.marks, &left)?;
-    let leak = take_both(alloc, &mut game.left, &mut game.right, left, right)?;
-    let shown = show_last(alloc, keyed, key, &game.left.epochs, &leak, &mut game.shown);
-    drop(leak);
-    Ok(shown?)
+    let drawn = next_draws(alloc, keyed, key, &game.left, &left)?;
+    match take_both(alloc, &mut game.left, &mut game.right, left, right) {
+        Ok(leak) => {
+            let epochs = &game.left.epochs;
+            let shown = show_next(alloc, keyed, key, epochs, &leak, drawn, &mut game.shown);
+            drop(leak);
+            Ok(shown?)
+        }
+        Err(fault) => {
+            drop(drawn);
+            Err(fault)
+        }
+    }
 }
 
 /// Takes a command on each side, and returns what both leak.

@@ -12,6 +12,7 @@ mod acceptance;
 mod begin;
 mod choice;
 mod chooser;
+mod drawn;
 mod duel;
 mod fault;
 mod game;

@@ -11,7 +11,7 @@ ghost use Rattle.leakage_history.specs.HashedEpochs.{epochs_in};
 ghost use Rattle.leakage_history.specs.HashedRun.{run_of};
 ghost use Rattle.sse_model.specs.Histories.{table_at};
 ghost use Rattle.sse_simulator.specs.Leaks.{Draw as Drawn};
-ghost use Rattle.sse_game.specs.Passing.{HasPassed, HasShown, IsNext, MakesLast};
+ghost use Rattle.sse_game.specs.Passing.{DrawsLast, HasPassed, HasShown, IsNext, MakesLast};
 
 use keyed_fn::Keyed;
 use leakage_draws::draws;
@@ -41,6 +41,31 @@ pub(crate) fn greeted(alloc: Global) -> Result<Shown, AllocError>
         }),
         Err(SimFault::NoMemory) => Err(AllocError),
         Err(SimFault::BadLeak(_)) => unreachable!(),
+    }
+}
+
+/// Shows what passes for the last command of a history, which leaks this, and draws this if it is known. Its first epoch has this key.
+pub(crate) fn show_next<K: Keyed>(
+    alloc: Global,
+    keyed: &K,
+    key: &MasterKey,
+    epochs: &Epochs,
+    leak: &Leak,
+    drawn: Option<Items<Draw>>,
+    shown: &mut Shown,
+) -> Result<(), AllocError>
+    requires next { (before : Past) × IsNext (keyed_fn K.prf K.pad) key.now before (epochs_in epochs.now) (leak_view leak.now) shown.old × DrawsLast (keyed_fn K.prf K.pad) key.now before (Some (epochs_in epochs.now)) drawn }
+    requires kept { IsWhole (Some (epochs_in epochs.now)) × IsKept (Some (epochs_in epochs.now)) }
+    requires numbered { (next_begins (epochs_in epochs.now)).command < 2 ^ 32 }
+    ensures { OnOk result (HasPassed (keyed_fn K.prf K.pad) key.now (Some (epochs_in epochs.now)) shown.new) }
+{
+    match drawn {
+        Some(own) => {
+            let ended = show(alloc, leak, &own, shown);
+            drop(own);
+            ended
+        }
+        None => show_last(alloc, keyed, key, epochs, leak, shown),
     }
 }
 
@@ -147,7 +172,7 @@ fn push_texts(
 }
 
 /// The same bytes again.
-fn copied(alloc: Global, bytes: &[u8]) -> Result<Items<u8>, AllocError>
+pub(crate) fn copied(alloc: Global, bytes: &[u8]) -> Result<Items<u8>, AllocError>
     ensures { IfOk result (λ copy. copy ≡ bytes.now) }
 {
     let mut copy = Items::new(alloc);
