@@ -7,6 +7,7 @@ ghost use Rattle.def_leakage.specs.Histories.{leak_in};
 ghost use Rattle.keyed_fn.specs.KeyedFn.{keyed_fn};
 ghost use Rattle.leakage_frames.specs.Views.{leak_view};
 ghost use Rattle.sse_game.specs.Game.{IsGame, IsUnequal, sides_at};
+ghost use Rattle.sse_game.specs.Passing.{DrawsLast};
 ghost use Rattle.sse_game.specs.Played.{Told};
 ghost use Rattle.sse_game.specs.Side.{HasTaken, IsSide, LeaksOther, history_at};
 ghost use Rattle.sse_game.specs.Views.{choice_view, pair_view};
@@ -21,7 +22,8 @@ use crate::marks::{add_mark, has_new_mark};
 use crate::shown::{Shown, show_next};
 use crate::side::{Side, take};
 use keyed_fn::Keyed;
-use leakage_frames::{Leak, same_leak};
+use leakage_frames::{Draw, Leak, same_leak};
+use sse_frames::Items;
 use std::alloc::{AllocError, Global};
 use word_keys::MasterKey;
 
@@ -118,14 +120,51 @@ fn play_taken<K: Keyed>(
 {
     let Pair { left, right } = pair;
     add_mark(keyed, &mut game.marks, &left)?;
-    let drawn = next_draws(alloc, keyed, key, &game.left, &left)?;
-    match take_both(alloc, &mut game.left, &mut game.right, left, right) {
-        Ok(leak) => {
-            let epochs = &game.left.epochs;
-            let shown = show_next(alloc, keyed, key, epochs, &leak, drawn, &mut game.shown);
-            drop(leak);
-            Ok(shown?)
-        }
+    let taken = take_drawn(
+        alloc,
+        keyed,
+        key,
+        &mut game.left,
+        &mut game.right,
+        left,
+        right,
+    )?;
+    let Taken { leak, drawn } = taken;
+    let epochs = &game.left.epochs;
+    let shown = show_next(alloc, keyed, key, epochs, &leak, drawn, &mut game.shown);
+    drop(leak);
+    Ok(shown?)
+}
+
+/// What both commands of a pair that was taken leak, and what the left one draws, if it is known.
+#[derive(Drop)]
+struct Taken {
+    leak: Leak,
+    drawn: Option<Items<Draw>>,
+}
+
+/// Takes a command on each side, and returns what both leak, and what the left one draws. The first epoch on the left has this key.
+fn take_drawn<K: Keyed>(
+    alloc: Global,
+    keyed: &K,
+    key: &MasterKey,
+    left: &mut Side,
+    right: &mut Side,
+    choice: Choice,
+    other: Choice,
+) -> Result<Taken, DuelFault>
+    requires left { IsSide left.old × (choices.can_take (history_at left.old) (choice_view choice) ≡ true) }
+    requires right { IsSide right.old × (choices.can_take (history_at right.old) (choice_view other) ≡ true) }
+    requires leaks { leak_in (history_at left.old) ≡ leak_in (history_at right.old) }
+    ensures left { IfOk result (λ taken. HasTaken (history_at left.old) (choice_view choice) left.new (leak_view taken.leak)) }
+    ensures right { IfOk result (λ taken. HasTaken (history_at right.old) (choice_view other) right.new (leak_view taken.leak)) }
+    ensures drawn { IfOk result (λ taken. DrawsLast (keyed_fn K.prf K.pad) key.now (history_at left.old) (history_at left.new) taken.drawn) }
+    ensures differ { (k : ℕ) → result ≡ Err (faults.LeaksDiffer k) → IsFirstDifference k (leak_in (choices.grown (history_at left.old) (choice_view choice))) (leak_in (choices.grown (history_at right.old) (choice_view other))) }
+    ensures begun { result ≢ Err faults.NoSetup }
+{
+    let drawn = next_draws(alloc, keyed, key, left, &choice)?;
+    match take_both(alloc, left, right, choice, other) {
+        Ok(leak) => Ok(Taken { leak, drawn }),
         Err(fault) => {
             drop(drawn);
             Err(fault)
