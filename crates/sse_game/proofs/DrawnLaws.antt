@@ -2,7 +2,6 @@
 use Rattle.std.proofs.Common.{◌≡◌, ℕ, ◌+◌, Bool, true, false, not, ◌||◌, cond, List, [], ◌∷◌, ◌++◌, map, filter, Some, None, refl, sym, ap, ◌∙◌, append_assoc}
 use Rattle.std.specs.Prelude.{flat_map, if◌then◌else◌, unwrap_or, is_some, Option, option_map}
 use Rattle.std.specs.List.{list_any}
-use Rattle.std.proofs.lemmas.Bool.{true≢false}
 use Rattle.std.proofs.lemmas.List.{append-nil, map-append}
 use Rattle.std.proofs.lemmas.List.Concat.{flat_map-append}
 use Rattle.client_registry.proofs.OrderLaws.{AreApart}
@@ -15,8 +14,8 @@ use Rattle.client_registry.specs.Run.{Offsets}
 use Rattle.client_registry.specs.Setup.{Setup}
 use Rattle.def_leakage.proofs.Law.{unsent, sent}
 use Rattle.def_leakage.specs.DrawnValues.{ForEntry, ForNumber, ForToken, draw, drawings_by}
-use Rattle.def_leakage.specs.Firsts.{first_place, first_search, number_origin, origin, searched_at}
-use Rattle.keyed_fn.specs.KeyFormulas.{part_key, revocation, token_of}
+use Rattle.def_leakage.specs.Firsts.{first_place, first_search, number_origin, searched_at}
+use Rattle.keyed_fn.specs.KeyFormulas.{part_key, revocation}
 use Rattle.keyed_fn.specs.KeyedFn.{KeyedFn}
 use Rattle.sse_frames.specs.Frames.{be64}
 use Rattle.sse_model.proofs.LiveWords.{words_live-apart}
@@ -24,7 +23,7 @@ use Rattle.sse_model.specs.Drawn.{was_sent, searches_for}
 use Rattle.sse_model.specs.Names.{Table, name, table, PlusLabel, PlusPad, Revocation, Token}
 use Rattle.sse_model.specs.Positions.{Position}
 use Rattle.sse_model.specs.Wire.{words_live}
-use Rattle.sse_simulator.specs.Leaks.{Draw, NumberDraw, TokenDraw, Origin}
+use Rattle.sse_simulator.specs.Leaks.{Draw, NumberDraw, Origin}
 use Rattle.sse_game.specs.Drawn.{added_piece, deleted_piece, entry_drawn, searched_piece}
 
 -- A loop over words.

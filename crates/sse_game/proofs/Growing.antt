@@ -1,21 +1,20 @@
 -- A history with a command more: what it leaks, draws and numbers.
-use Rattle.std.proofs.Common.{◌≡◌, ◌≢◌, ℕ, ◌+◌, ◌<◌, ◌^◌, Bool, true, false, ◌&&◌, List, [], ◌∷◌, ◌++◌, length, map, filter, nat_lt, Some, None, refl, sym, ap, ◌∙◌, arith, length-append, append_assoc}
+use Rattle.std.proofs.Common.{◌≡◌, ◌≢◌, ℕ, ◌+◌, true, List, [], ◌∷◌, ◌++◌, length, map, filter, Some, None, refl, sym, ap, ◌∙◌, arith, length-append}
 use Rattle.std.proofs.lemmas.Bool.{true≢false}
 use Rattle.std.proofs.lemmas.List.{append-nil}
 use Rattle.std.proofs.lemmas.List.Elements.{filter-append}
-use Rattle.client_registry.proofs.HistoryLaws.{begins-with_commands, joined-longer, last_run-with_commands}
+use Rattle.client_registry.proofs.HistoryLaws.{joined-longer}
 use Rattle.client_registry.proofs.OverLaws.{length-over}
 use Rattle.client_registry.specs.Acceptance.{frames_needed}
 use Rattle.client_registry.specs.Command.{Command, is_update}
-use Rattle.client_registry.specs.Epochs.{Does, Renews, behind, begins, key_now, next_begins, joined, setup_renewed, with_commands, with_renewal}
+use Rattle.client_registry.specs.Epochs.{Does, Renews, begins, key_now, next_begins, setup_renewed, with_commands, with_renewal}
 use Rattle.client_registry.specs.Histories.{IsWhole}
 use Rattle.client_registry.specs.Over.{over}
-use Rattle.client_registry.specs.Run.{Run, Offsets, Epochs, From, Renewed, History, last_run}
-use Rattle.client_registry.specs.Setup.{Setup}
-use Rattle.def_duel.specs.Choices.{Choice, SetsUp, Goes, accepts_choice, grown, is_numbered}
+use Rattle.client_registry.specs.Run.{Offsets, Epochs, From, Renewed, History, last_run}
+use Rattle.def_duel.specs.Choices.{Choice, SetsUp, Goes, accepts_choice, grown}
 use Rattle.def_leakage.proofs.Draws.{ranks_in}
 use Rattle.def_leakage.proofs.Fronts.{leak-append, draws-append}
-use Rattle.def_leakage.specs.CommandLeaks.{leak, leak_by, leak_of_setup}
+use Rattle.def_leakage.specs.CommandLeaks.{leak, leak_by}
 use Rattle.def_leakage.specs.DrawnValues.{draw, drawings_by, draws}
 use Rattle.def_leakage.specs.Histories.{leak_in, draws_in}
 use Rattle.def_relabelling.proofs.Pairs.{tails}

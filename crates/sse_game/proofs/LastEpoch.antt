@@ -7,7 +7,7 @@ use Rattle.client_registry.specs.Epochs.{begins, key_now}
 use Rattle.client_registry.specs.Histories.{IsKept, IsWhole}
 use Rattle.client_registry.specs.Run.{Epochs, From, History, Offsets, Renewed, Run, last_run}
 use Rattle.def_leakage.specs.DrawnValues.{draws}
-use Rattle.def_leakage.specs.Histories.{leak_in, draws_in}
+use Rattle.def_leakage.specs.Histories.{draws_in}
 use Rattle.keyed_fn.specs.KeyedFn.{KeyedFn}
 use Rattle.leakage_history.proofs.EpochLaws.{slice_get-behind}
 use Rattle.leakage_history.specs.HashedEpochs.{renewal_keys}

@@ -11,13 +11,13 @@ use Rattle.def_leakage.proofs.Sessions.{session_is_simulated}
 use Rattle.def_leakage.specs.Histories.{leak_in, draws_in}
 use Rattle.keyed_fn.specs.KeyedFn.{KeyedFn}
 use Rattle.leakage_frames.proofs.RunLaws.{HasRun-all, HasRun-push}
-use Rattle.leakage_frames.specs.MadeFrames.{HasRun, ahead, made_onto, numbers_taken}
+use Rattle.leakage_frames.specs.MadeFrames.{HasRun, ahead, numbers_taken}
 use Rattle.leakage_frames.specs.Steps.{bytes_of, bytes_simulated, passed_bytes, step}
 use Rattle.sse_frames.specs.Exchange.{exchange, greeting}
 use Rattle.sse_frames.specs.Frames.{FrameText}
 use Rattle.sse_model.specs.Transcript.{session}
 use Rattle.sse_simulator.specs.Leaks.{Draw, Leak}
-use Rattle.sse_simulator.specs.Simulator.{Sim, answer_of, before, frames_simulated, kept_of, sim_after, sim_at_first, simulated, simulated_from}
+use Rattle.sse_simulator.specs.Simulator.{Sim, answer_of, before, frames_simulated, kept_of, sim_after, sim_at_first, simulated_from}
 use Rattle.sse_game.specs.Passing.{HasPassed, HasShown}
 use Rattle.sse_game.specs.declared.shown.Shown.{Shown}
 

@@ -1,5 +1,5 @@
 -- A side with a command more.
-use Rattle.std.proofs.Common.{◌≡◌, ℕ, ◌+◌, ◌<◌, ◌^◌, true, List, [], ◌∷◌, ◌++◌, length, filter, Some, refl, sym, ap, subst, ◌∙◌, arith}
+use Rattle.std.proofs.Common.{◌≡◌, ℕ, ◌+◌, true, List, [], ◌∷◌, ◌++◌, length, filter, sym, ap, subst, ◌∙◌, arith}
 use Rattle.client_registry.proofs.HistoryLaws.{begins-with_commands, last_run-with_commands}
 use Rattle.client_registry.specs.Acceptance.{frames_needed}
 use Rattle.client_registry.specs.Command.{Command, is_update}

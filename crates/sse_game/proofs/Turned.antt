@@ -1,6 +1,5 @@
 -- A turn of a duel, by what the chooser was shown and answered.
-use Rattle.std.proofs.Common.{◌≡◌, ℕ, ◌+◌, ◌≤◌, Bool, true, false, List, [], ◌∷◌, ◌++◌, None, Some, Ok, Err, refl, sym, ap, ◌∙◌, arith, inr}
-use Rattle.client_registry.specs.Run.{History}
+use Rattle.std.proofs.Common.{◌≡◌, ℕ, ◌+◌, ◌≤◌, Bool, true, false, List, [], ◌∷◌, ◌++◌, None, Some, Ok, Err, refl, ap, arith, inr}
 use Rattle.std.specs.Prelude.{IfOk, OnOk, Result}
 use Rattle.def_duel.specs.Choices.{Pair, Sides, at_start, is_taken, played, taken_if}
 use Rattle.def_duel.specs.Duels.{CanGoOn, DiffersAt, HasNoSetup, HasTurned}

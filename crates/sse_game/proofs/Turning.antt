@@ -1,12 +1,12 @@
 -- Turns in a row, and what each of them tells.
 use Rattle.std.proofs.Common.{◌≡◌, ℕ, ◌+◌, ◌-◌, ◌<◌, ◌≤◌, Bool, true, false, List, [], ◌∷◌, ◌++◌, refl, sym, ap, ◌∙◌, subst, arith, append_assoc, inl, inr, Some, None}
-use Rattle.std.specs.Prelude.{Option, is_some, option_map}
+use Rattle.std.specs.Prelude.{Option, is_some}
 use Rattle.std.proofs.lemmas.Bool.{true≢false}
 use Rattle.std.proofs.lemmas.List.{append-nil}
 use Rattle.def_duel.proofs.TurnsTell.{turn_table_stays, turn_tells_nothing_else}
 use Rattle.def_duel.proofs.TheoremA.{AreKept}
 use Rattle.def_duel.specs.Choices.{Pair, Sides, at_start, is_taken, taken_if, played}
-use Rattle.def_duel.specs.Duels.{CanGoOn, DiffersAt, HasDuelled, HasPlayed, HasTurned, told_more}
+use Rattle.def_duel.specs.Duels.{DiffersAt, HasDuelled, HasTurned, told_more}
 use Rattle.def_duel.specs.Telling.{AgreeAtNames}
 use Rattle.def_duel.specs.Turns.{Turn, turn, answered, sides_after, texts_of, AreAnswered, AreOver, AreShown}
 use Rattle.def_leakage.specs.Histories.{leak_in}

@@ -1,4 +1,4 @@
-use Rattle.std.proofs.Common.{◌≡◌, ◌&&◌, ℕ, Bool, true, false, length, filter, nat_le, nat_lt, ◌-◌, ◌^◌, ◌∷◌, [], sym, ap, ◌∙◌, arith}
+use Rattle.std.proofs.Common.{◌&&◌, length, filter, nat_le, nat_lt, ◌-◌, ◌^◌, ◌∷◌, [], sym, ap, ◌∙◌, arith}
 use Rattle.std.specs.Prelude.{is_none}
 use Rattle.client_registry.specs.Command.{is_update}
 use Rattle.leakage_history.specs.Commands.{command_of}

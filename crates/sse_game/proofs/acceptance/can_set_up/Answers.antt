@@ -1,12 +1,11 @@
-use Rattle.std.proofs.Common.{◌≡◌, ◌&&◌, ℕ, ◌+◌, Bool, true, false, None, nat_le, nat_lt, ◌-◌, ◌^◌, refl, sym, ap, ◌∙◌}
+use Rattle.std.proofs.Common.{◌≡◌, ◌&&◌, ◌+◌, None, nat_le, nat_lt, ◌-◌, ◌^◌, sym, ap, ◌∙◌}
 use Rattle.std.specs.Prelude.{is_none}
 use Rattle.client_registry.specs.Acceptance.{frames_needed, size_refusal}
 use Rattle.client_registry.specs.Run.{last_run, Run}
-use Rattle.client_registry.specs.Setup.{Setup, setup_with}
+use Rattle.client_registry.specs.Setup.{setup_with}
 use Rattle.client_registry.specs.declared.size.Size.{Size}
 use Rattle.std.specs.Int.{div_ceil}
 use Rattle.leakage_history.proofs.LiveFaults.{by_parts, size_accepted}
-use Rattle.leakage_history.specs.HashedRun.{run_of}
 use Rattle.sse_game.specs.Side.{epochs_at, set_up_like}
 use Rattle.sse_game.proofs.Accepting.{refused_size}
 use Rattle.sse_game.proofs.acceptance.can_set_up.Goals as goal

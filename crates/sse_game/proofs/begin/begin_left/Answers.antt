@@ -1,4 +1,4 @@
-use Rattle.std.proofs.Common.{◌≡◌, ◌&&◌, Bool, None, Some, sym, ap, subst, ◌∙◌}
+use Rattle.std.proofs.Common.{None, sym, subst}
 use Rattle.def_duel.specs.Choices as choices
 use Rattle.keyed_fn.specs.KeyedFn.{keyed_fn}
 use Rattle.sse_game.specs.Game.{IsUnequal}

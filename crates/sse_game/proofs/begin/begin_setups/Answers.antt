@@ -1,4 +1,4 @@
-use Rattle.std.proofs.Common.{◌≡◌, Err, ap, ◌∙◌}
+use Rattle.std.proofs.Common.{Err, ap, ◌∙◌}
 use Rattle.def_duel.specs.Choices.{SetsUp, can_take}
 use Rattle.std.proofs.Common.{None}
 use Rattle.sse_game.specs.Views.{setup_view}

@@ -1,8 +1,8 @@
-use Rattle.std.proofs.Common.{◌≡◌, ◌&&◌, Bool, None, Some, sym, ap, subst, ◌∙◌}
+use Rattle.std.proofs.Common.{◌&&◌, None, sym, ap, subst}
 use Rattle.def_duel.specs.Choices as choices
 use Rattle.keyed_fn.specs.KeyedFn.{keyed_fn}
 use Rattle.sse_game.specs.Game.{IsUnequal}
-use Rattle.sse_game.specs.Views.{choice_view, setup_view}
+use Rattle.sse_game.specs.Views.{choice_view}
 use Rattle.sse_game.proofs.begin.begin_with.Goals as goal
 
 pub returns-in-Some-clause-differ : goal.returns-in-Some-clause-differ

@@ -1,4 +1,4 @@
-use Rattle.std.proofs.Common.{◌≡◌, ◌∷◌, [], None, refl, sym, ap, ◌∙◌}
+use Rattle.std.proofs.Common.{◌∷◌, [], None, refl, sym, ap, ◌∙◌}
 use Rattle.def_duel.specs.Choices.{SetsUp}
 use Rattle.keyed_fn.specs.KeyedFn.{keyed_fn}
 use Rattle.leakage_frames.specs.Views.{leak_view}

@@ -1,4 +1,4 @@
-use Rattle.std.proofs.Common.{◌≡◌, ℕ, ◌-◌, sym, ◌∙◌, arith}
+use Rattle.std.proofs.Common.{◌-◌, sym, ◌∙◌, arith}
 use Rattle.leakage_history.specs.HashedEpochs.{epochs_in}
 use Rattle.sse_game.proofs.LastEpoch.{key_first, key_last}
 use Rattle.sse_game.proofs.drawn.last_key.Goals as goal

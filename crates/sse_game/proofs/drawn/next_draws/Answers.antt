@@ -1,4 +1,4 @@
-use Rattle.std.proofs.Common.{◌≡◌, ◌++◌, ◌∷◌, [], map, sym, ap, ◌∙◌}
+use Rattle.std.proofs.Common.{◌++◌, ◌∷◌, [], map, sym, ap, ◌∙◌}
 use Rattle.client_registry.specs.Epochs.{begins, key_now}
 use Rattle.client_registry.specs.Run.{last_run}
 use Rattle.def_duel.specs.Choices.{grown}

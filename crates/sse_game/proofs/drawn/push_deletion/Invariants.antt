@@ -1,4 +1,4 @@
-use Rattle.std.proofs.Common.{◌≡◌, ℕ, List, ◌++◌, map, take}
+use Rattle.std.proofs.Common.{◌≡◌, List, ◌++◌, map, take}
 use Rattle.std.specs.Prelude.{flat_map, is_some}
 use Rattle.client_registry.specs.Command.{Command}
 use Rattle.client_registry.specs.IdNumber.{id_number}

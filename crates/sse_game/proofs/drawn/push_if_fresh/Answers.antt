@@ -1,4 +1,4 @@
-use Rattle.std.proofs.Common.{◌≡◌, [], ◌∷◌, ap, ◌∙◌}
+use Rattle.std.proofs.Common.{[], ◌∷◌, ap, ◌∙◌}
 use Rattle.leakage_frames.specs.Views.{draw_view}
 use Rattle.sse_game.proofs.DrawnLaws.{fresh, pushed}
 use Rattle.sse_game.proofs.drawn.push_if_fresh.Goals as goal

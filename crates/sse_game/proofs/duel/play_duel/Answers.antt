@@ -1,4 +1,4 @@
-use Rattle.std.proofs.Common.{◌≡◌, Err, Some, ap, ◌∙◌}
+use Rattle.std.proofs.Common.{Err, Some, ap, ◌∙◌}
 use Rattle.keyed_fn.specs.KeyedFn.{keyed_fn}
 use Rattle.sse_game.specs.Game.{sides_at}
 use Rattle.sse_game.specs.declared.duel.Duel.{Duel}

@@ -1,8 +1,8 @@
-use Rattle.std.proofs.Common.{◌≡◌, ◌+◌, Bool, true, false, List, Ok, Err, Some, refl, sym, ap, subst, ◌∙◌, arith}
+use Rattle.std.proofs.Common.{◌≡◌, Bool, true, false, Ok, Err, Some, refl, sym, ap, subst, ◌∙◌, arith}
 use Rattle.std.specs.Prelude.{IfOk}
 use Rattle.def_duel.specs.Choices.{Sides}
 use Rattle.def_duel.specs.Duels.{HasTurned}
-use Rattle.def_duel.specs.Turns.{Turn, texts_of}
+use Rattle.def_duel.specs.Turns.{texts_of}
 use Rattle.keyed_fn.specs.KeyedFn.{IsKeyedFn, keyed_fn}
 use Rattle.sse_game.specs.Game.{sides_at}
 use Rattle.sse_game.specs.Played.{IsDuel, Told}

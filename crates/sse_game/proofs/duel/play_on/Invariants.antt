@@ -1,4 +1,4 @@
-use Rattle.std.proofs.Common.{◌≡◌, ◌+◌, ◌≤◌, List, Some}
+use Rattle.std.proofs.Common.{◌+◌, ◌≤◌, List, Some}
 use Rattle.def_duel.specs.Turns.{Turn}
 use Rattle.keyed_fn.specs.KeyedFn.{keyed_fn}
 use Rattle.sse_game.specs.Game.{IsGame, sides_at}

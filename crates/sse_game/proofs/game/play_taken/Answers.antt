@@ -1,4 +1,3 @@
-use Rattle.std.proofs.Common.{◌≡◌}
 use Rattle.keyed_fn.specs.KeyedFn.{keyed_fn}
 use Rattle.leakage_frames.specs.Views.{leak_view}
 use Rattle.sse_game.specs.Game.{sides_at}

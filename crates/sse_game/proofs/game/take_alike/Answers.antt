@@ -1,4 +1,4 @@
-use Rattle.std.proofs.Common.{◌≡◌, ℕ, refl, sym, ap, ◌∙◌}
+use Rattle.std.proofs.Common.{sym, ◌∙◌}
 use Rattle.leakage_frames.specs.Views.{leak_view}
 use Rattle.sse_game.specs.Side.{epochs_at}
 use Rattle.sse_game.proofs.Faults.{same_number, untrue}

@@ -1,4 +1,4 @@
-use Rattle.std.proofs.Common.{◌≡◌, ℕ, Err, refl, sym, ap, ◌∙◌}
+use Rattle.std.proofs.Common.{Err, ap, ◌∙◌}
 use Rattle.leakage_frames.specs.Views.{leak_view}
 use Rattle.leakage_frames.specs.declared.leak.Leak.{Leak}
 use Rattle.sse_game.specs.Side.{history_at}

@@ -1,7 +1,7 @@
-use Rattle.std.proofs.Common.{◌≡◌, ◌++◌, ◌∷◌, [], Bool, List, None, Some, Err, sym, ap, ◌∙◌, subst}
+use Rattle.std.proofs.Common.{◌++◌, ◌∷◌, [], Bool, None, Some, Err, ap, ◌∙◌, subst}
 use Rattle.std.specs.Prelude.{option_map}
 use Rattle.std.specs.declared.option.Option.{Option}
-use Rattle.def_duel.specs.Turns.{Turn, turn}
+use Rattle.def_duel.specs.Turns.{turn}
 use Rattle.keyed_fn.specs.KeyedFn.{keyed_fn}
 use Rattle.sse_game.specs.Views.{pair_view}
 use Rattle.sse_game.specs.declared.choice.Pair.{Pair}

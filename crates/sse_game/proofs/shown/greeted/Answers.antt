@@ -1,4 +1,4 @@
-use Rattle.std.proofs.Common.{◌≡◌, ℕ, List, Err, length, map, ap, ◌∙◌, arith}
+use Rattle.std.proofs.Common.{Err, length, map, ap, ◌∙◌, arith}
 use Rattle.leakage_frames.specs.Views.{leak_view}
 use Rattle.sse_game.proofs.shown.greeted.Goals as goal
 

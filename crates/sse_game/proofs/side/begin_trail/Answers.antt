@@ -1,4 +1,4 @@
-use Rattle.std.proofs.Common.{◌≡◌, ℕ, List, [], length, sym, ap, subst, ◌∙◌, arith}
+use Rattle.std.proofs.Common.{List, [], length, sym, ap, subst, ◌∙◌, arith}
 use Rattle.client_registry.proofs.HistoryLaws.{IsHistory-last}
 use Rattle.client_registry.specs.Acceptance.{size_refusal}
 use Rattle.client_registry.specs.Command.{Command}

@@ -1,5 +1,4 @@
-use Rattle.std.proofs.Common.{◌≡◌, ℕ, ◌+◌, List, [], ◌∷◌, None, Some, refl, sym, ap, ◌∙◌, arith}
-use Rattle.std.specs.Prelude.{is_none}
+use Rattle.std.proofs.Common.{◌+◌, refl, ap, ◌∙◌, arith}
 use Rattle.client_registry.specs.Epochs.{begins}
 use Rattle.client_registry.specs.Run.{last_run}
 use Rattle.leakage_frames.proofs.RunLaws.{on_ok_both}

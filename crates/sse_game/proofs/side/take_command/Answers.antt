@@ -1,4 +1,4 @@
-use Rattle.std.proofs.Common.{◌≡◌, ◌∷◌, [], ◌++◌, Some, sym, ap, ◌∙◌}
+use Rattle.std.proofs.Common.{◌∷◌, [], ◌++◌, Some, sym, ap, ◌∙◌}
 use Rattle.client_registry.specs.Epochs.{begins}
 use Rattle.client_registry.specs.Run.{last_run}
 use Rattle.def_leakage.specs.Histories.{leak_in}
