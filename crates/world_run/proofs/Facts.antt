@@ -1,10 +1,8 @@
 -- What is so of the client of a world that is reached.
-use Rattle.std.proofs.Common.{◌≡◌, ℕ, Bool, true, false, List, length, None, Some, sym, subst}
+use Rattle.std.proofs.Common.{◌≡◌, ℕ, Bool, false, List, length, None, Some}
 use Rattle.keyed_fn.specs.KeyedFn.{KeyedFn}
-use Rattle.client_core.specs.Resumes.{last_collision}
-use Rattle.client_registry.specs.Epochs.{begins, key_now}
 use Rattle.client_registry.specs.Histories.{frames_in}
-use Rattle.client_registry.specs.Run.{History, Epochs, last_run}
+use Rattle.client_registry.specs.Run.{History}
 use Rattle.sse_model.specs.Histories.{frames_sent}
 use Rattle.std.specs.List.{AllByRecursion}
 use Rattle.world_model.proofs.Given.{are_of_events}
@@ -14,7 +12,7 @@ use Rattle.world_rules.proofs.Commands.{no_search, no_last_collision, last_colli
 use Rattle.world_rules.proofs.Commands as rules
 use Rattle.world_rules.proofs.Kept.{store_promised}
 use Rattle.world_rules.proofs.Numbered.{gapless}
-use Rattle.world_rules.specs.Changes.{Change, history_of}
+use Rattle.world_rules.specs.Changes.{history_of}
 use Rattle.world_rules.specs.Promises.{StoreWorld, IsSizedChange, KeepsStore}
 use Rattle.world_rules.specs.Rules.{store_rules}
 use Rattle.world_client.specs.Histories.{HasNoSearch, IsClear, IsOfClient}

@@ -2,3 +2,10 @@ pub mod Facts
 pub mod Sends
 pub mod Sides
 pub mod Came
+pub mod Stepping
+pub mod Stopping
+pub mod Commanding
+pub mod Beginning
+pub mod Asking
+pub mod Starting
+pub mod Passing

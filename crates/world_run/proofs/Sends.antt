@@ -75,7 +75,7 @@ AreReported-push (x ∷ ds) (y ∷ dones) d told are is = (are.0, AreReported-pu
 
 -- What waits.
 
-none_waits : (reply : Option (Reply (List ReplyText))) (waiting : Option Replies) → IsWaiting reply waiting → waiting ≡ None → reply ≡ None
+pub none_waits : (reply : Option (Reply (List ReplyText))) (waiting : Option Replies) → IsWaiting reply waiting → waiting ≡ None → reply ≡ None
 none_waits None waiting is e = refl
 none_waits (Some reply) None is e = absurd is
 none_waits (Some reply) (Some replies) is e = cc
@@ -86,7 +86,7 @@ pub record IsAnswer (waiting : Option (Reply (List ReplyText))) (replies : Repli
   pub kept : IsKept reply replies
   pub can : CanWrite replies
 
-some_waits : (reply : Option (Reply (List ReplyText))) (waiting : Option Replies) (replies : Replies) → IsWaiting reply waiting → waiting ≡ Some replies → IsAnswer reply replies
+pub some_waits : (reply : Option (Reply (List ReplyText))) (waiting : Option Replies) (replies : Replies) → IsWaiting reply waiting → waiting ≡ Some replies → IsAnswer reply replies
 some_waits None None replies is e = cc
 some_waits None (Some other) replies is e = absurd is
 some_waits (Some reply) None replies is e = absurd is

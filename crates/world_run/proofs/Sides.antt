@@ -1,5 +1,5 @@
 -- The side that runs a client's part: one that runs, and one that doesn't.
-use Rattle.std.proofs.Common.{◌≡◌, ℕ, Bool, true, false, Option, List, ◌++◌, None, Some, inl, refl, sym, ap, ◌∙◌, subst}
+use Rattle.std.proofs.Common.{◌≡◌, ℕ, Bool, true, false, Option, List, None, Some, inl, refl, sym, ap, ◌∙◌, subst}
 use Rattle.std.specs.Prelude.{IfSome, ◌<◌}
 use Rattle.std.proofs.lemmas.List.{append-nil}
 use Rattle.client_registry.specs.Run.{History}

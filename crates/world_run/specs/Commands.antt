@@ -1,6 +1,5 @@
 -- The commands of a client in a program, and what they come to.
-use Rattle.std.specs.Prelude.{◌≡◌, ℕ, ◌&&◌, Bool, true, false, List, [], ◌∷◌, Option, None, Some, unwrap_or}
-use Rattle.client_core.specs.States.{BehindState, ClientOf}
+use Rattle.std.specs.Prelude.{◌≡◌, ℕ, ◌&&◌, Bool, true, false, List, Option, None, Some}
 use Rattle.client_records.specs.Records.{renewal_record, setup_record, update_record}
 use Rattle.client_registry.specs.Command.{Add as adds, Delete as deletes}
 use Rattle.client_registry.specs.Histories.{frames_in}
@@ -11,7 +10,7 @@ use Rattle.keyed_fn.specs.KeyFormulas.{mark_of}
 use Rattle.keyed_fn.specs.KeyedFn.{KeyedFn}
 use Rattle.outside_memory_disk.specs.declared.mem_disk.MemDisk.{MemDisk}
 use Rattle.sse_journal.specs.declared.journal.Journal.{Journal}
-use Rattle.world_model.specs.World.{Disk, Phase, Rests, Sends}
+use Rattle.world_model.specs.World.{Disk, Phase, Sends}
 use Rattle.world_model.specs.Events.{left, in_doubt, settled, rests}
 use Rattle.world_disks.specs.Disks.{IsDiskOf, Holds, IsMet, IsUnmet}
 use Rattle.world_disks.specs.declared.stop.Stop.{Stop}

@@ -11,13 +11,15 @@ use Rattle.sse_model.specs.Epochs.{key_in}
 use Rattle.world_disks.specs.Disks.{IsDiskOf, Holds}
 use Rattle.world_disks.specs.declared.stop.Stop as code
 use Rattle.world_model.specs.World.{Disk, Phase, Asks, Client, Reply, Stop}
-use Rattle.world_model.specs.Events.{Event, Leads, left, settled, rests, stop_before}
+use Rattle.world_model.specs.Events.{Event, Find, Leads, left, settled, rests, stop_before}
 use Rattle.world_rules.specs.Changes.{Change, history_of}
 use Rattle.world_rules.specs.Promises.{StoreWorld}
 use Rattle.world_rules.specs.Rules.{store_rules}
 use Rattle.world_client.specs.Clients.{IsClientIn}
 use Rattle.world_client.specs.Histories.{records_under}
 use Rattle.world_client.specs.Starting.{HasKey}
+use Rattle.world_client.specs.declared.state.State.{State}
+use Rattle.world_client.specs.declared.state.State.TheVariants as states
 use Rattle.world_server.specs.Sides.{stop_in}
 use Rattle.world_server.specs.declared.replies.Replies.{Replies}
 use Rattle.sse_world.specs.Stands.{IsWaiting, outcome_in}
@@ -44,6 +46,22 @@ halted part = record part { client = None; stop = stop_before part.client part.s
 -- the words that were looked for
 abbrev pub words_asked : StoreWorld → List (List ℕ)
 words_asked w = map (λ a. a.word) w.searches
+
+-- a client that is set up and has nothing to send
+abbrev pub is_resting : State → Bool
+is_resting (states.Greeting client) = false
+is_resting (states.Fresh client) = false
+is_resting (states.Resting client) = true
+is_resting (states.Sending client) = false
+is_resting (states.Asking client word) = false
+
+-- asks for this word; any other stays
+abbrev pub asked_in : State → Word → State
+asked_in (states.Greeting client) word = states.Greeting client
+asked_in (states.Fresh client) word = states.Fresh client
+asked_in (states.Resting client) word = states.Asking client word
+asked_in (states.Sending client) word = states.Sending client
+asked_in (states.Asking client before) word = states.Asking client before
 
 module _ (f : KeyedFn) (first : List ℕ) where
   -- a client that runs: its journal has the records of its commands and takes more, it is in its phase, and it has the last key
@@ -76,6 +94,12 @@ module _ (f : KeyedFn) (first : List ℕ) where
   abbrev pub LeadsClient : StoreWorld → Event Change (List ℕ) → Outcome → Option Running → MemDisk → Option code.Stop → (key : List ℕ) → (other : Option (List ℕ)) → Option Replies → Type 0
   LeadsClient w e out running disk stop key other waiting =
       (v : StoreWorld) × Leads (store_rules f first) w e (outcome_in out) v × (v ≡ with_client w (client_part v) v.waiting) × IsClient (client_part v) running disk stop key other × IsWaiting v.waiting waiting
+
+  -- the same of a search, which comes behind all that were made
+  abbrev pub LeadsFinding : StoreWorld → (word : List ℕ) → Outcome → Option Running → MemDisk → Option code.Stop → (key : List ℕ) → (other : Option (List ℕ)) → (asked : List Word) → Type 0
+  LeadsFinding w word out running disk stop key other asked =
+      (v : StoreWorld) × Leads (store_rules f first) w (Find word) (outcome_in out) v × (v ≡ record w { client = v.client; searches = v.searches })
+      × IsClient (client_part v) running disk stop key other × (words_asked v ≡ map word_bytes asked)
 
   -- A client that runs was to look for a word. It asks for it, if it has a setup and nothing to send, and waits for nothing; or there was
   -- no memory.

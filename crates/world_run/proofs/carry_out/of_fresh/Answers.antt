@@ -1,8 +1,6 @@
-use Rattle.std.proofs.Common.{◌≡◌, List, [], None, Some, refl, sym, ap, ◌∙◌, subst}
+use Rattle.std.proofs.Common.{◌≡◌, [], None, sym, ap, ◌∙◌, subst}
 use Rattle.std.specs.Prelude.{is_none}
 use Rattle.client_core.specs.Renewals.{alone}
-use Rattle.client_core.specs.declared.fresh.Fresh.{Fresh}
-use Rattle.client_core.specs.States.{ClientOf}
 use Rattle.client_records.specs.Records.{setup_record}
 use Rattle.client_registry.specs.Run.{From, at_first}
 use Rattle.client_registry.specs.Setup.{setup_with}

@@ -1,4 +1,4 @@
-use Rattle.std.proofs.Common.{◌≡◌, List, [], ◌∷◌, None, Some, refl, sym, ap, ◌∙◌, subst}
+use Rattle.std.proofs.Common.{[], ◌∷◌, Some, refl, sym, subst}
 use Rattle.client_core.specs.Renewals.{renewal_fault}
 use Rattle.client_core.specs.StandsFor.{add_fault, delete_fault}
 use Rattle.client_records.specs.Records.{renewal_record, update_record}
